@@ -1,0 +1,3 @@
+pub mod CpuLemmas
+pub mod MaskLemmas
+pub mod NumberLemmas

@@ -1,0 +1,4 @@
+pub mod Cpus
+pub mod Lines
+pub mod Masks
+pub mod Numbers

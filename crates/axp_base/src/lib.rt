@@ -1,0 +1,15 @@
+//! The values that every other crate speaks of: processors, lines and banks, masks of bytes, numbers
+//! of 64 bits, and lists of bytes.
+#![tactic(auto)]
+
+mod byte_lists;
+mod lines;
+mod masks;
+mod numbers;
+mod processors;
+
+pub use byte_lists::{Bytes, NoMemory};
+pub use lines::{Bank, LINE_BYTES, Line};
+pub use masks::{Mask, span};
+pub use numbers::sext;
+pub use processors::{Cpu, MAX_CPUS};
