@@ -1,3 +1,4 @@
 pub mod CpuLemmas
 pub mod MaskLemmas
 pub mod NumberLemmas
+pub mod PartLemmas

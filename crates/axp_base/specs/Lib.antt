@@ -2,3 +2,4 @@ pub mod Cpus
 pub mod Lines
 pub mod Masks
 pub mod Numbers
+pub mod Parts

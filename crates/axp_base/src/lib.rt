@@ -6,10 +6,12 @@ mod byte_lists;
 mod lines;
 mod masks;
 mod numbers;
+mod parts;
 mod processors;
 
 pub use byte_lists::{Bytes, NoMemory};
 pub use lines::{Bank, LINE_BYTES, Line};
 pub use masks::{Mask, span};
 pub use numbers::sext;
+pub use parts::{number_in, put_number};
 pub use processors::{Cpu, MAX_CPUS};
