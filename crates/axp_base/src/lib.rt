@@ -13,5 +13,5 @@ pub use byte_lists::{Bytes, NoMemory};
 pub use lines::{Bank, LINE_BYTES, Line};
 pub use masks::{Mask, span};
 pub use numbers::sext;
-pub use parts::{number_in, put_number};
-pub use processors::{Cpu, MAX_CPUS};
+pub use parts::{QUADWORD_BYTES, number_in, put_number};
+pub use processors::{Cpu, MAX_BUDGET, MAX_CPUS, MIN_CPUS};

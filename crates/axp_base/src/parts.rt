@@ -1,6 +1,9 @@
 ghost use Rattle.std.specs.Prelude.{◌≡◌, ◌+◌, ◌*◌, ◌^◌, ◌≤◌, ◌<◌, length};
 ghost use Rattle.axp_base.specs.Parts.{part, with_part};
 
+/// The bytes of a quadword: every access lies inside of one that is aligned.
+pub const QUADWORD_BYTES: u64 = 8;
+
 /// The little-endian number of `size` bytes, at most 8, from an offset on.
 pub fn number_in(bytes: &[u8], offset: usize, size: u8) -> u64
     requires few { size ≤ 8 }

@@ -4,6 +4,12 @@ ghost use Rattle.axp_base.specs.declared.processors.TheConstants.{MAX_CPUS};
 /// The greatest number of processors that a machine has.
 pub const MAX_CPUS: u8 = 8;
 
+/// The least number of processors that a machine has.
+pub const MIN_CPUS: u8 = 2;
+
+/// The greatest number of steps that a processor may make.
+pub const MAX_BUDGET: u32 = 32_768;
+
 /// The number of a processor, below [`MAX_CPUS`].
 #[derive(Clone, Copy, Debug, PartialEq, Eq)]
 pub struct Cpu {

@@ -1,0 +1,7 @@
+pub mod PlainLemmas
+pub mod PlanLemmas
+pub mod MemoryLemmas
+pub mod SeatLemmas
+pub mod RoomLemmas
+pub mod EventLemmas
+pub mod ReaderLemmas

@@ -1,0 +1,133 @@
+-- What an event gives after any records, and the run of a list of events.
+use Rattle.std.specs.Prelude.{◌≡◌, ℕ, ◌*◌, zero, suc, Bool, true, false, not, ◌&&◌, nat_lt, ◌==◌, List, [], ◌∷◌, Option, Some, None, Result, ok_or, if◌then◌else◌}
+use Rattle.axp_access.specs.declared.Access.{Access}
+use Rattle.axp_access.specs.declared.Event.{Event}
+use Rattle.axp_access.specs.declared.Kind.{Kind}
+use Rattle.axp_access.specs.declared.Kind.TheVariants.{Fetch, Read, Write}
+use Rattle.axp_access.specs.declared.Outcome.{Outcome}
+use Rattle.axp_access.specs.declared.Outcome.TheVariants as outcome
+use Rattle.axp_access.specs.declared.Record.{Record}
+use Rattle.axp_base.specs.declared.processors.Cpu.{Cpu}
+use Rattle.axp_base.specs.Cpus.{cpu_number}
+use Rattle.axp_image.specs.Contents.{Contents}
+use Rattle.axp_model.specs.Turns.{turns, turns_of_kind}
+use Rattle.axp_model.specs.Places.{place_at}
+use Rattle.axp_model.specs.Sources.{memory_number}
+use Rattle.axp_machine.specs.declared.machine.NotBuilt.{NotBuilt}
+use Rattle.axp_base.specs.declared.parts.TheConstants.{QUADWORD_BYTES}
+use Rattle.axp_machine.specs.declared.phases.Table.{Table}
+use Rattle.axp_machine.specs.declared.phases.Wanted.{Wanted}
+use Rattle.axp_machine.specs.Plans.{Plan, End, Want, Unbuilt, is_built}
+use Rattle.axp_machine.specs.Seats.{Seat, first_seat, plan_now, is_finished, stepped}
+
+-- A machine as its callers see it; the records are the history, the newest first.
+pub record Seen : Type 0 where
+  pub image : Contents
+  pub cpus : ℕ
+  pub budget : ℕ
+  pub records : List Record
+
+-- the machine before any event
+abbrev pub started : Contents → ℕ → ℕ → Seen
+started image cpus budget = record { image = image; cpus = cpus; budget = budget; records = [] }
+
+-- the value that an access gives to the instruction table: 0 where it stores
+abbrev pub given_by : Kind → ℕ → ℕ
+given_by Fetch v = v
+given_by Read v = v
+given_by Write v = 0
+
+abbrev pub given_by_outcome : Outcome → ℕ
+given_by_outcome (outcome.Access a) = given_by a.kind a.value
+given_by_outcome outcome.NoAccess = 0
+
+-- where a processor stands after a history
+abbrev pub seat : Contents → ℕ → List Record → Seat
+seat image p [] = first_seat image p
+seat image p (r ∷ h) = if cpu_number r.event.cpu == p then stepped image.size (seat image p h) (given_by_outcome r.outcome) else seat image p h
+
+-- the value of an access: what it stores, or what memory has there
+abbrev pub value_of : Kind → ℕ → ℕ → ℕ
+value_of Fetch stored there = there
+value_of Read stored there = there
+value_of Write stored there = stored
+
+-- the wanted access, after so many turns and with this number in memory
+abbrev pub access_of : Cpu → ℕ → Wanted → ℕ → Access
+access_of cpu count w there = record { cpu = cpu; kind = w.kind; address = w.address; size = w.size; value = value_of w.kind w.value there; place = place_at count w.kind }
+
+-- the access that a plan wants, if all is built that its value leads to
+abbrev pub step_of : Cpu → ℕ → (Wanted → ℕ) → Plan → Option Access
+step_of cpu count there (End t) = None
+step_of cpu count there (Want w k) =
+    if is_built (k (given_by w.kind (value_of w.kind w.value (there w)))) then Some (access_of cpu count w (there w)) else None
+step_of cpu count there Unbuilt = None
+
+-- the number that memory has where an access is wanted, after a history
+abbrev pub there_after : Contents → List Record → Wanted → ℕ
+there_after image h w = memory_number image.segments h w.address w.size
+
+-- the event's processor is one of the machine's and not finished
+abbrev pub may_step : Seen → Event → Bool
+may_step m e = nat_lt (cpu_number e.cpu) m.cpus && not (is_finished m.budget (seat m.image (cpu_number e.cpu) m.records))
+
+abbrev pub made_access : Option Access → Option Outcome
+made_access None = None
+made_access (Some a) = Some (outcome.Access a)
+
+-- What an event gives; None: it is not built.
+unfoldable pub outcome_of : Seen → Event → Option Outcome
+outcome_of m e =
+    if may_step m e
+    then made_access (step_of e.cpu (turns m.records) (there_after m.image m.records) (plan_now m.image.size (seat m.image (cpu_number e.cpu) m.records)))
+    else None
+
+-- the machine with one record more
+abbrev pub with_record : Seen → Record → Seen
+with_record m r = record m { records = r ∷ m.records }
+
+abbrev pub after_outcome : Seen → Event → Option Outcome → Seen
+after_outcome m e None = m
+after_outcome m e (Some o) = with_record m (record { event = e; outcome = o })
+
+-- the machine after an event: one record more, or unchanged where it is not built
+unfoldable pub after_event : Seen → Event → Seen
+after_event m e = after_outcome m e (outcome_of m e)
+
+abbrev pub answer_of : Option Outcome → Result Outcome NotBuilt
+answer_of o = ok_or o (record {})
+
+-- each record is what its event gave after those before it
+abbrev pub IsRunOf : Contents → ℕ → ℕ → List Record → Type 0
+IsRunOf image cpus budget [] = Unit {0}
+IsRunOf image cpus budget (r ∷ h) =
+    (outcome_of (record { image = image; cpus = cpus; budget = budget; records = h }) r.event ≡ Some r.outcome) × IsRunOf image cpus budget h
+
+abbrev pub IsRun : Seen → Type 0
+IsRun m = IsRunOf m.image m.cpus m.budget m.records
+
+-- the machine after a list of events, the newest first
+abbrev pub run : Seen → List Event → Seen
+run m [] = m
+run m (e ∷ es) = after_event (run m es) e
+
+-- every processor below n is finished
+abbrev pub are_finished : ℕ → Seen → Bool
+are_finished zero m = true
+are_finished (suc n) m = are_finished n m && is_finished m.budget (seat m.image n m.records)
+
+-- every processor is finished
+abbrev pub is_complete : Seen → Bool
+is_complete m = are_finished m.cpus m
+
+-- the table state of a processor, as its last group left it
+abbrev pub table_of : Seen → ℕ → Table
+table_of m p = (seat m.image p m.records).start
+
+-- how many steps a processor made
+abbrev pub steps_of : Seen → ℕ → ℕ
+steps_of m p = (seat m.image p m.records).steps
+
+-- the aligned quadword of this number, as memory has it
+abbrev pub quadword_of : Seen → ℕ → ℕ
+quadword_of m q = memory_number m.image.segments m.records (q * QUADWORD_BYTES) QUADWORD_BYTES

@@ -1,0 +1,11 @@
+-- The place of an access in the order of memory.
+use Rattle.std.specs.Prelude.{ℕ, ◌+◌, List}
+use Rattle.axp_access.specs.declared.Kind.{Kind}
+use Rattle.axp_access.specs.declared.Place.{Place}
+use Rattle.axp_access.specs.declared.Place.TheVariants.{At}
+use Rattle.axp_model.specs.Turns.{turns_of_kind}
+
+-- An access that comes after so many turns: a write has its own turn as place, every other access
+-- the turn count.
+abbrev pub place_at : ℕ → Kind → Place
+place_at count kind = At (turns_of_kind kind + count)

@@ -1,0 +1,2 @@
+//! The definitions of the memory model, over lists of records: no code.
+#![tactic(auto)]
