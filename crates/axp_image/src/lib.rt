@@ -1,0 +1,12 @@
+//! The image: a file that says how large memory is, where processors start, and which bytes memory
+//! holds then.
+#![tactic(auto)]
+
+mod images;
+mod layout;
+mod limits;
+mod reading;
+
+pub use images::Image;
+pub use limits::{INSTRUCTION_BYTES, KSEG, MAX_MEMORY, MAX_SEGMENTS, PAGE_BYTES};
+pub use reading::read_image;
