@@ -18,6 +18,10 @@ pub record Contents : Type 0 where
   pub table : ℕ
   pub segments : List Segment
 
+-- the contents of these numbers and segments
+abbrev pub contents : ℕ → ℕ → ℕ → ℕ → List Segment → Contents
+contents size entry stack table segments = record { size = size; entry = entry; stack = stack; table = table; segments = segments }
+
 -- the segment of these bytes at this address
 abbrev pub segment_of : ℕ → List ℕ → Segment
 segment_of address bytes = record { address = address; bytes = bytes }

@@ -6,7 +6,7 @@ use Rattle.axp_image.specs.declared.limits.TheConstants.{PAGE_BYTES, MAX_MEMORY,
 use Rattle.axp_image.specs.declared.layout.TheConstants.{MAGIC, VERSION, MAGIC_AT, VERSION_AT, COUNT_AT, SIZE_AT, ENTRY_AT, STACK_AT, TABLE_AT, HEADER_BYTES, RECORD_BYTES, LENGTH_AT, ZERO_AT}
 use Rattle.axp_image.specs.declared.reading.Header.{Header}
 use Rattle.axp_image.specs.declared.reading.Extent.{Extent}
-use Rattle.axp_image.specs.Contents.{Segment, Contents, segment_of}
+use Rattle.axp_image.specs.Contents.{Segment, Contents, segment_of, contents}
 
 -- what follows a test is read where the test passed
 infixl 10 ◌>>=◌
@@ -81,4 +81,4 @@ image_of bytes = do
   header ← header_of bytes
   extents ← extents_at bytes header.size header.count 0 HEADER_BYTES
   segments ← segments_at bytes (HEADER_BYTES + header.count * RECORD_BYTES) extents
-  Some (record { size = header.size; entry = header.entry; stack = header.stack; table = header.table; segments = segments })
+  Some (contents header.size header.entry header.stack header.table segments)

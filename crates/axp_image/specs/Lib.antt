@@ -1,3 +1,4 @@
 pub mod Contents
 pub mod Grammar
 pub mod Seen
+pub mod Laws

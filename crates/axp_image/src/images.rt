@@ -1,5 +1,5 @@
 ghost use Rattle.std.specs.Prelude.{◌≡◌, ◌<◌, Some, length, slice_get, slice_index};
-ghost use Rattle.axp_image.specs.Contents.{IsValid, byte_in, covers, segment_of};
+ghost use Rattle.axp_image.specs.Contents.{IsValid, byte_in, contents, covers, segment_of};
 
 use axp_base::Bytes;
 use std::marker::Model;
@@ -12,11 +12,11 @@ pub struct Segment {
 }
 
 impl Model for Segment {
-    ghost use Rattle.axp_image.specs.Contents as contents;
+    ghost use Rattle.axp_image.specs.Contents as seen;
 
-    ghost Value = { contents.Segment };
+    ghost Value = { seen.Segment };
 
-    ghost view = { λ s. contents.segment_of s.address s.bytes };
+    ghost view = { λ s. seen.segment_of s.address s.bytes };
 }
 
 impl Segment {
@@ -73,6 +73,20 @@ impl Model for Image {
 }
 
 impl Image {
+    /// The image that says this.
+    pub fn new(size: u64, entry: u64, stack: u64, table: u64, segments: Vec<Segment>) -> Image
+        requires { IsValid (contents size entry stack table segments.items) }
+        ensures { result ≡ contents size entry stack table segments.items }
+    {
+        Image {
+            size,
+            entry,
+            stack,
+            table,
+            segments,
+        }
+    }
+
     /// The size of memory in bytes, a whole number of pages from 8,192 to 16,777,216.
     pub fn size(&self) -> u64
         ensures value { result ≡ self.now.size }

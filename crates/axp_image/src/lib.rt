@@ -3,10 +3,15 @@
 #![tactic(auto)]
 
 mod images;
+mod laws;
 mod layout;
 mod limits;
 mod reading;
 
 pub use images::Image;
+pub use laws::{memory_of_segments, smallest_image};
 pub use limits::{INSTRUCTION_BYTES, KSEG, MAX_MEMORY, MAX_SEGMENTS, PAGE_BYTES};
 pub use reading::read_image;
+
+#[cfg(test)]
+mod tests;

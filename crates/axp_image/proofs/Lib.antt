@@ -1,0 +1,3 @@
+pub mod Turns
+pub mod Valid
+pub mod Places

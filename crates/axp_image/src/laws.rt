@@ -1,0 +1,19 @@
+//! Laws of images, each proved as the contract of a function that does nothing.
+ghost use Rattle.std.specs.Prelude.{◌≡◌, Some, None, ◌++◌, ◌∷◌, []};
+ghost use Rattle.axp_image.specs.Contents.{Contents, IsValid};
+ghost use Rattle.axp_image.specs.Grammar.{image_of};
+ghost use Rattle.axp_image.specs.Laws.{DoNotOverlap, HaveTheirBytes, AreZeroElsewhere, smallest, smallest_file};
+
+/// What the segments of an image say of memory: no byte is in two of them, memory holds each of
+/// their bytes at its place, and 0 everywhere else.
+pub fn memory_of_segments()
+    ensures apart { (c : Contents) → IsValid c → DoNotOverlap c.segments }
+    ensures inside { (c : Contents) → IsValid c → HaveTheirBytes c.segments }
+    ensures outside { (c : Contents) → AreZeroElsewhere c.segments }
+{}
+
+/// The smallest image file is read as one page of zeros. It is none with a byte more.
+pub fn smallest_image()
+    ensures read { image_of smallest_file ≡ Some smallest }
+    ensures extra { image_of (smallest_file ++ 0 ∷ []) ≡ None }
+{}
