@@ -3,7 +3,7 @@
 use Rattle.std.specs.Prelude.{ℕ, zero, suc, ◌+◌, ◌-◌, ◌*◌, ◌/◌, ◌%◌, Bool, true, ◌==◌, ◌&&◌, nat_le, nat_lt, if◌then◌else◌, List, [], ◌∷◌, length, take, drop, Option, Some, None, option_and_then}
 use Rattle.byteorder.specs.Endian.{little_number}
 use Rattle.axp_image.specs.declared.limits.TheConstants.{PAGE_BYTES, MAX_MEMORY, MAX_SEGMENTS, KSEG, INSTRUCTION_BYTES}
-use Rattle.axp_image.specs.declared.layout.TheConstants.{MAGIC, VERSION, MAGIC_AT, VERSION_AT, COUNT_AT, SIZE_AT, ENTRY_AT, STACK_AT, TABLE_AT, HEADER_BYTES, RECORD_BYTES, LENGTH_AT, ZERO_AT}
+use Rattle.axp_image.specs.declared.layout.TheConstants.{MAGIC, VERSION, MAGIC_AT, VERSION_AT, COUNT_AT, SIZE_AT, ENTRY_AT, STACK_AT, TABLE_AT, HEADER_BYTES, RECORD_BYTES, ADDRESS_AT, LENGTH_AT, ZERO_AT}
 use Rattle.axp_image.specs.declared.reading.Header.{Header}
 use Rattle.axp_image.specs.declared.reading.Extent.{Extent}
 use Rattle.axp_image.specs.Contents.{Segment, Contents, segment_of, contents}
@@ -50,14 +50,17 @@ header_of bytes = do
 abbrev pub is_extent : ℕ → ℕ → Extent → ℕ → Bool
 is_extent size from e last = nat_le from e.address && (nat_le 1 e.length && (nat_le (e.address + e.length) size && (last == 0)))
 
-abbrev pub extent_in : List ℕ → Extent
-extent_in piece = record { address = little_number 8 piece; length = little_number 4 (drop LENGTH_AT piece) }
+abbrev pub extent : ℕ → ℕ → Extent
+extent address len = record { address = address; length = len }
 
 -- where the record at an offset puts its segment, in a memory of this size
 unfoldable pub extent_at : List ℕ → ℕ → ℕ → ℕ → Option Extent
 extent_at bytes size from at = do
   piece ← piece_at bytes at RECORD_BYTES
-  if is_extent size from (extent_in piece) (little_number 4 (drop ZERO_AT piece)) then Some (extent_in piece) else None
+  address ← number_at piece ADDRESS_AT 8
+  len ← number_at piece LENGTH_AT 4
+  last ← number_at piece ZERO_AT 4
+  if is_extent size from (extent address len) last then Some (extent address len) else None
 
 -- the records from an offset on, each at or above the end of the one before it
 unfoldable pub extents_at : List ℕ → ℕ → ℕ → ℕ → ℕ → Option (List Extent)

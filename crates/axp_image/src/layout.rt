@@ -42,8 +42,11 @@ pub const TABLE_AT: usize = 32;
 /// The number of bytes before the first segment's record.
 pub const HEADER_BYTES: usize = 40;
 
-/// The number of bytes in a segment's record. It begins with the address.
+/// The number of bytes in a segment's record.
 pub const RECORD_BYTES: usize = 16;
+
+/// Where a record has the segment's address.
+pub const ADDRESS_AT: usize = 0;
 
 /// Where a record has the segment's length.
 pub const LENGTH_AT: usize = 8;

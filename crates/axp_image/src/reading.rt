@@ -1,11 +1,11 @@
 ghost use Rattle.std.specs.Prelude.{◌≡◌, ◌+◌, ◌*◌, ◌^◌, ◌<◌, ◌≤◌, IfOk, IfSome, Some, length, drop, option_copied, option_map};
 ghost use Rattle.byteorder.specs.Endian.{little_number};
 ghost use Rattle.axp_image.specs.Contents.{IsValid};
-ghost use Rattle.axp_image.specs.Grammar.{piece_at, number_at, is_memory_size, is_entry, header_of, is_extent, extent_in, extent_at, extents_at, segments_at, image_of};
+ghost use Rattle.axp_image.specs.Grammar.{piece_at, number_at, is_memory_size, is_entry, header_of, is_extent, extent_at, extents_at, segments_at, image_of};
 
 use crate::images::{Image, Segment};
 use crate::layout::{
-    COUNT_AT, ENTRY_AT, HEADER_BYTES, LENGTH_AT, MAGIC, MAGIC_AT, RECORD_BYTES, SIZE_AT, STACK_AT,
+    ADDRESS_AT, COUNT_AT, ENTRY_AT, HEADER_BYTES, LENGTH_AT, MAGIC, MAGIC_AT, RECORD_BYTES, SIZE_AT, STACK_AT,
     TABLE_AT, VERSION, VERSION_AT, ZERO_AT,
 };
 use crate::limits::{INSTRUCTION_BYTES, KSEG, MAX_MEMORY, MAX_SEGMENTS, PAGE_BYTES};
@@ -136,11 +136,10 @@ fn read_extent(bytes: &[u8], size: u64, from: u64, at: usize) -> Option<Extent>
     ensures within { IfSome result (λ e. e.address + e.length ≤ size) }
 {
     let record = piece_at(bytes, at, RECORD_BYTES)?;
-    let extent = Extent {
-        address: LittleEndian::read_u64(record),
-        length: LittleEndian::read_u32(&record[LENGTH_AT..]),
-    };
-    let last = LittleEndian::read_u32(&record[ZERO_AT..]);
+    let address = u64_at(record, ADDRESS_AT)?;
+    let length = u32_at(record, LENGTH_AT)?;
+    let last = u32_at(record, ZERO_AT)?;
+    let extent = Extent { address, length };
     if is_extent(size, from, extent, last) {
         Some(extent)
     } else {
