@@ -1,3 +1,4 @@
 pub mod Turns
 pub mod Valid
 pub mod Places
+pub mod Spelled

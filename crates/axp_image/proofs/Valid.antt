@@ -24,7 +24,7 @@ pub guard_some : {A : Type 0} (b : Bool) (x y : A) → cond b (Some x) None ≡ 
 guard_some true x y h = (refl, cc)
 guard_some false x y h = absurd cc
 
-guard_none : {A : Type 0} (b : Bool) (x y : A) → cond b None (Some x) ≡ Some y → (b ≡ false) × (x ≡ y)
+pub guard_none : {A : Type 0} (b : Bool) (x y : A) → cond b None (Some x) ≡ Some y → (b ≡ false) × (x ≡ y)
 guard_none true x y h = absurd cc
 guard_none false x y h = (refl, cc)
 
@@ -275,10 +275,10 @@ segments_say bytes size from at (e ∷ es) ss all placed h =
 
 -- ---- the whole
 
-abbrev after_extents : List ℕ → Header → List Extent → Option Contents
+abbrev pub after_extents : List ℕ → Header → List Extent → Option Contents
 after_extents bytes h es = segments_at bytes (HEADER_BYTES + h.count * RECORD_BYTES) es >>= λ ss. Some (contents h.size h.entry h.stack h.table ss)
 
-abbrev after_header : List ℕ → Header → Option Contents
+abbrev pub after_header : List ℕ → Header → Option Contents
 after_header bytes h = extents_at bytes h.size h.count 0 HEADER_BYTES >>= after_extents bytes h
 
 pub image_says : (bytes : List ℕ) (c : Contents) → AreBytes bytes → image_of bytes ≡ Some c → IsValid c
