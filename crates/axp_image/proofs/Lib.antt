@@ -1,4 +1,5 @@
-pub mod Turns
+pub mod Loops
 pub mod Valid
 pub mod Places
 pub mod Spelled
+pub mod Again

@@ -1,7 +1,7 @@
 -- Which byte stands where.
-use Rattle.std.proofs.Common.{◌≡◌, ℕ, zero, suc, ◌+◌, ◌-◌, ◌<◌, ◌≤◌, Bool, true, false, ◌&&◌, IsTrue, cond, leb, ltb, List, [], ◌∷◌, length, slice_get, get_or, Option, Some, None, refl, sym, ap, subst, ◌∙◌, arith, inl, inr}
-use Rattle.std.proofs.lemmas.Bool.{and_parts, and_from, and_left, and_right, leb-true, ltb-true, le-leb, lt-ltb, lt-leb, le-ltb, cases_Bool}
-use Rattle.axp_image.specs.Contents.{Segment, end_of, covers, byte_in, IsPlaced, ArePlaced}
+use Rattle.std.proofs.Common.{◌≡◌, ℕ, zero, suc, ◌+◌, ◌-◌, ◌<◌, ◌≤◌, true, false, leb, ltb, List, [], ◌∷◌, length, slice_get, get_or, Some, refl, sym, ap, subst, arith, inl, inr}
+use Rattle.std.proofs.lemmas.Bool.{and_parts, and_from, and_right, leb-true, ltb-true, le-leb, lt-ltb, le-ltb, cases_Bool}
+use Rattle.axp_image.specs.Contents.{Segment, end_of, covers, byte_in, ArePlaced}
 use Rattle.axp_image.specs.Laws.{DoNotOverlap, HaveTheirBytes, AreZeroElsewhere}
 use Rattle.axp_image.proofs.Valid.{some_is}
 

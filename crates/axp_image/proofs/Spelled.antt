@@ -1,11 +1,11 @@
 -- An image has one file: a file that is read is its image's spelling.
-use Rattle.std.proofs.Common.{◌≡◌, ℕ, zero, suc, ◌+◌, ◌-◌, ◌*◌, ◌/◌, ◌%◌, ◌^◌, ◌<◌, ◌≤◌, Bool, true, false, leb, ltb, eqb, cond, List, [], ◌∷◌, ◌++◌, length, take, drop, get_or, Option, Some, None, refl, sym, ap, subst, ◌∙◌, append_assoc, arith}
+use Rattle.std.proofs.Common.{◌≡◌, ℕ, zero, suc, ◌+◌, ◌*◌, ◌/◌, ◌%◌, ◌^◌, ◌<◌, ◌≤◌, ltb, List, [], ◌∷◌, ◌++◌, length, take, drop, Some, refl, sym, ap, subst, ◌∙◌, append_assoc, arith}
 use Rattle.std.specs.Int.{byte_at, bytes_low_first}
 use Rattle.std.specs.List.{flat_map}
 use Rattle.std.proofs.Math.Nat.{div-div-eq-div-mul, div-one, pow-succ'}
 use Rattle.std.proofs.lemmas.Bool.{ltb-false}
-use Rattle.std.proofs.lemmas.List.{append-nil, take-append-drop, drop-drop, drop_all, length-take, length-drop}
-use Rattle.byteorder.specs.Endian.{little_number, little_bytes, little_from}
+use Rattle.std.proofs.lemmas.List.{take-append-drop, drop-drop, drop_all}
+use Rattle.byteorder.specs.Endian.{little_number, little_bytes}
 use Rattle.byteorder.specs.Numbers.{little_from-cons}
 use Rattle.axp_image.specs.declared.layout.TheConstants.{MAGIC, VERSION, MAGIC_AT, VERSION_AT, COUNT_AT, SIZE_AT, ENTRY_AT, STACK_AT, TABLE_AT, HEADER_BYTES, RECORD_BYTES, ADDRESS_AT, LENGTH_AT, ZERO_AT}
 use Rattle.axp_image.specs.declared.reading.Header.{Header}
@@ -91,7 +91,7 @@ records_spelled bytes size (suc count) from at es all h =
     let rest = records_spelled bytes size count (extent_end first.0) (at + RECORD_BYTES) others.0 all others.1 in
     let one = then _ (extent_record first.0) _ _ (record_spelled bytes size from at first.0 all (extent_has bytes size from at first.0 first.1)) rest in
     let grouped : extent_record first.0 ++ (flat_map extent_record others.0 ++ drop (at + RECORD_BYTES + count * RECORD_BYTES) bytes) ≡ (extent_record first.0 ++ flat_map extent_record others.0) ++ drop (at + suc count * RECORD_BYTES) bytes =
-        ap (λ (n : ℕ). extent_record first.0 ++ (flat_map extent_record others.0 ++ drop n bytes)) there ∙ sym (append_assoc (extent_record first.0) (flat_map extent_record others.0) (drop (at + suc count * RECORD_BYTES) bytes)) in
+    ap (λ (n : ℕ). extent_record first.0 ++ (flat_map extent_record others.0 ++ drop n bytes)) there ∙ sym (append_assoc (extent_record first.0) (flat_map extent_record others.0) (drop (at + suc count * RECORD_BYTES) bytes)) in
     subst (λ (xs : List Extent). drop at bytes ≡ flat_map extent_record xs ++ drop (at + suc count * RECORD_BYTES) bytes) (some_is (first.0 ∷ others.0) es others.2) (one ∙ grouped)
 
 -- ---- segments
@@ -136,7 +136,7 @@ whole_spelled bytes h es ss all has records segments =
     let said = extents_say bytes h.size h.count 0 HEADER_BYTES es records in
     let count : h.count ≡ length ss = sym (own.2 ∙ said.1) in
     let rest : drop HEADER_BYTES bytes ≡ flat_map record_of ss ++ flat_map bytes_of ss =
-        records_spelled bytes h.size h.count 0 HEADER_BYTES es all records ∙ ap (λ (t : List ℕ). flat_map extent_record es ++ t) own.0 ∙ ap (λ (t : List ℕ). t ++ flat_map bytes_of ss) own.1 in
+    records_spelled bytes h.size h.count 0 HEADER_BYTES es all records ∙ ap (λ (t : List ℕ). flat_map extent_record es ++ t) own.0 ∙ ap (λ (t : List ℕ). t ++ flat_map bytes_of ss) own.1 in
     header_spelled bytes h all has
     ∙ ap (λ (t : List ℕ). little_bytes 4 MAGIC ++ (little_bytes 2 VERSION ++ (little_bytes 2 h.count ++ (little_bytes 8 h.size ++ (little_bytes 8 h.entry ++ (little_bytes 8 h.stack ++ (little_bytes 8 h.table ++ t))))))) rest
     ∙ ap (λ (n : ℕ). little_bytes 4 MAGIC ++ (little_bytes 2 VERSION ++ (little_bytes 2 n ++ (little_bytes 8 h.size ++ (little_bytes 8 h.entry ++ (little_bytes 8 h.stack ++ (little_bytes 8 h.table ++ (flat_map record_of ss ++ flat_map bytes_of ss)))))))) count
@@ -149,4 +149,4 @@ image_spelled bytes c all e =
     let extents = bind_some (extents_at bytes h.size h.count 0 HEADER_BYTES) (after_extents bytes h) c header.2 in
     let segments = bind_some (segments_at bytes (HEADER_BYTES + h.count * RECORD_BYTES) extents.0) (λ ss. Some (contents h.size h.entry h.stack h.table ss)) c extents.2 in
     subst (λ (x : Contents). bytes ≡ spelling x) (some_is (contents h.size h.entry h.stack h.table segments.0) c segments.2)
-        (whole_spelled bytes h extents.0 segments.0 all (header_has bytes h header.1) extents.1 segments.1)
+    (whole_spelled bytes h extents.0 segments.0 all (header_has bytes h header.1) extents.1 segments.1)

@@ -1,5 +1,5 @@
 -- What a file in the grammar says is valid.
-use Rattle.std.proofs.Common.{◌≡◌, ℕ, zero, suc, ◌+◌, ◌-◌, ◌*◌, ◌/◌, ◌%◌, ◌^◌, ◌<◌, ◌≤◌, Bool, true, false, ◌&&◌, eqb, leb, ltb, cond, List, [], ◌∷◌, length, take, drop, get_or, Option, Some, None, refl, sym, ap, subst, ◌∙◌, inl, inr, arith}
+use Rattle.std.proofs.Common.{◌≡◌, ℕ, zero, suc, ◌+◌, ◌-◌, ◌*◌, ◌/◌, ◌%◌, ◌^◌, ◌<◌, ◌≤◌, Bool, true, false, ◌&&◌, eqb, leb, ltb, cond, List, [], ◌∷◌, length, take, drop, Option, Some, None, refl, sym, ap, subst, ◌∙◌, inl, inr, arith}
 use Rattle.std.proofs.lemmas.Bool.{and_parts, eqb-true, leb-true, ltb-true, cases_lt}
 use Rattle.std.proofs.lemmas.List.{get_or-drop, get_or-take, get_or_past, length-take, length-drop}
 use Rattle.byteorder.specs.Endian.{little_number}
@@ -166,12 +166,12 @@ header_has bytes h e =
     let entry = bind_some (field bytes ENTRY_AT 8 (is_entry size.0)) (from_stack bytes count.0 size.0) h size.2 in
     let stack = bind_some (number_at bytes STACK_AT 8) (from_table bytes count.0 size.0 entry.0) h entry.2 in
     header_ends bytes h magic.0 version.0 count.0 size.0 entry.0 stack.0
-        (field_some bytes MAGIC_AT 4 (λ n. eqb n MAGIC) magic.0 magic.1)
-        (field_some bytes VERSION_AT 2 (λ n. eqb n VERSION) version.0 version.1)
-        (field_some bytes COUNT_AT 2 (λ n. leb n MAX_SEGMENTS) count.0 count.1)
-        (field_some bytes SIZE_AT 8 is_memory_size size.0 size.1)
-        (field_some bytes ENTRY_AT 8 (is_entry size.0) entry.0 entry.1)
-        stack.1 stack.2
+    (field_some bytes MAGIC_AT 4 (λ n. eqb n MAGIC) magic.0 magic.1)
+    (field_some bytes VERSION_AT 2 (λ n. eqb n VERSION) version.0 version.1)
+    (field_some bytes COUNT_AT 2 (λ n. leb n MAX_SEGMENTS) count.0 count.1)
+    (field_some bytes SIZE_AT 8 is_memory_size size.0 size.1)
+    (field_some bytes ENTRY_AT 8 (is_entry size.0) entry.0 entry.1)
+    stack.1 stack.2
 
 pub header_says : (bytes : List ℕ) (h : Header) → AreBytes bytes → HasHeader bytes h → IsHeader h
 header_says bytes h all has =

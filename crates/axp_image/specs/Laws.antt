@@ -1,5 +1,5 @@
 -- Which byte stands where, for the segments of an image; and the smallest image file.
-use Rattle.std.specs.Prelude.{◌≡◌, ℕ, ◌+◌, ◌<◌, IsTrue, List, [], ◌∷◌, length, slice_get, slice_index, Some, Option}
+use Rattle.std.specs.Prelude.{◌≡◌, ℕ, ◌+◌, ◌<◌, IsTrue, List, [], ◌∷◌, length, slice_get, slice_index, Some}
 use Rattle.axp_image.specs.declared.limits.TheConstants.{PAGE_BYTES, KSEG}
 use Rattle.axp_image.specs.Contents.{Segment, Contents, contents, covers, byte_in}
 

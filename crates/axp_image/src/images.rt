@@ -6,7 +6,7 @@ use std::marker::Model;
 
 /// Bytes that stand in memory from an address on.
 #[derive(Debug, Drop)]
-pub struct Segment {
+pub(crate) struct Segment {
     address: u64,
     bytes: Bytes,
 }
@@ -21,7 +21,7 @@ impl Model for Segment {
 
 impl Segment {
     /// The segment of these bytes at this address.
-    pub fn new(address: u64, bytes: Bytes) -> Segment
+    pub(crate) fn new(address: u64, bytes: Bytes) -> Segment
         ensures { result ≡ segment_of address bytes }
     {
         Segment { address, bytes }
@@ -74,7 +74,13 @@ impl Model for Image {
 
 impl Image {
     /// The image that says this.
-    pub fn new(size: u64, entry: u64, stack: u64, table: u64, segments: Vec<Segment>) -> Image
+    pub(crate) fn new(
+        size: u64,
+        entry: u64,
+        stack: u64,
+        table: u64,
+        segments: Vec<Segment>,
+    ) -> Image
         requires { IsValid (contents size entry stack table segments.items) }
         ensures { result ≡ contents size entry stack table segments.items }
     {

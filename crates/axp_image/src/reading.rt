@@ -5,13 +5,13 @@ ghost use Rattle.axp_image.specs.Grammar.{piece_at, number_at, is_memory_size, i
 
 use crate::images::{Image, Segment};
 use crate::layout::{
-    ADDRESS_AT, COUNT_AT, ENTRY_AT, HEADER_BYTES, LENGTH_AT, MAGIC, MAGIC_AT, RECORD_BYTES, SIZE_AT, STACK_AT,
-    TABLE_AT, VERSION, VERSION_AT, ZERO_AT,
+    ADDRESS_AT, COUNT_AT, ENTRY_AT, HEADER_BYTES, LENGTH_AT, MAGIC, MAGIC_AT, RECORD_BYTES,
+    SIZE_AT, STACK_AT, TABLE_AT, VERSION, VERSION_AT, ZERO_AT,
 };
 use crate::limits::{INSTRUCTION_BYTES, KSEG, MAX_MEMORY, MAX_SEGMENTS, PAGE_BYTES};
 use axp_base::{Bytes, NoMemory};
 use byteorder::{ByteOrder, LittleEndian};
-use std::alloc::{AllocFailed, Global};
+use std::alloc::Global;
 
 /// The numbers before the segments' records.
 #[derive(Clone, Copy)]

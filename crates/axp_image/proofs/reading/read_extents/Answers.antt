@@ -1,7 +1,5 @@
 use Rattle.std.proofs.Common.{◌≡◌, ◌∷◌, ◌++◌, [], arith, rules}
-use Rattle.axp_image.specs.Grammar.{extents_at}
-use Rattle.axp_image.specs.declared.layout.TheConstants.{HEADER_BYTES}
-use Rattle.axp_image.proofs.Turns.{extents_more, extents_fail, extents_end}
+use Rattle.axp_image.proofs.Loops.{extents_more, extents_fail, extents_end}
 use Rattle.axp_image.proofs.reading.read_extents.Goals as goal
 
 pub returns-in_default : goal.returns-in_default
