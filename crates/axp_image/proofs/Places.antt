@@ -59,3 +59,11 @@ are_zero_elsewhere (x ∷ xs) address none =
       | inl has ↦ absurd (none zero x refl has)
       | inr lacks ↦ rw lacks (are_zero_elsewhere xs address (λ i s at in_s. none (suc i) s at in_s))
     ]
+
+pub byte_small : (size from : ℕ) (ss : List Segment) (address : ℕ) → ArePlaced size from ss → byte_in ss address < 256
+byte_small size from [] address placed = omega arith
+byte_small size from (x ∷ xs) address placed =
+    elim (cases_Bool (covers x address)) [
+      | inl has ↦ rw has (placed.0.bytes (address - x.address))
+      | inr lacks ↦ rw lacks (byte_small size (end_of x) xs address placed.1)
+    ]
