@@ -1,0 +1,5 @@
+pub mod Loops
+pub mod Valid
+pub mod Places
+pub mod Spelled
+pub mod Again

@@ -1,0 +1,10 @@
+use Rattle.axp_image.proofs.Valid.{image_says}
+use Rattle.axp_image.proofs.Spelled.{image_spelled}
+use Rattle.axp_image.proofs.Again.{spelling_again}
+use Rattle.axp_image.proofs.laws.one_file.Goals as goal
+
+pub returns : goal.returns
+returns c = record {
+  spelled = λ bytes image all read. (image_says bytes image all read, image_spelled bytes image all read);
+  read = spelling_again;
+}

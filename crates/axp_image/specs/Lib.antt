@@ -1,0 +1,5 @@
+pub mod Contents
+pub mod Grammar
+pub mod Seen
+pub mod Laws
+pub mod Spelling

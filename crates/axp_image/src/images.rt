@@ -1,0 +1,158 @@
+ghost use Rattle.std.specs.Prelude.{◌≡◌, ◌<◌, Some, length, slice_get, slice_index};
+ghost use Rattle.axp_image.specs.Contents.{IsValid, byte_in, contents, covers, segment_of};
+
+use axp_base::Bytes;
+use std::marker::Model;
+
+/// Bytes that stand in memory from an address on.
+#[derive(Debug, Drop)]
+pub(crate) struct Segment {
+    address: u64,
+    bytes: Bytes,
+}
+
+impl Model for Segment {
+    ghost use Rattle.axp_image.specs.Contents as seen;
+
+    ghost Value = { seen.Segment };
+
+    ghost view = { λ s. seen.segment_of s.address s.bytes };
+}
+
+impl Segment {
+    /// The segment of these bytes at this address.
+    pub(crate) fn new(address: u64, bytes: Bytes) -> Segment
+        ensures { result ≡ segment_of address bytes }
+    {
+        Segment { address, bytes }
+    }
+
+    /// The address of the first byte.
+    fn address(&self) -> u64
+        ensures { result ≡ self.now.address }
+    {
+        self.address
+    }
+
+    /// The bytes.
+    fn bytes(&self) -> &[u8]
+        ensures { result.now ≡ self.now.bytes }
+    {
+        self.bytes.as_slice()
+    }
+
+    /// The segment has the byte at this address.
+    fn covers(&self, address: u64) -> bool
+        ensures { result ≡ covers self.now address }
+    {
+        self.address <= address && address - self.address < self.bytes.as_slice().len() as u64
+    }
+}
+
+/// What an image says: the size of memory, the entry address, the stack word, the page of the page
+/// table, and the segments. Bytes of memory in no segment are 0.
+#[derive(Debug, Drop)]
+pub struct Image {
+    size: u64,
+    entry: u64,
+    stack: u64,
+    table: u64,
+    segments: Vec<Segment>,
+}
+
+impl Model for Image {
+    ghost use Rattle.axp_image.specs.Contents.{Contents};
+
+    ghost Value = { Contents };
+
+    ghost use Rattle.axp_image.specs.Seen.{contents_of, IsSound};
+
+    ghost view = { contents_of };
+
+    ghost invariant = { IsSound };
+}
+
+impl Image {
+    /// The image that says this.
+    pub(crate) fn new(
+        size: u64,
+        entry: u64,
+        stack: u64,
+        table: u64,
+        segments: Vec<Segment>,
+    ) -> Image
+        requires { IsValid (contents size entry stack table segments.items) }
+        ensures { result ≡ contents size entry stack table segments.items }
+    {
+        Image {
+            size,
+            entry,
+            stack,
+            table,
+            segments,
+        }
+    }
+
+    /// The size of memory in bytes, a whole number of pages from 8,192 to 16,777,216.
+    pub fn size(&self) -> u64
+        ensures value { result ≡ self.now.size }
+        ensures valid { IsValid self.now }
+    {
+        self.size
+    }
+
+    /// The address at which every processor starts.
+    pub fn entry(&self) -> u64
+        ensures value { result ≡ self.now.entry }
+        ensures valid { IsValid self.now }
+    {
+        self.entry
+    }
+
+    /// What every processor's stack pointer holds at the start.
+    pub fn stack(&self) -> u64
+        ensures value { result ≡ self.now.stack }
+        ensures valid { IsValid self.now }
+    {
+        self.stack
+    }
+
+    /// The page of memory on which the page table begins.
+    pub fn table(&self) -> u64
+        ensures value { result ≡ self.now.table }
+        ensures valid { IsValid self.now }
+    {
+        self.table
+    }
+
+    /// The byte that memory holds at this physical address at the start.
+    pub fn byte(&self, address: u64) -> u8
+        requires { address < self.now.size }
+        ensures { result ≡ byte_in self.now.segments address }
+    {
+        for segment in &self.segments {
+            if segment.covers(address) {
+                return segment.bytes()[(address - segment.address()) as usize];
+            }
+        }
+        0
+    }
+
+    /// The number of segments, at most 64.
+    pub fn segments(&self) -> u32
+        ensures value { result ≡ length self.now.segments }
+        ensures valid { IsValid self.now }
+    {
+        self.segments.len() as u32
+    }
+
+    /// The address and the bytes of segment `n`, counted from 0 in order of address.
+    pub fn segment(&self, n: u32) -> (u64, &[u8])
+        requires { n < length self.now.segments }
+        ensures value { slice_get self.now.segments n ≡ Some (segment_of result.0 result.1.now) }
+        ensures valid { IsValid self.now }
+    {
+        let segment = &self.segments[n as usize];
+        (segment.address(), segment.bytes())
+    }
+}

@@ -1,0 +1,29 @@
+//! Laws of images, each proved as the contract of a function that does nothing.
+ghost use Rattle.std.specs.Prelude.{ℕ, List, ◌≡◌, ◌<◌, Some, None, ◌++◌, ◌∷◌, []};
+ghost use Rattle.axp_image.specs.Contents.{AreBytes, Contents, IsValid, byte_in};
+ghost use Rattle.axp_image.specs.Grammar.{image_of};
+ghost use Rattle.axp_image.specs.Spelling.{spelling};
+ghost use Rattle.axp_image.specs.Laws.{DoNotOverlap, HaveTheirBytes, AreZeroElsewhere, smallest, smallest_file};
+
+/// What the segments of an image say of memory: no byte is in two of them, memory holds each of
+/// their bytes at its place and 0 everywhere else, and each of its bytes is below 256.
+pub fn memory_of_segments()
+    ensures apart { (c : Contents) → IsValid c → DoNotOverlap c.segments }
+    ensures inside { (c : Contents) → IsValid c → HaveTheirBytes c.segments }
+    ensures outside { (c : Contents) → AreZeroElsewhere c.segments }
+    ensures bytes { (c : Contents) → IsValid c → (address : ℕ) → byte_in c.segments address < 256 }
+{}
+
+/// Each image has one file. A file that is read is the file of what was read, each byte of it, and
+/// what was read is valid; and whatever is valid is read from its file.
+pub fn one_file()
+    ensures spelled { (bytes : List ℕ) (c : Contents) → AreBytes bytes → image_of bytes ≡ Some c
+        → IsValid c × (bytes ≡ spelling c) }
+    ensures read { (c : Contents) → IsValid c → image_of (spelling c) ≡ Some c }
+{}
+
+/// The smallest image file is read as one page of zeros. It is none with a byte more.
+pub fn smallest_image()
+    ensures read { image_of smallest_file ≡ Some smallest }
+    ensures extra { image_of (smallest_file ++ 0 ∷ []) ≡ None }
+{}

@@ -1,0 +1,17 @@
+//! The image: a file that says how large memory is, where processors start, and which bytes memory
+//! holds then.
+#![tactic(auto)]
+
+mod images;
+mod laws;
+mod layout;
+mod limits;
+mod reading;
+
+pub use images::Image;
+pub use laws::{memory_of_segments, one_file, smallest_image};
+pub use limits::{INSTRUCTION_BYTES, KSEG, MAX_MEMORY, MAX_SEGMENTS, PAGE_BYTES};
+pub use reading::read_image;
+
+#[cfg(test)]
+mod tests;
