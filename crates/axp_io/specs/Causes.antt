@@ -50,6 +50,13 @@ FetchTold told most (Err fetch.Failed) = Unit {0}
 FetchTold told most (Err fetch.TooLong) = most < length told
 FetchTold told most (Err fetch.Memory) = Unit {0}
 
+-- the answer is not that the desk failed
+abbrev pub NeverFails : Result (List ℕ) FetchFault → Type 0
+NeverFails (Ok bytes) = Unit {0}
+NeverFails (Err fetch.Failed) = ⊥
+NeverFails (Err fetch.TooLong) = Unit {0}
+NeverFails (Err fetch.Memory) = Unit {0}
+
 -- the asks: one more, which want of memory may have left out
 abbrev pub FetchAsks : List Ask → List Ask → Ask → Result (List ℕ) FetchFault → Type 0
 FetchAsks before now ask (Ok bytes) = now ≡ before ++ ask ∷ []

@@ -1,1 +1,4 @@
+pub mod Asks
 pub mod Causes
+pub mod Lists
+pub mod Tables

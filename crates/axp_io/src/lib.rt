@@ -10,7 +10,13 @@ ghost use Rattle.std.specs.Prelude.{◌≡◌, ◌≤◌, ◌<◌, ℕ, List, le
 ghost use Rattle.std.specs.Option.{is_some};
 ghost use Rattle.axp_io.specs.Causes.{Ask, FetchCount, FetchGiven, FetchTold, FetchAsks, PutCount, PutTaken};
 
+mod asks;
+mod lists;
+mod tables;
+
+pub use asks::Asked;
 pub use axp_base::{Bytes, Cpu, NoMemory};
+pub use tables::TableDesk;
 use std::alloc::Global;
 
 /// Why a fetch gave no list.

@@ -1,0 +1,87 @@
+ghost use Rattle.std.specs.Prelude.{◌≡◌, IfOk, OnOk, OnErr};
+ghost use Rattle.axp_io.specs.Lists.{list_under, PutUnder};
+ghost use Rattle.axp_io.specs.Tables.{fresh_table};
+
+use crate::asks::{Asked, Asks};
+use crate::lists::{Lists, hand_over};
+use crate::{Desk, FetchFault};
+use axp_base::{Bytes, NoMemory};
+use std::alloc::Global;
+use std::marker::Model;
+
+/// A desk of named lists in memory, some of whose calls fail.
+///
+/// A fetch of a name that has no list fails, and counts as a fault.
+#[derive(Drop)]
+pub struct TableDesk {
+    lists: Lists,
+    fails: Vec<u32>,
+    calls: u32,
+    faults: u64,
+    given: u64,
+    asks: Asks,
+}
+
+impl Model for TableDesk {
+    ghost use Rattle.axp_io.specs.Tables.{Table};
+
+    ghost Value = { Table };
+
+    ghost view = { λ d. record {
+        lists = d.lists; fails = d.fails.items; calls = d.calls;
+        faults = d.faults; given = d.given; asks = d.asks
+    } };
+}
+
+impl TableDesk {
+    /// A desk with no lists, whose fetches of these numbers fail; the first fetch has number 1.
+    pub fn new(alloc: Global, fails: &[u32]) -> Result<TableDesk, NoMemory>
+        ensures { IfOk result (λ desk. desk ≡ fresh_table fails.now) }
+    {
+        let fails = Vec::from_slice(alloc, fails)?;
+        Ok(TableDesk {
+            lists: Lists::empty(alloc),
+            fails,
+            calls: 0,
+            faults: 0,
+            given: 0,
+            asks: Asks::empty(alloc),
+        })
+    }
+
+    /// Puts a list under a name, in place of an earlier one; after want of memory the desk is as
+    /// before.
+    pub fn add(&mut self, alloc: Global, name: &str, bytes: &[u8]) -> Result<(), NoMemory>
+        ensures lists { OnOk result (PutUnder self.old.lists self.new.lists name.now bytes.now) }
+        ensures others { self.new ≡ record self.old { lists = self.new.lists } }
+        ensures err { OnErr result (self.new ≡ self.old) }
+    {
+        self.lists.put(alloc, name, bytes)
+    }
+}
+
+impl Desk for TableDesk {
+    ghost told = { λ d. list_under d.lists };
+
+    ghost faults = { λ d. d.faults };
+
+    ghost given = { λ d. d.given };
+
+    ghost asks = { λ d. d.asks };
+
+    fn fetch(&mut self, alloc: Global, name: &str, most: u64) -> Result<Bytes, FetchFault> {
+        self.calls = self.calls.saturating_add(1);
+        let Ok(()) = self.asks.keep(alloc, name, most) else {
+            return Err(FetchFault::Memory);
+        };
+        if self.fails.contains(&self.calls) {
+            self.faults = self.faults.saturating_add(1);
+            return Err(FetchFault::Failed);
+        }
+        let Some(list) = self.lists.get(name) else {
+            self.faults = self.faults.saturating_add(1);
+            return Err(FetchFault::Failed);
+        };
+        hand_over(alloc, list.as_slice(), most, &mut self.given)
+    }
+}
