@@ -1,4 +1,7 @@
 pub mod Asks
+pub mod Calls
 pub mod Causes
 pub mod Lists
+pub mod ListSinks
+pub mod Sure
 pub mod Tables

@@ -11,11 +11,15 @@ ghost use Rattle.std.specs.Option.{is_some};
 ghost use Rattle.axp_io.specs.Causes.{Ask, FetchCount, FetchGiven, FetchTold, FetchAsks, PutCount, PutTaken};
 
 mod asks;
+mod list_sinks;
 mod lists;
+mod sure;
 mod tables;
 
 pub use asks::Asked;
 pub use axp_base::{Bytes, Cpu, NoMemory};
+pub use list_sinks::ListSink;
+pub use sure::{SureDesk, SureSink};
 pub use tables::TableDesk;
 use std::alloc::Global;
 

@@ -1,6 +1,7 @@
-ghost use Rattle.std.specs.Prelude.{◌≡◌, ◌≤◌, [], OnOk, OnErr, option_copied};
-ghost use Rattle.axp_io.specs.Causes.{FetchGiven, FetchTold, NeverFails};
-ghost use Rattle.axp_io.specs.Lists.{list_under, PutUnder};
+ghost use Rattle.std.specs.Prelude.{◌≡◌, ◌≤◌, ◌+◌, [], length, min, OnOk, OnErr, option_copied};
+ghost use Rattle.axp_io.specs.Causes.{FetchTold, NeverFails};
+ghost use Rattle.axp_io.specs.Calls.{raised};
+ghost use Rattle.axp_io.specs.Lists.{list_under, list_or_empty, PutUnder};
 
 use crate::FetchFault;
 use axp_base::{Bytes, NoMemory};
@@ -52,6 +53,16 @@ impl Lists {
     {
         self.table.get(name)
     }
+
+    /// The list under a name, the empty one where none was given.
+    pub(crate) fn get_or_empty(&self, name: &str) -> &[u8]
+        ensures { result.now ≡ list_or_empty self.now name.now }
+    {
+        match self.get(name) {
+            Some(list) => list.as_slice(),
+            None => &[],
+        }
+    }
 }
 
 /// Hands a list over, where it is not longer than `most`, and counts the bytes given.
@@ -64,7 +75,7 @@ pub(crate) fn hand_over(
     ensures told { FetchTold list.now most result }
     ensures never_fails { NeverFails result }
     ensures grows { given.old ≤ given.new }
-    ensures given { FetchGiven given.old given.new most result }
+    ensures given { given.new ≡ raised given.old (min (length list.now) (most + 1)) }
 {
     let length = list.len() as u64;
     if length > most {

@@ -1,6 +1,8 @@
-ghost use Rattle.std.specs.Prelude.{◌≡◌, IfOk, OnOk, OnErr};
+ghost use Rattle.std.specs.Prelude.{◌≡◌, ◌≤◌, ℕ, List, length, IfOk, IfSome, OnOk, OnErr};
+ghost use Rattle.axp_io.specs.Asks.{asks_in};
+ghost use Rattle.axp_io.specs.Causes.{FetchCount, FetchGiven, FetchTold, FetchAsks};
 ghost use Rattle.axp_io.specs.Lists.{list_under, PutUnder};
-ghost use Rattle.axp_io.specs.Tables.{fresh_table};
+ghost use Rattle.axp_io.specs.Tables.{fresh_table, TableFetch};
 
 use crate::asks::{Asked, Asks};
 use crate::lists::{Lists, hand_over};
@@ -23,9 +25,9 @@ pub struct TableDesk {
 }
 
 impl Model for TableDesk {
-    ghost use Rattle.axp_io.specs.Tables.{Table};
+    ghost use Rattle.axp_io.specs.Tables.{TableView};
 
-    ghost Value = { Table };
+    ghost Value = { TableView };
 
     ghost view = { λ d. record {
         lists = d.lists; fails = d.fails.items; calls = d.calls;
@@ -58,6 +60,27 @@ impl TableDesk {
     {
         self.lists.put(alloc, name, bytes)
     }
+
+    /// The asks that came so far, in order.
+    pub fn asks(&self) -> &[Asked]
+        ensures { asks_in result.now ≡ self.now.asks }
+    {
+        self.asks.as_slice()
+    }
+
+    /// The number of fetches that failed so far, at most 2^64 - 1.
+    pub fn faults(&self) -> u64
+        ensures { result ≡ self.now.faults }
+    {
+        self.faults
+    }
+
+    /// The number of bytes given so far, at most 2^64 - 1.
+    pub fn given(&self) -> u64
+        ensures { result ≡ self.now.given }
+    {
+        self.given
+    }
 }
 
 impl Desk for TableDesk {
@@ -69,7 +92,17 @@ impl Desk for TableDesk {
 
     ghost asks = { λ d. d.asks };
 
-    fn fetch(&mut self, alloc: Global, name: &str, most: u64) -> Result<Bytes, FetchFault> {
+    fn fetch(&mut self, alloc: Global, name: &str, most: u64) -> Result<Bytes, FetchFault>
+        ensures stays { (n : List ℕ) → list_under self.new.lists n ≡ list_under self.old.lists n }
+        ensures told { IfSome (list_under self.old.lists name.now) (λ list. FetchTold list most result) }
+        ensures most { IfOk result (λ bytes. length bytes ≤ most) }
+        ensures faults_grow { self.old.faults ≤ self.new.faults }
+        ensures count { FetchCount self.old.faults self.new.faults result }
+        ensures given_grow { self.old.given ≤ self.new.given }
+        ensures given { FetchGiven self.old.given self.new.given most result }
+        ensures asks { FetchAsks self.old.asks self.new.asks (name.now, most) result }
+        ensures table { TableFetch self.old self.new (name.now, most) result }
+    {
         self.calls = self.calls.saturating_add(1);
         let Ok(()) = self.asks.keep(alloc, name, most) else {
             return Err(FetchFault::Memory);
