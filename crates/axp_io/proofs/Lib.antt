@@ -1,3 +1,4 @@
 pub mod Fronts
 pub mod ListsLemmas
+pub mod Reading
 pub mod TablesLemmas

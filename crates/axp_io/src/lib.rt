@@ -11,6 +11,7 @@ ghost use Rattle.std.specs.Option.{is_some};
 ghost use Rattle.axp_io.specs.Causes.{Ask, FetchCount, FetchGiven, FetchTold, FetchAsks, PutCount, PutTaken};
 
 mod asks;
+mod files;
 mod list_sinks;
 mod lists;
 mod sure;
@@ -18,6 +19,7 @@ mod tables;
 
 pub use asks::Asked;
 pub use axp_base::{Bytes, Cpu, NoMemory};
+pub use files::FileDesk;
 pub use list_sinks::ListSink;
 pub use sure::{SureDesk, SureSink};
 pub use tables::TableDesk;
