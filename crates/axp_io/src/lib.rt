@@ -12,15 +12,19 @@ ghost use Rattle.axp_io.specs.Causes.{Ask, FetchCount, FetchGiven, FetchTold, Fe
 
 mod asks;
 mod files;
+mod gates;
 mod list_sinks;
 mod lists;
+mod streams;
 mod sure;
 mod tables;
 
 pub use asks::Asked;
 pub use axp_base::{Bytes, Cpu, NoMemory};
 pub use files::FileDesk;
+pub use gates::FreeGate;
 pub use list_sinks::ListSink;
+pub use streams::OutSink;
 pub use sure::{SureDesk, SureSink};
 pub use tables::TableDesk;
 use std::alloc::Global;
