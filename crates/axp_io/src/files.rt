@@ -136,3 +136,43 @@ fn read_whole<F: Read>(
     }
     Err(FetchFault::Failed)
 }
+
+#[cfg(test)]
+mod tests {
+    use super::*;
+    use crate::tests::answers;
+    use std::test::Fail;
+
+    #[test]
+    fn a_name_is_a_path(rt: HostRuntime) -> Result<(), Fail> {
+        let alloc = rt.alloc();
+        let mut desk = FileDesk::new(&rt);
+        // More than one read gives.
+        let list = [7; CHUNK + 904];
+        fs::write(&rt, "a_list_for_a_test", &list)?;
+
+        let whole = answers(&mut desk, alloc, "a_list_for_a_test", 5000, Ok(&list));
+        let cut = answers(
+            &mut desk,
+            alloc,
+            "a_list_for_a_test",
+            4999,
+            Err(FetchFault::TooLong),
+        );
+        fs::remove_file(&rt, "a_list_for_a_test")?;
+        let gone = answers(
+            &mut desk,
+            alloc,
+            "a_list_for_a_test",
+            5000,
+            Err(FetchFault::Failed),
+        );
+
+        assert_eq!(rt; (whole, cut, gone), (true, true, true));
+        assert_eq!(rt;
+            (desk.asks().len(), desk.faults(), desk.given()),
+            (3, 1, 10000)
+        );
+        Ok(())
+    }
+}

@@ -8,3 +8,14 @@ pub struct FreeGate;
 impl Gate for FreeGate {
     fn pass(&self, _cpu: Cpu, _step: u32) {}
 }
+
+#[cfg(test)]
+mod tests {
+    use super::*;
+
+    #[test]
+    fn the_gate_lets_a_step_pass(rt: HostRuntime) {
+        let cpu = Cpu::new(0).expect(&rt, "a machine has a first processor");
+        FreeGate.pass(cpu, 0);
+    }
+}

@@ -24,10 +24,10 @@ pub use axp_base::{Bytes, Cpu, NoMemory};
 pub use files::FileDesk;
 pub use gates::FreeGate;
 pub use list_sinks::ListSink;
+use std::alloc::Global;
 pub use streams::OutSink;
 pub use sure::{SureDesk, SureSink};
 pub use tables::TableDesk;
-use std::alloc::Global;
 
 /// Why a fetch gave no list.
 #[derive(Clone, Copy, Debug, PartialEq, Eq)]
@@ -98,4 +98,31 @@ pub trait Sink {
 pub trait Gate {
     /// Returns when this processor may make this step.
     fn pass(&self, cpu: Cpu, step: u32);
+}
+
+#[cfg(test)]
+mod tests {
+    use super::*;
+
+    /// Whether a desk, seen through its trait alone, gives this answer.
+    pub(crate) fn answers<D: Desk>(
+        desk: &mut D,
+        alloc: Global,
+        name: &str,
+        most: u64,
+        want: Result<&[u8], FetchFault>,
+    ) -> bool {
+        match (desk.fetch(alloc, name, most), want) {
+            (Ok(bytes), Ok(list)) => bytes.as_slice() == list,
+            (Err(fault), Err(wanted)) => fault == wanted,
+            _ => false,
+        }
+    }
+
+    /// What a sink, seen through its trait alone, answers to a piece that is not empty.
+    pub(crate) fn puts<S: Sink>(sink: &mut S, alloc: Global, piece: &[u8]) -> Result<(), SinkFault>
+        requires { 0 < length piece.now }
+    {
+        sink.put(alloc, piece)
+    }
 }

@@ -24,7 +24,11 @@ impl Model for ListSink {
     ghost Value = { SinkView };
 
     ghost view = { λ s. record {
-        taken = s.taken; fails = s.fails.items; part = s.part; calls = s.calls; faults = s.faults
+      taken = s.taken;
+      fails = s.fails.items;
+      part = s.part;
+      calls = s.calls;
+      faults = s.faults;
     } };
 }
 
@@ -85,6 +89,28 @@ impl Sink for ListSink {
         let Ok(()) = self.taken.append(alloc, piece) else {
             return Err(SinkFault::Memory);
         };
+        Ok(())
+    }
+}
+
+#[cfg(test)]
+mod tests {
+    use super::*;
+    use crate::tests::puts;
+    use std::test::Fail;
+
+    #[test]
+    fn a_failing_put_takes_a_part(rt: HostRuntime) -> Result<(), Fail> {
+        let alloc = rt.alloc();
+        let mut sink = ListSink::new(alloc, &[2, 3], 2)?;
+
+        assert_eq!(rt; puts(&mut sink, alloc, b"one,"), Ok(()));
+        assert_eq!(rt; puts(&mut sink, alloc, b"two,"), Err(SinkFault::Failed));
+        assert_eq!(rt; puts(&mut sink, alloc, b"3"), Err(SinkFault::Failed));
+        assert_eq!(rt; puts(&mut sink, alloc, b"4"), Ok(()));
+
+        assert_eq!(rt; sink.taken(), b"one,tw34".as_slice());
+        assert_eq!(rt; sink.faults(), 2);
         Ok(())
     }
 }

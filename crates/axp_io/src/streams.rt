@@ -74,3 +74,16 @@ fn write_whole<W: Write>(to: &mut W, piece: &[u8]) -> Result<(), SinkFault>
     }
     Err(SinkFault::Failed)
 }
+
+#[cfg(test)]
+mod tests {
+    use super::*;
+    use crate::tests::puts;
+
+    #[test]
+    fn standard_output_takes_a_piece(rt: HostRuntime) {
+        let mut sink = OutSink::new(&rt);
+        assert_eq!(rt; puts(&mut sink, rt.alloc(), b"a piece\n"), Ok(()));
+        assert_eq!(rt; sink.faults(), 0);
+    }
+}

@@ -126,3 +126,35 @@ impl Sink for SureSink {
         }
     }
 }
+
+#[cfg(test)]
+mod tests {
+    use super::*;
+    use crate::tests::{answers, puts};
+    use std::test::Fail;
+
+    #[test]
+    fn a_desk_has_a_list_under_every_name(rt: HostRuntime) -> Result<(), Fail> {
+        let alloc = rt.alloc();
+        let mut desk = SureDesk::new(alloc)?;
+        desk.add(alloc, "a", b"old")?;
+        desk.add(alloc, "a", b"four")?;
+
+        assert!(rt; answers(&mut desk, alloc, "a", 4, Ok(b"four")));
+        assert!(rt; answers(&mut desk, alloc, "b", 0, Ok(b"")));
+        assert!(rt; answers(&mut desk, alloc, "a", 3, Err(FetchFault::TooLong)));
+
+        assert_eq!(rt; (desk.asks().len(), desk.given()), (3, 8));
+        Ok(())
+    }
+
+    #[test]
+    fn a_sink_takes_all(rt: HostRuntime) -> Result<(), Fail> {
+        let alloc = rt.alloc();
+        let mut sink = SureSink::new(alloc)?;
+        puts(&mut sink, alloc, b"one")?;
+        puts(&mut sink, alloc, b", two")?;
+        assert_eq!(rt; sink.taken(), b"one, two".as_slice());
+        Ok(())
+    }
+}

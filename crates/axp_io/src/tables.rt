@@ -30,8 +30,12 @@ impl Model for TableDesk {
     ghost Value = { TableView };
 
     ghost view = { λ d. record {
-        lists = d.lists; fails = d.fails.items; calls = d.calls;
-        faults = d.faults; given = d.given; asks = d.asks
+      lists = d.lists;
+      fails = d.fails.items;
+      calls = d.calls;
+      faults = d.faults;
+      given = d.given;
+      asks = d.asks;
     } };
 }
 
@@ -116,5 +120,36 @@ impl Desk for TableDesk {
             return Err(FetchFault::Failed);
         };
         hand_over(alloc, list.as_slice(), most, &mut self.given)
+    }
+}
+
+#[cfg(test)]
+mod tests {
+    use super::*;
+    use crate::tests::answers;
+    use std::test::Fail;
+
+    #[test]
+    fn answers_by_name_call_and_limit(rt: HostRuntime) -> Result<(), Fail> {
+        let alloc = rt.alloc();
+        let mut desk = TableDesk::new(alloc, &[3])?;
+        desk.add(alloc, "a", b"old")?;
+        desk.add(alloc, "a", b"four")?;
+        desk.add(alloc, "c", b"")?;
+
+        assert!(rt; answers(&mut desk, alloc, "a", 4, Ok(b"four")));
+        assert!(rt; answers(&mut desk, alloc, "a", 3, Err(FetchFault::TooLong)));
+        assert!(rt;
+            answers(&mut desk, alloc, "a", 4, Err(FetchFault::Failed)),
+            "the third call"
+        );
+        assert!(rt;
+            answers(&mut desk, alloc, "b", 9, Err(FetchFault::Failed)),
+            "no such list"
+        );
+        assert!(rt; answers(&mut desk, alloc, "c", 0, Ok(b"")));
+
+        assert_eq!(rt; (desk.asks().len(), desk.faults(), desk.given()), (5, 2, 8));
+        Ok(())
     }
 }

@@ -7,6 +7,6 @@ use Rattle.axp_io.proofs.streams.write_whole.Goals.{in-Ok, in-Err}
 pub loop-preserved : goal.loop-preserved
 loop-preserved g c =
     elim c.match-write.branch [
-      in-Ok w ↦ let step = wrote _ _ _ _ c.loop.rest.now w.in-Ok.count c.loop.invariant w.in-Ok.ensures.bytes in rw w.rest-is (grind (arith, common_steps))
+      | in-Ok w ↦ let step = wrote _ _ _ _ c.loop.rest.now w.in-Ok.count c.loop.invariant w.in-Ok.ensures.bytes in rw w.rest-is (grind (arith, common_steps))
       | in-Err w ↦ rw w.rest-is (wrote_none _ _ _ _ c.loop.rest.now c.loop.invariant w.in-Err.ensures.bytes)
     ]
