@@ -1,7 +1,7 @@
 -- What comes of a fetch of a list that the desk has.
 use Rattle.std.proofs.Common.{◌≡◌, ℕ, ◌+◌, ◌≤◌, ◌<◌, false, List, length, Result, Ok, Err, min, refl, sym, ap, ◌∙◌, arith}
-use Rattle.axp_io.specs.Calls.{raised}
-use Rattle.axp_io.specs.Causes.{Ask, FetchTold, NeverFails}
+use Rattle.axp_io.specs.Causes.{raised, Ask, FetchTold}
+use Rattle.axp_io.specs.Lists.{NeverFails}
 use Rattle.axp_io.specs.Tables.{TableView, asked, with_given, fails_at, TableFetch}
 use Rattle.axp_io.specs.declared.FetchFault.{FetchFault}
 use Rattle.axp_io.specs.declared.FetchFault.TheVariants as fetch

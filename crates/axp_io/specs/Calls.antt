@@ -1,12 +1,8 @@
--- Counts that stay at their last value, and calls that fail by their number.
+-- Calls that fail by their number, which is counted from 1 and stays at 2 ^ 32 - 1 once it stands there.
 use Rattle.std.specs.Prelude.{ℕ, ◌+◌, ◌-◌, ◌^◌, Bool, nat_eq, min, List}
 use Rattle.std.specs.List.{list_any}
 
--- a count after n more
-abbrev pub raised : ℕ → ℕ → ℕ
-raised count n = min (count + n) (2 ^ 64 - 1)
-
--- the number of the next call after so many, where the first has number 1
+-- the number of the next call after so many
 abbrev pub next_call : ℕ → ℕ
 next_call calls = min (calls + 1) (2 ^ 32 - 1)
 

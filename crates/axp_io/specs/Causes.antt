@@ -9,9 +9,13 @@ use Rattle.axp_io.specs.declared.SinkFault.TheVariants as sink
 
 -- ---- counts, which stay at 2 ^ 64 - 1 once they stand there
 
+-- a count after n more
+abbrev pub raised : ℕ → ℕ → ℕ
+raised count n = min (count + n) (2 ^ 64 - 1)
+
 -- a count rose by n or more, or stands at its last value
 abbrev pub RoseBy : ℕ → ℕ → ℕ → Type 0
-RoseBy n before now = min (before + n) (2 ^ 64 - 1) ≤ now
+RoseBy n before now = raised before n ≤ now
 
 -- a count rose, or stands at its last value
 abbrev pub Rose : ℕ → ℕ → Type 0
@@ -49,13 +53,6 @@ FetchTold told most (Ok bytes) = (bytes ≡ told) × (length told ≤ most)
 FetchTold told most (Err fetch.Failed) = Unit {0}
 FetchTold told most (Err fetch.TooLong) = most < length told
 FetchTold told most (Err fetch.Memory) = Unit {0}
-
--- the answer is not that the desk failed
-abbrev pub NeverFails : Result (List ℕ) FetchFault → Type 0
-NeverFails (Ok bytes) = Unit {0}
-NeverFails (Err fetch.Failed) = ⊥
-NeverFails (Err fetch.TooLong) = Unit {0}
-NeverFails (Err fetch.Memory) = Unit {0}
 
 -- the asks: one more, which want of memory may have left out
 abbrev pub FetchAsks : List Ask → List Ask → Ask → Result (List ℕ) FetchFault → Type 0

@@ -1,6 +1,7 @@
 -- The sink of a list in memory, some of whose calls fail.
 use Rattle.std.specs.Prelude.{◌≡◌, ℕ, Bool, true, false, List, [], ◌++◌, take, Result, Ok, Err}
-use Rattle.axp_io.specs.Calls.{raised, next_call, fails_next}
+use Rattle.axp_io.specs.Calls.{next_call, fails_next}
+use Rattle.axp_io.specs.Causes.{raised}
 use Rattle.axp_io.specs.declared.SinkFault.{SinkFault}
 use Rattle.axp_io.specs.declared.SinkFault.TheVariants as sink
 

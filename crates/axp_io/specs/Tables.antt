@@ -1,8 +1,8 @@
 -- The desk of named lists in memory, some of whose calls fail.
 use Rattle.std.specs.Prelude.{◌≡◌, ◌||◌, ℕ, ◌+◌, Bool, true, false, List, [], ◌∷◌, ◌++◌, length, Result, Ok, Err}
 use Rattle.std.specs.Option.{is_none}
-use Rattle.axp_io.specs.Calls.{raised, next_call, fails_next}
-use Rattle.axp_io.specs.Causes.{Ask}
+use Rattle.axp_io.specs.Calls.{next_call, fails_next}
+use Rattle.axp_io.specs.Causes.{raised, Ask}
 use Rattle.axp_io.specs.Lists.{Named, list_under}
 use Rattle.axp_io.specs.declared.FetchFault.{FetchFault}
 use Rattle.axp_io.specs.declared.FetchFault.TheVariants as fetch

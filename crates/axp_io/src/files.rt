@@ -86,11 +86,11 @@ impl<R: Files> Desk for FileDesk<R> {
         let Ok(()) = self.asks.keep(alloc, name, most) else {
             return Err(FetchFault::Memory);
         };
-        let Ok(mut file) = fs::open(&self.rt, name) else {
-            self.faults = self.faults.saturating_add(1);
-            return Err(FetchFault::Failed);
+        let result = match fs::open(&self.rt, name) {
+            Ok(mut file) => read_whole(alloc, &mut file, most, &mut self.given),
+            Err(error) if error.kind() == ErrorKind::OutOfMemory => Err(FetchFault::Memory),
+            Err(_) => Err(FetchFault::Failed),
         };
-        let result = read_whole(alloc, &mut file, most, &mut self.given);
         if let Err(FetchFault::Failed) = result {
             self.faults = self.faults.saturating_add(1);
         }

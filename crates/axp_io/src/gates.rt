@@ -13,9 +13,14 @@ impl Gate for FreeGate {
 mod tests {
     use super::*;
 
+    /// A worker's pass: threads share the gate.
+    fn pass<G: Gate + Sync>(gate: &G, cpu: Cpu, step: u32) {
+        gate.pass(cpu, step);
+    }
+
     #[test]
     fn the_gate_lets_a_step_pass(rt: HostRuntime) {
         let cpu = Cpu::new(0).expect(&rt, "a machine has a first processor");
-        FreeGate.pass(cpu, 0);
+        pass(&FreeGate, cpu, 0);
     }
 }

@@ -1,7 +1,6 @@
 ghost use Rattle.std.specs.Prelude.{◌≡◌, ◌≤◌, ◌+◌, [], length, min, OnOk, OnErr, option_copied};
-ghost use Rattle.axp_io.specs.Causes.{FetchTold, NeverFails};
-ghost use Rattle.axp_io.specs.Calls.{raised};
-ghost use Rattle.axp_io.specs.Lists.{list_under, list_or_empty, PutUnder};
+ghost use Rattle.axp_io.specs.Causes.{raised, FetchTold};
+ghost use Rattle.axp_io.specs.Lists.{NeverFails, list_under, list_or_empty, PutUnder};
 
 use crate::FetchFault;
 use axp_base::{Bytes, NoMemory};
