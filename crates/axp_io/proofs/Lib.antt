@@ -1,0 +1,5 @@
+pub mod Fronts
+pub mod ListsLemmas
+pub mod Reading
+pub mod TablesLemmas
+pub mod Writing

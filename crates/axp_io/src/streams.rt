@@ -1,0 +1,89 @@
+ghost use Rattle.std.specs.Prelude.{◌≡◌, None};
+ghost use Rattle.axp_io.specs.Causes.{PutTaken};
+
+use crate::{Sink, SinkFault};
+use std::alloc::Global;
+use std::io;
+use std::io::{ErrorKind, Write};
+use std::marker::Model;
+
+/// The sink over standard output, which is not buffered.
+///
+/// A write that fails or takes nothing is a failure. It tells no bytes, since nothing is known of what
+/// reads them.
+#[derive(Drop)]
+pub struct OutSink<R> {
+    rt: R,
+    faults: u64,
+}
+
+impl<R> Model for OutSink<R> {
+    ghost use Rattle.std.specs.Prelude.{ℕ};
+
+    ghost Value = { ℕ };
+
+    ghost view = { λ s. s.faults };
+}
+
+impl<R> OutSink<R> {
+    /// The sink over the runtime's standard output.
+    pub fn new(rt: R) -> OutSink<R>
+        ensures { result ≡ 0 }
+    {
+        OutSink { rt, faults: 0 }
+    }
+
+    /// The number of puts that failed so far, at most 2^64 - 1.
+    pub fn faults(&self) -> u64
+        ensures { result ≡ self.now }
+    {
+        self.faults
+    }
+}
+
+impl<R: Print> Sink for OutSink<R> {
+    ghost taken = { λ _. None };
+
+    ghost faults = { λ s. s };
+
+    fn put(&mut self, _alloc: Global, piece: &[u8]) -> Result<(), SinkFault> {
+        let mut output = io::writer(&self.rt);
+        let result = write_whole(&mut output, piece);
+        if let Err(SinkFault::Failed) = result {
+            self.faults = self.faults.saturating_add(1);
+        }
+        result
+    }
+}
+
+/// Writes a piece; after a failure a front of it may have been written.
+fn write_whole<W: Write>(to: &mut W, piece: &[u8]) -> Result<(), SinkFault>
+    ensures { PutTaken (W.contents to.old) (W.contents to.new) piece.now result }
+{
+    let mut rest = piece;
+    for _ in 0..u64::MAX {
+        if rest.is_empty() {
+            return Ok(());
+        }
+        match to.write(rest) {
+            Ok(0) => return Err(SinkFault::Failed),
+            Ok(count) => rest = &rest[count..],
+            Err(error) if error.kind() == ErrorKind::Interrupted => {}
+            Err(_) => return Err(SinkFault::Failed),
+        }
+    }
+    Err(SinkFault::Failed)
+}
+
+#[cfg(test)]
+mod tests {
+    use super::*;
+    use crate::tests::puts;
+
+    #[test]
+    fn standard_output_takes_a_piece(rt: HostRuntime) {
+        let mut sink = OutSink::new(&rt);
+        assert_eq!(rt; puts(&mut sink, rt.alloc(), b"a piece\n"), Ok(()));
+        assert_eq!(rt; sink.faults(), 0);
+    }
+}
