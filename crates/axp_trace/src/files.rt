@@ -1,0 +1,41 @@
+ghost use Rattle.std.specs.Prelude.{◌≡◌, ◌≢◌, ◌+◌, ◌==◌, ◌<◌, ◌∷◌, ◌++◌, [], ℕ, List, None, Some, IsNone, IfSome, ◌↔◌, length, slice_index, if◌then◌else◌};
+ghost use Rattle.std.specs.List.{All};
+ghost use Rattle.axp_trace.specs.declared.files.TheConstants.{LINE_FEED};
+ghost use Rattle.axp_trace.specs.Files.{lines_of};
+
+/// The byte that ends a line.
+pub const LINE_FEED: u8 = b'\n';
+
+/// Where the first line feed stands; the text's length where there is none.
+fn line_length(text: &[u8]) -> usize
+    ensures within { result ≤ length text.now }
+    ensures before { (k : ℕ) → k < result → slice_index text.now k ≢ LINE_FEED }
+    ensures found { result < length text.now → slice_index text.now result ≡ LINE_FEED }
+{
+    for (i, byte) in text.iter().enumerate() {
+        if *byte == LINE_FEED {
+            return i;
+        }
+    }
+    text.len()
+}
+
+/// The first line of a text without its line feed, and what follows it; `None` where no line ends.
+pub fn first_line(text: &[u8]) -> Option<(&[u8], &[u8])>
+    ensures none { IsNone result ↔ All (λ b. b ≢ LINE_FEED) text.now }
+    ensures lines { IfSome result (λ p. lines_of text.now ≡ Some p.0.now ∷ lines_of p.1.now) }
+    ensures parted { IfSome result (λ p. text.now ≡ p.0.now ++ LINE_FEED ∷ p.1.now) }
+    ensures shorter { IfSome result (λ p. length p.1.now < length text.now) }
+    ensures last { IsNone result → lines_of text.now ≡ (if length text.now == 0 then [] else None ∷ []) }
+{
+    let end = line_length(text);
+    if end == text.len() {
+        return None;
+    }
+    Some((&text[..end], &text[end + 1..]))
+}
+
+/// A line and its line feed, put before a text, are its first line.
+pub fn lines_begin()
+    ensures { (line rest : List ℕ) → All (λ b. b ≢ LINE_FEED) line → lines_of (line ++ LINE_FEED ∷ rest) ≡ Some line ∷ lines_of rest }
+{}

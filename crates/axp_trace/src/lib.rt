@@ -1,0 +1,15 @@
+//! The text of event lists and traces, both ways: the lines that are written, the lines that are
+//! read, and a file as its lines.
+#![tactic(auto)]
+
+mod digits;
+mod files;
+mod lines;
+mod reading;
+
+pub use files::{LINE_FEED, first_line};
+pub use lines::{
+    LINE_ROOM, LineText, write_console, write_end, write_event, write_header, write_memory,
+    write_processor, write_register,
+};
+pub use reading::{Header, MAX_BUDGET, MIN_CPUS};

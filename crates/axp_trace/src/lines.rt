@@ -1,0 +1,223 @@
+ghost use Rattle.std.specs.Prelude.{◌≡◌, ◌+◌, ◌*◌, ◌^◌, ◌≤◌, ◌<◌, ◌++◌};
+ghost use Rattle.arrayvec.specs.ArrayVec.{array_vec_len};
+ghost use Rattle.axp_base.specs.Masks.{IsSize};
+ghost use Rattle.axp_base.specs.Cpus.{cpu_number};
+ghost use Rattle.axp_access.specs.Spelling.{Spells, IsSpelled, IsSizeOf, IsPlaceOf};
+ghost use Rattle.axp_trace.specs.Lines.{event_text, place_text, data_text, move_text, access_text, outcome_text, line_text, trace_header, end_text, processor_line, register_line, memory_line, console_line, end_line};
+
+use arrayvec::ArrayVec;
+use axp_access::{Access, Act, Event, Kind, Outcome, Place};
+use axp_base::Cpu;
+
+use crate::digits::{push_all, push_byte, push_decimal, push_hex};
+
+/// The most bytes of a line, its line feed among them.
+pub const LINE_ROOM: usize = 96;
+
+/// The text of one line.
+pub type LineText = ArrayVec<u8, LINE_ROOM>;
+
+/// Appends an event.
+#[tactic(auto, unfolding(crate::specs::Lines::event_text))]
+pub(crate) fn push_event(out: &mut LineText, event: Event)
+    requires { array_vec_len out.old + 8 ≤ LINE_ROOM }
+    ensures text { out.new.items ≡ out.old.items ++ event_text event }
+    ensures len { array_vec_len out.new ≤ array_vec_len out.old + 8 }
+{
+    push_byte(out, event.cpu.number());
+    match event.act {
+        Act::Step => push_all(out, b" step"),
+    }
+}
+
+/// Appends what an access of data moves.
+fn push_data(out: &mut LineText, access: &Access)
+    requires room { array_vec_len out.old + 29 ≤ LINE_ROOM }
+    requires size { IsSize access.now.size }
+    ensures text { out.new.items ≡ out.old.items ++ data_text access.now.address access.now.size access.now.value }
+    ensures len { array_vec_len out.new ≤ array_vec_len out.old + 29 }
+{
+    push_hex(out, 8, access.address);
+    push_all(out, b" ");
+    push_byte(out, access.size);
+    push_all(out, b" ");
+    push_hex(out, 2 * access.size, access.value);
+}
+
+/// Appends what an access moves.
+#[tactic(auto, unfolding(crate::specs::Lines::move_text))]
+fn push_move(out: &mut LineText, access: &Access)
+    requires room { array_vec_len out.old + 31 ≤ LINE_ROOM }
+    requires size { IsSizeOf access.now.kind access.now.size }
+    ensures text { out.new.items ≡ out.old.items ++ move_text access.now.kind access.now.address access.now.size access.now.value }
+    ensures len { array_vec_len out.new ≤ array_vec_len out.old + 31 }
+{
+    match access.kind {
+        Kind::Fetch => {
+            push_all(out, b"i ");
+            push_hex(out, 8, access.address);
+            push_all(out, b" ");
+            push_hex(out, 8, access.value);
+        }
+        Kind::Read => {
+            push_all(out, b"r ");
+            push_data(out, access);
+        }
+        Kind::Write => {
+            push_all(out, b"w ");
+            push_data(out, access);
+        }
+    }
+}
+
+/// Appends where an access stands.
+fn push_place(out: &mut LineText, kind: Kind, place: Place)
+    requires room { array_vec_len out.old + 11 ≤ LINE_ROOM }
+    requires place { IsPlaceOf kind place }
+    ensures text { out.new.items ≡ out.old.items ++ place_text place }
+    ensures len { array_vec_len out.new ≤ array_vec_len out.old + 11 }
+{
+    match place {
+        Place::At(turn) => {
+            push_all(out, b"@");
+            push_decimal(out, turn as u32);
+        }
+    }
+}
+
+/// Appends what came of an event.
+#[tactic(auto, unfolding(crate::specs::Lines::outcome_text, crate::specs::Lines::access_text))]
+fn push_outcome(out: &mut LineText, event: Event, outcome: Outcome)
+    requires room { array_vec_len out.old + 43 ≤ LINE_ROOM }
+    requires spells { Spells event outcome }
+    ensures text { out.new.items ≡ out.old.items ++ outcome_text outcome }
+    ensures len { array_vec_len out.new ≤ array_vec_len out.old + 43 }
+{
+    match outcome {
+        Outcome::Access(access) => {
+            push_move(out, &access);
+            push_all(out, b" ");
+            push_place(out, access.kind, access.place);
+        }
+        Outcome::NoAccess => push_all(out, b"n"),
+    }
+}
+
+/// The line of an event and its outcome in a trace.
+#[tactic(auto, unfolding(crate::specs::Lines::line_text))]
+pub fn write_event(event: Event, outcome: Outcome) -> LineText
+    requires { Spells event outcome }
+    ensures text { result.items ≡ line_text event outcome }
+    ensures short { array_vec_len result ≤ 64 }
+{
+    let mut out = ArrayVec::new();
+    push_event(&mut out, event);
+    push_all(&mut out, b" : ");
+    push_outcome(&mut out, event, outcome);
+    out
+}
+
+/// The first line of a trace: the number of processors, the events that each has at most, and the
+/// bytes of memory.
+#[tactic(auto, unfolding(crate::specs::Lines::trace_header))]
+pub fn write_header(cpus: u8, budget: u32, memory: u64) -> LineText
+    requires { memory < 2 ^ 32 }
+    ensures text { result.items ≡ trace_header cpus budget memory }
+    ensures short { array_vec_len result < LINE_ROOM }
+{
+    let mut out = ArrayVec::new();
+    push_all(&mut out, b"axp-trace 1 cpus ");
+    push_byte(&mut out, cpus);
+    push_all(&mut out, b" budget ");
+    push_decimal(&mut out, budget);
+    push_all(&mut out, b" memory ");
+    push_decimal(&mut out, memory as u32);
+    out
+}
+
+/// Appends how a processor ended.
+fn push_end(out: &mut LineText, halted: Option<u8>)
+    requires { array_vec_len out.old + 9 ≤ LINE_ROOM }
+    ensures text { out.new.items ≡ out.old.items ++ end_text halted }
+    ensures len { array_vec_len out.new ≤ array_vec_len out.old + 9 }
+{
+    match halted {
+        Some(code) => {
+            push_all(out, b" halt ");
+            push_byte(out, code);
+        }
+        None => push_all(out, b" spent"),
+    }
+}
+
+/// The line of a processor at the end: the code with which it halted, or none where its budget is
+/// spent, the number of its steps, and its program counter.
+#[tactic(auto, unfolding(crate::specs::Lines::processor_line))]
+pub fn write_processor(cpu: Cpu, halted: Option<u8>, steps: u32, pc: u64) -> LineText
+    ensures text { result.items ≡ processor_line (cpu_number cpu) halted steps pc }
+    ensures short { array_vec_len result < LINE_ROOM }
+{
+    let mut out = ArrayVec::new();
+    push_all(&mut out, b"cpu ");
+    push_byte(&mut out, cpu.number());
+    push_end(&mut out, halted);
+    push_all(&mut out, b" steps ");
+    push_decimal(&mut out, steps);
+    push_all(&mut out, b" pc ");
+    push_hex(&mut out, 16, pc);
+    out
+}
+
+/// The line of register `n` of a processor at the end.
+#[tactic(auto, unfolding(crate::specs::Lines::register_line))]
+pub fn write_register(cpu: Cpu, n: u8, value: u64) -> LineText
+    ensures text { result.items ≡ register_line (cpu_number cpu) n value }
+    ensures short { array_vec_len result < LINE_ROOM }
+{
+    let mut out = ArrayVec::new();
+    push_all(&mut out, b"reg ");
+    push_byte(&mut out, cpu.number());
+    push_all(&mut out, b" ");
+    push_byte(&mut out, n);
+    push_all(&mut out, b" ");
+    push_hex(&mut out, 16, value);
+    out
+}
+
+/// The line of the quadword of memory at `address` at the end.
+#[tactic(auto, unfolding(crate::specs::Lines::memory_line))]
+pub fn write_memory(address: u64, value: u64) -> LineText
+    requires { address < 2 ^ 32 }
+    ensures text { result.items ≡ memory_line address value }
+    ensures short { array_vec_len result < LINE_ROOM }
+{
+    let mut out = ArrayVec::new();
+    push_all(&mut out, b"mem ");
+    push_hex(&mut out, 8, address);
+    push_all(&mut out, b" ");
+    push_hex(&mut out, 16, value);
+    out
+}
+
+/// The line of a console that was sent no byte.
+#[tactic(auto, unfolding(crate::specs::Lines::console_line))]
+pub fn write_console() -> LineText
+    ensures text { result.items ≡ console_line }
+    ensures short { array_vec_len result < LINE_ROOM }
+{
+    let mut out = ArrayVec::new();
+    push_all(&mut out, b"console -");
+    out
+}
+
+/// The last line of a trace: the number of its events.
+#[tactic(auto, unfolding(crate::specs::Lines::end_line))]
+pub fn write_end(events: u32) -> LineText
+    ensures text { result.items ≡ end_line events }
+    ensures short { array_vec_len result < LINE_ROOM }
+{
+    let mut out = ArrayVec::new();
+    push_all(&mut out, b"end ");
+    push_decimal(&mut out, events);
+    out
+}
