@@ -1,11 +1,13 @@
 -- Digits, and the numbers that they give back.
 use Rattle.std.proofs.Common.{◌-◌, append-nil, suc, zero, ◌≡◌, ℕ, ◌+◌, ◌*◌, ◌/◌, ◌%◌, ◌^◌, ◌<◌, ◌≤◌, List, [], ◌∷◌, ◌++◌, length, refl, ap, ◌∙◌, sym, arith, add-one, append_assoc, ⊎_elim, get_or, drop, drop-cons}
-use Rattle.std.specs.Prelude.{decimal, Some}
-use Rattle.std.proofs.lemmas.Fmt.{length-decimal-le}
-use Rattle.std.proofs.lemmas.Nat.{pow-add, mod-pow-add, mod_below}
+use Rattle.std.specs.Prelude.{decimal, Some, true}
+use Rattle.std.specs.Str.{all_ascii_digits}
+use Rattle.std.proofs.lemmas.Str.Parse.{IsNumeralModel, numerals_by_fold, tells_all_ascii_digits}
+use Rattle.std.proofs.lemmas.Fmt.{length-decimal-le, digits_value-decimal}
+use Rattle.std.proofs.lemmas.Nat.{pow-add, mod-pow-add, mod_below, pow_pos}
 use Rattle.std.proofs.Math.Nat.{mod-eq_of_lt}
 use Rattle.std.proofs.Math.Pow.{pow_mono}
-use Rattle.std.proofs.lemmas.Bool.{cases_lt, lt-ltb, le-ltb}
+use Rattle.std.proofs.lemmas.Bool.{cases_lt, lt-ltb, le-ltb, le-leb}
 use Rattle.axp_trace.specs.Digits.{hex, hex_digit, hex_digit_value, hex_value_after, hex_value, decimal_value_after, number_of}
 
 pub short_decimal : (n : ℕ) → n < 2 ^ 32 → length (decimal n) ≤ 10
@@ -62,3 +64,30 @@ hex_value_after-hex (suc k) n acc =
 -- the digits of a number that they have room for give the number back
 pub hex_back : (k n : ℕ) → n < 2 ^ (4 * k) → hex_value (hex k n) ≡ n
 hex_back k n small = hex_value_after-hex k n 0 ∙ omega (arith, mod-eq_of_lt small)
+
+-- decimal digits are read from the left
+numbers : IsNumeralModel (λ ds. all_ascii_digits ds ≡ true) (decimal_value_after 0)
+numbers = numerals_by_fold _ tells_all_ascii_digits decimal_value_after (record { empty = λ n. refl; more = λ n c cs h. refl })
+
+pub decimal_back : (n : ℕ) → n < 2 ^ 32 → number_of (decimal n) ≡ Some n
+decimal_back n small =
+    rw (le-leb (length (decimal n)) 10 (short_decimal n small)) (ap Some (digits_value-decimal numbers n (omega arith)))
+
+-- one turn of the loop that reads digits
+pub number_turn : (xs : List ℕ) (i v d all : ℕ) → i < length xs → d ≡ get_or xs i 0 - 48 → decimal_value_after v (drop i xs) ≡ all → decimal_value_after (v * 10 + d) (drop (i + 1) xs) ≡ all
+number_turn xs i v d all within is h =
+    let cell : drop i xs ≡ get_or xs i 0 ∷ drop (suc i) xs = drop-cons xs i 0 within in
+    rw (add-one, is) (sym (ap (decimal_value_after v) cell) ∙ h)
+
+-- the number so far stays small
+pub number_fits : (v d i : ℕ) → v < 2 ^ (4 * i + 6) → d < 2 ^ 8 - 48 → v * 10 + d < 2 ^ (4 * (i + 1) + 6)
+number_fits v d i h k =
+    let e : 4 * (i + 1) + 6 ≡ 4 + (4 * i + 6) = omega arith in
+    let f : 4 * i + 6 ≡ 6 + 4 * i = omega arith in
+    let more : 2 ^ (6 + 4 * i) ≡ 2 ^ 6 * 2 ^ (4 * i) = pow-add 2 6 (4 * i) in
+    let pos = pow_pos (4 * i) in
+    let large : 64 * 2 ^ (4 * i) ≡ 2 ^ (4 * i + 6) = sym (ap (λ j. 2 ^ j) f ∙ more) in
+    rw (e, pow-add 2 4 (4 * i + 6)) (omega arith)
+
+pub number_room : (v i : ℕ) → v < 2 ^ (4 * i + 6) → i ≤ 10 → v < 2 ^ 46
+number_room v i h m = let up : 4 * i + 6 ≤ 46 = omega arith in omega (arith, pow_mono up)

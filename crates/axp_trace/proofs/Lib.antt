@@ -1,1 +1,3 @@
 pub mod DigitLemmas
+pub mod FileLemmas
+pub mod ReadingLemmas

@@ -1,6 +1,6 @@
 -- What a line of an event list means. A line is the text of an event, or of a header, if it is spelled just so: what
 -- its words would mean is guessed without regard to spelling, and the guess is spelled again and compared.
-use Rattle.std.specs.Prelude.{ℕ, ◌+◌, nat_le, nat_lt, ◌==◌, ◌&&◌, Bool, true, false, if◌then◌else◌, List, [], ◌∷◌, codes, Option, Some, None}
+use Rattle.std.specs.Prelude.{ℕ, ◌≤◌, ◌+◌, nat_le, nat_lt, ◌==◌, ◌&&◌, Bool, true, false, if◌then◌else◌, List, [], ◌∷◌, codes, Option, Some, None}
 use Rattle.std.specs.Str.{bytes_eq}
 use Rattle.std.specs.List.{slice_split}
 use Rattle.axp_base.specs.declared.processors.Cpu.{Cpu}
@@ -48,11 +48,11 @@ event_if cpus line (Some e) = if nat_lt (cpu_number e.cpu) cpus && bytes_eq (eve
 unfoldable pub event_of : ℕ → List ℕ → Option Event
 event_of cpus line = event_if cpus line (event_in (words_of line))
 
--- a machine has this many processors
+-- a machine may have this many processors
 abbrev pub is_cpus : ℕ → Bool
 is_cpus cpus = nat_le MIN_CPUS cpus && nat_le cpus MAX_CPUS
 
--- a list has at most this many events of a processor
+-- a list may have this many events of a processor at most
 abbrev pub is_budget : ℕ → Bool
 is_budget budget = nat_le 1 budget && nat_le budget MAX_BUDGET
 
@@ -74,3 +74,10 @@ header_if line (Some h) = if bytes_eq (events_header h.cpus h.budget) line then 
 -- the header that the first line of an event list spells
 unfoldable pub header_of : List ℕ → Option Header
 header_of line = header_if line (header_in (words_of line))
+
+-- the header's numbers are such as a machine may have
+pub record HasRange (h : Header) : Type 0 where
+  pub least_cpus : MIN_CPUS ≤ h.cpus
+  pub most_cpus : h.cpus ≤ MAX_CPUS
+  pub least_budget : 1 ≤ h.budget
+  pub most_budget : h.budget ≤ MAX_BUDGET

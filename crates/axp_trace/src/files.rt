@@ -3,22 +3,10 @@ ghost use Rattle.std.specs.List.{All};
 ghost use Rattle.axp_trace.specs.declared.files.TheConstants.{LINE_FEED};
 ghost use Rattle.axp_trace.specs.Files.{lines_of};
 
+use crate::cuts::cut;
+
 /// The byte that ends a line.
 pub const LINE_FEED: u8 = b'\n';
-
-/// Where the first line feed stands; the text's length where there is none.
-fn line_length(text: &[u8]) -> usize
-    ensures within { result ≤ length text.now }
-    ensures before { (k : ℕ) → k < result → slice_index text.now k ≢ LINE_FEED }
-    ensures found { result < length text.now → slice_index text.now result ≡ LINE_FEED }
-{
-    for (i, byte) in text.iter().enumerate() {
-        if *byte == LINE_FEED {
-            return i;
-        }
-    }
-    text.len()
-}
 
 /// The first line of a text without its line feed, and what follows it; `None` where no line ends.
 pub fn first_line(text: &[u8]) -> Option<(&[u8], &[u8])>
@@ -28,11 +16,7 @@ pub fn first_line(text: &[u8]) -> Option<(&[u8], &[u8])>
     ensures shorter { IfSome result (λ p. length p.1.now < length text.now) }
     ensures last { IsNone result → lines_of text.now ≡ (if length text.now == 0 then [] else None ∷ []) }
 {
-    let end = line_length(text);
-    if end == text.len() {
-        return None;
-    }
-    Some((&text[..end], &text[end + 1..]))
+    cut(text, LINE_FEED)
 }
 
 /// A line and its line feed, put before a text, are its first line.

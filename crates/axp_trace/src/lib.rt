@@ -2,14 +2,19 @@
 //! read, and a file as its lines.
 #![tactic(auto)]
 
+mod cuts;
 mod digits;
 mod files;
 mod lines;
 mod reading;
 
-pub use files::{LINE_FEED, first_line};
+pub use digits::{decimal_gives_back, hex_gives_back};
+pub use files::{LINE_FEED, first_line, lines_begin};
 pub use lines::{
     LINE_ROOM, LineText, write_console, write_end, write_event, write_header, write_memory,
     write_processor, write_register,
 };
-pub use reading::{Header, MAX_BUDGET, MIN_CPUS};
+pub use reading::{
+    Header, MAX_BUDGET, MIN_CPUS, events_are_their_texts, headers_are_their_texts, read_event,
+    read_header,
+};
