@@ -132,6 +132,7 @@ header_back h r = ap (header_if (events_header h.cpus h.budget)) (header_in_back
 
 pub header_is_text : (line : List ℕ) (h : Header) → (header_of line ≡ Some h) ↔ ((line ≡ events_header h.cpus h.budget) × HasRange h)
 unfolding header_of
-header_is_text line h =
-    (λ e. let kept = kept_header line (header_in (words_of line)) h e in (kept.0, header_in_range (words_of line) h kept.1),
-    λ k. ap header_of k.0 ∙ header_back h k.1)
+header_is_text line h = (
+  λ e. let kept = kept_header line (header_in (words_of line)) h e in (kept.0, header_in_range (words_of line) h kept.1),
+  λ k. ap header_of k.0 ∙ header_back h k.1,
+)

@@ -1,5 +1,6 @@
 -- Numbers as digits, and digits as numbers.
 use Rattle.std.specs.Prelude.{ℕ, suc, zero, ◌+◌, ◌-◌, ◌*◌, ◌/◌, ◌%◌, ◌^◌, nat_lt, nat_le, if◌then◌else◌, List, [], ◌∷◌, length, Option, Some, None}
+use Rattle.axp_trace.specs.declared.digits.TheConstants.{MOST_DIGITS}
 
 -- one hexadecimal digit, in upper case
 abbrev pub hex_digit : ℕ → ℕ
@@ -27,6 +28,6 @@ abbrev pub decimal_value_after : ℕ → List ℕ → ℕ
 decimal_value_after acc [] = acc
 decimal_value_after acc (c ∷ cs) = decimal_value_after (acc * 10 + (c - 48)) cs
 
--- the number that a word stands for if its bytes are decimal digits; no number of a line has more than ten
+-- the number that a word stands for if its bytes are decimal digits; none for more bytes than a number of a line has
 abbrev pub number_of : List ℕ → Option ℕ
-number_of word = if nat_le (length word) 10 then Some (decimal_value_after 0 word) else None
+number_of word = if nat_le (length word) MOST_DIGITS then Some (decimal_value_after 0 word) else None

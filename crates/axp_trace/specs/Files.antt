@@ -1,6 +1,11 @@
 -- A file as its lines.
-use Rattle.std.specs.Prelude.{ℕ, ◌==◌, if◌then◌else◌, List, [], ◌∷◌, Option, Some, None}
+use Rattle.std.specs.Prelude.{ℕ, ◌==◌, ◌≢◌, if◌then◌else◌, List, [], ◌∷◌, Option, Some, None}
+use Rattle.std.specs.List.{All}
 use Rattle.axp_trace.specs.declared.files.TheConstants.{LINE_FEED}
+
+-- these bytes are part of one line
+abbrev pub IsOneLine : List ℕ → Type 0
+IsOneLine bytes = All (λ b. b ≢ LINE_FEED) bytes
 
 -- the lines of what follows a byte of a line, with that byte
 abbrev pub longer : ℕ → List (Option (List ℕ)) → List (Option (List ℕ))

@@ -1,12 +1,11 @@
-ghost use Rattle.std.specs.Prelude.{ℕ, ◌≡◌, ◌+◌, ◌*◌, ◌^◌, ◌≤◌, ◌<◌, ◌++◌, length, decimal, None, Some, IsNone, ◌↔◌};
-ghost use Rattle.std.specs.Option.{option_map};
+ghost use Rattle.std.specs.Prelude.{ℕ, ◌≡◌, ◌+◌, ◌*◌, ◌^◌, ◌≤◌, ◌<◌, ◌++◌, length, decimal, Some};
 ghost use Rattle.arrayvec.specs.ArrayVec.{array_vec_len};
-ghost use Rattle.axp_trace.specs.Digits.{hex, hex_digit, hex_value, decimal_value_after, number_of};
+ghost use Rattle.axp_trace.specs.Digits.{hex, hex_digit, hex_value, number_of};
 ghost use Rattle.axp_trace.specs.declared.lines.TheConstants.{LINE_ROOM};
-
-use itoa::Buffer;
+ghost use Rattle.axp_trace.specs.declared.digits.TheConstants.{MOST_DIGITS};
 
 use crate::{LINE_ROOM, LineText};
+use itoa::Buffer;
 
 /// The most digits of a number below 2 ^ 32.
 const MOST_DIGITS: usize = 10;
@@ -23,9 +22,9 @@ pub(crate) fn push_all(out: &mut LineText, bytes: &[u8])
 /// Appends a number in decimal.
 #[tactic(auto, using(crate::proofs::DigitLemmas::short_decimal))]
 pub(crate) fn push_decimal(out: &mut LineText, n: u32)
-    requires { array_vec_len out.old + 10 ≤ LINE_ROOM }
+    requires { array_vec_len out.old + MOST_DIGITS ≤ LINE_ROOM }
     ensures text { out.new.items ≡ out.old.items ++ decimal n }
-    ensures len { array_vec_len out.new ≤ array_vec_len out.old + 10 }
+    ensures len { array_vec_len out.new ≤ array_vec_len out.old + MOST_DIGITS }
 {
     let mut buffer = Buffer::new();
     push_all(out, buffer.format(n).as_bytes());
@@ -62,7 +61,8 @@ pub(crate) fn push_hex(out: &mut LineText, digits: u8, n: u64)
     }
 }
 
-/// The number that a word of at most ten bytes stands for if they are decimal digits.
+/// The number that a word stands for if its bytes are decimal digits; `None` where it has more than
+/// [`MOST_DIGITS`].
 pub(crate) fn read_number(word: &[u8]) -> Option<u64>
     ensures { result ≡ number_of word.now }
 {
@@ -76,9 +76,10 @@ pub(crate) fn read_number(word: &[u8]) -> Option<u64>
     Some(value)
 }
 
-/// Hexadecimal digits give their number back.
+/// Hexadecimal digits are as many as are asked for, and give their number back.
 pub fn hex_gives_back()
-    ensures { (k n : ℕ) → n < 2 ^ (4 * k) → hex_value (hex k n) ≡ n }
+    ensures width { (k n : ℕ) → length (hex k n) ≡ k }
+    ensures value { (k n : ℕ) → n < 2 ^ (4 * k) → hex_value (hex k n) ≡ n }
 {}
 
 /// A number below 2 ^ 32 in decimal gives itself back.

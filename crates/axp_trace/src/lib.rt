@@ -9,7 +9,7 @@ mod lines;
 mod reading;
 
 pub use digits::{decimal_gives_back, hex_gives_back};
-pub use files::{LINE_FEED, first_line, lines_begin};
+pub use files::{LINE_FEED, first_line, lines_are_whole, lines_begin};
 pub use lines::{
     LINE_ROOM, LineText, write_console, write_end, write_event, write_header, write_memory,
     write_processor, write_register,

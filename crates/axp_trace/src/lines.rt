@@ -5,11 +5,10 @@ ghost use Rattle.axp_base.specs.Cpus.{cpu_number};
 ghost use Rattle.axp_access.specs.Spelling.{Spells, IsSpelled, IsSizeOf, IsPlaceOf};
 ghost use Rattle.axp_trace.specs.Lines.{event_text, place_text, data_text, move_text, access_text, outcome_text, line_text, trace_header, end_text, processor_line, register_line, memory_line, console_line, end_line};
 
+use crate::digits::{push_all, push_byte, push_decimal, push_hex};
 use arrayvec::ArrayVec;
 use axp_access::{Access, Act, Event, Kind, Outcome, Place};
 use axp_base::Cpu;
-
-use crate::digits::{push_all, push_byte, push_decimal, push_hex};
 
 /// The most bytes of a line, its line feed among them.
 pub const LINE_ROOM: usize = 96;
@@ -220,4 +219,68 @@ pub fn write_end(events: u32) -> LineText
     push_all(&mut out, b"end ");
     push_decimal(&mut out, events);
     out
+}
+
+#[cfg(test)]
+mod tests {
+    use super::*;
+
+    fn access(cpu: Cpu, kind: Kind, size: u8, value: u64) -> Access
+        ensures { result ≡ record { cpu = cpu; kind = kind; address = 16384; size = size; value = value; place = At 1 } }
+    {
+        Access {
+            cpu,
+            kind,
+            address: 0x4000,
+            size,
+            value,
+            place: Place::At(1),
+        }
+    }
+
+    #[test]
+    fn lines_have_their_text(rt: HostRuntime) {
+        let cpu = Cpu::new(1).expect(&rt, "1 is a processor");
+        let event = Event {
+            cpu,
+            act: Act::Step,
+        };
+        let fetch = access(cpu, Kind::Fetch, 4, 0x47FF_041F);
+        let read = access(cpu, Kind::Read, 2, 0xBEEF);
+        let write = access(cpu, Kind::Write, 8, 1);
+        let lines: [(LineText, &[u8]); 11] = [
+            (
+                write_event(event, Outcome::Access(fetch)),
+                b"1 step : i 00004000 47FF041F @1",
+            ),
+            (
+                write_event(event, Outcome::Access(read)),
+                b"1 step : r 00004000 2 BEEF @1",
+            ),
+            (
+                write_event(event, Outcome::Access(write)),
+                b"1 step : w 00004000 8 0000000000000001 @1",
+            ),
+            (write_event(event, Outcome::NoAccess), b"1 step : n"),
+            (
+                write_header(2, 20, 65_536),
+                b"axp-trace 1 cpus 2 budget 20 memory 65536",
+            ),
+            (
+                write_processor(cpu, Some(1), 1, 0xFFFF_FC00_0000_0004),
+                b"cpu 1 halt 1 steps 1 pc FFFFFC0000000004",
+            ),
+            (
+                write_processor(cpu, None, 20, 0),
+                b"cpu 1 spent steps 20 pc 0000000000000000",
+            ),
+            (write_register(cpu, 16, 1), b"reg 1 16 0000000000000001"),
+            (write_memory(0x4000, 1), b"mem 00004000 0000000000000001"),
+            (write_console(), b"console -"),
+            (write_end(14), b"end 14"),
+        ];
+        for (line, text) in &lines {
+            assert!(rt; line.as_slice() == *text);
+        }
+    }
 }

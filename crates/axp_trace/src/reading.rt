@@ -7,14 +7,13 @@ ghost use Rattle.axp_trace.specs.Digits.{number_of};
 ghost use Rattle.axp_trace.specs.Lines.{event_text, events_header};
 ghost use Rattle.axp_trace.specs.Reading.{words_of, cpu_in, act_in, event_in, event_if, event_of, header_in, header_if, header_of, header_by, HasRange};
 
-use arrayvec::ArrayVec;
-use axp_access::{Act, Event};
-use axp_base::{Cpu, MAX_CPUS};
-
+use crate::LineText;
 use crate::cuts::cut;
 use crate::digits::{push_all, push_byte, push_decimal, read_number};
 use crate::lines::push_event;
-use crate::LineText;
+use arrayvec::ArrayVec;
+use axp_access::{Act, Event};
+use axp_base::{Cpu, MAX_CPUS};
 
 /// The least number of processors that a machine has.
 pub const MIN_CPUS: u8 = 2;
@@ -183,3 +182,46 @@ pub fn events_are_their_texts()
 pub fn headers_are_their_texts()
     ensures { (line : List ℕ) (h : Header) → (header_of line ≡ Some h) ↔ ((line ≡ events_header h.cpus h.budget) × HasRange h) }
 {}
+
+#[cfg(test)]
+mod tests {
+    use super::*;
+
+    #[test]
+    fn a_line_is_read_as_it_is_spelled(rt: HostRuntime) {
+        for (line, cpus, cpu) in [
+            ("0 step", 8, Some(0)),
+            ("7 step", 8, Some(7)),
+            ("8 step", 8, None),
+            ("2 step", 2, None),
+            ("00 step", 8, None),
+            (" 0 step", 8, None),
+            ("0  step", 8, None),
+            ("0 step ", 8, None),
+            ("0 stepx", 8, None),
+            ("0 fill", 8, None),
+            ("", 8, None),
+        ] {
+            let event = read_event(line.as_bytes(), cpus);
+            assert!(rt; event.map(|e| e.cpu.number()) == cpu, "at {line}");
+        }
+    }
+
+    #[test]
+    fn a_header_is_read_as_it_is_spelled(rt: HostRuntime) {
+        for (line, header) in [
+            ("axp-events 1 cpus 2 budget 20", Some((2, 20))),
+            ("axp-events 1 cpus 8 budget 32768", Some((8, 32_768))),
+            ("axp-events 1 cpus 1 budget 20", None),
+            ("axp-events 1 cpus 9 budget 20", None),
+            ("axp-events 1 cpus 2 budget 0", None),
+            ("axp-events 1 cpus 2 budget 32769", None),
+            ("axp-events 1 cpus 2 budget 020", None),
+            ("axp-events 2 cpus 2 budget 20", None),
+            ("axp-events 1 cpus 2 budget 20 ", None),
+        ] {
+            let read = read_header(line.as_bytes());
+            assert!(rt; read.map(|h| (h.cpus, h.budget)) == header, "at {line}");
+        }
+    }
+}
