@@ -1,11 +1,11 @@
 -- A line is read as an event, or a header, exactly where it is its text.
-use Rattle.std.proofs.Common.{◌≡◌, ◌≢◌, ℕ, ◌^◌, ◌<◌, ◌≤◌, ◌↔◌, nat_lt, nat_le, ◌&&◌, true, false, List, [], ◌∷◌, ◌++◌, codes, decimal, Option, Some, None, refl, sym, ap, ◌∙◌, arith, ⊎_elim, subst, append_assoc}
+use Rattle.std.proofs.Common.{◌≡◌, ◌≢◌, ℕ, ◌^◌, ◌<◌, ◌≤◌, ◌↔◌, nat_lt, nat_le, ◌&&◌, true, List, [], ◌∷◌, ◌++◌, codes, decimal, Option, Some, None, refl, sym, ap, ◌∙◌, arith, ⊎_elim, subst, append_assoc}
 use Rattle.std.specs.Str.{bytes_eq}
 use Rattle.std.specs.List.{All}
 use Rattle.std.proofs.lemmas.Bool.{cases_Bool, and_parts, and_from, le-leb, leb-true, lt-ltb, ltb-true}
 use Rattle.std.proofs.lemmas.List.Elements.{All-weaker}
 use Rattle.std.proofs.lemmas.Slice.Eq.{bytes_eq-Decides}
-use Rattle.axp_base.specs.Cpus.{cpu_number, cpu_of}
+use Rattle.axp_base.specs.Cpus.{cpu_number}
 use Rattle.axp_base.specs.declared.processors.TheConstants.{MAX_CPUS}
 use Rattle.axp_base.proofs.CpuLemmas.{cpu_of_number}
 use Rattle.axp_access.specs.declared.Act.{Act}

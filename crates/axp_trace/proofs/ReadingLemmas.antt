@@ -1,9 +1,9 @@
 -- The words of a line, and what they mean.
-use Rattle.std.proofs.Common.{◌≡◌, ◌≢◌, ℕ, ◌+◌, ◌<◌, ◌≤◌, ◌==◌, false, List, [], ◌∷◌, ◌++◌, length, map, Bor, refl, sym, ap, ◌∙◌, arith, append_assoc, ne_eqb, length-append, Some, None, Option, Ok, Err, Result}
+use Rattle.std.proofs.Common.{◌≡◌, ◌≢◌, ℕ, ◌+◌, ◌<◌, ◌==◌, false, List, [], ◌∷◌, ◌++◌, length, map, Bor, refl, sym, ap, ◌∙◌, arith, append_assoc, ne_eqb, length-append, Some, None, Option, Ok, Err, Result}
 use Rattle.std.specs.Result.{OkIff, result_ok}
 use Rattle.axp_base.specs.declared.processors.Cpu.{Cpu}
 use Rattle.axp_trace.specs.Digits.{number_of}
-use Rattle.std.specs.List.{All, slice_split}
+use Rattle.std.specs.List.{All}
 use Rattle.std.proofs.lemmas.List.{map-append, length-map}
 use Rattle.std.proofs.lemmas.List.Elements.{All-weaker}
 use Rattle.std.proofs.lemmas.List.Splits.{slice_split_at, slice_split_none, length-slice_split}

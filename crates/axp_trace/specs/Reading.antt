@@ -1,6 +1,6 @@
 -- What a line of an event list means. A line is the text of an event, or of a header, if it is spelled just so: what
 -- its words would mean is guessed without regard to spelling, and the guess is spelled again and compared.
-use Rattle.std.specs.Prelude.{ℕ, ◌≤◌, ◌+◌, nat_le, nat_lt, ◌==◌, ◌&&◌, Bool, true, false, if◌then◌else◌, List, [], ◌∷◌, codes, Option, Some, None}
+use Rattle.std.specs.Prelude.{ℕ, ◌≤◌, nat_le, nat_lt, ◌==◌, ◌&&◌, Bool, if◌then◌else◌, List, [], ◌∷◌, codes, Option, Some, None}
 use Rattle.std.specs.Str.{bytes_eq}
 use Rattle.std.specs.List.{slice_split}
 use Rattle.axp_base.specs.declared.processors.Cpu.{Cpu}

@@ -1,4 +1,4 @@
-ghost use Rattle.std.specs.Prelude.{◌≡◌, ◌+◌, ◌*◌, ◌^◌, ◌≤◌, ◌<◌, ◌++◌};
+ghost use Rattle.std.specs.Prelude.{◌≡◌, ◌+◌, ◌*◌, ◌%◌, ◌^◌, ◌≤◌, ◌<◌, ◌++◌};
 ghost use Rattle.arrayvec.specs.ArrayVec.{array_vec_len};
 ghost use Rattle.axp_base.specs.Masks.{IsSize};
 ghost use Rattle.axp_base.specs.Cpus.{cpu_number};
@@ -70,13 +70,13 @@ fn push_move(out: &mut LineText, access: &Access)
 }
 
 /// Appends where an access stands.
-fn push_place(out: &mut LineText, kind: Kind, place: Place)
+fn push_place(out: &mut LineText, access: &Access)
     requires room { array_vec_len out.old + 11 ≤ LINE_ROOM }
-    requires place { IsPlaceOf kind place }
-    ensures text { out.new.items ≡ out.old.items ++ place_text place }
+    requires place { IsPlaceOf access.now.kind access.now.place }
+    ensures text { out.new.items ≡ out.old.items ++ place_text access.now.place }
     ensures len { array_vec_len out.new ≤ array_vec_len out.old + 11 }
 {
-    match place {
+    match access.place {
         Place::At(turn) => {
             push_all(out, b"@");
             push_decimal(out, turn as u32);
@@ -84,26 +84,21 @@ fn push_place(out: &mut LineText, kind: Kind, place: Place)
     }
 }
 
-/// Appends what came of an event.
-#[tactic(auto, unfolding(crate::specs::Lines::outcome_text, crate::specs::Lines::access_text))]
-fn push_outcome(out: &mut LineText, event: Event, outcome: Outcome)
+/// Appends an access.
+#[tactic(auto, unfolding(crate::specs::Lines::access_text))]
+fn push_access(out: &mut LineText, access: &Access)
     requires room { array_vec_len out.old + 43 ≤ LINE_ROOM }
-    requires spells { Spells event outcome }
-    ensures text { out.new.items ≡ out.old.items ++ outcome_text outcome }
+    requires spelled { IsSpelled access.now }
+    ensures text { out.new.items ≡ out.old.items ++ access_text access.now }
     ensures len { array_vec_len out.new ≤ array_vec_len out.old + 43 }
 {
-    match outcome {
-        Outcome::Access(access) => {
-            push_move(out, &access);
-            push_all(out, b" ");
-            push_place(out, access.kind, access.place);
-        }
-        Outcome::NoAccess => push_all(out, b"n"),
-    }
+    push_move(out, access);
+    push_all(out, b" ");
+    push_place(out, access);
 }
 
 /// The line of an event and its outcome in a trace.
-#[tactic(auto, unfolding(crate::specs::Lines::line_text))]
+#[tactic(auto, unfolding(crate::specs::Lines::line_text, crate::specs::Lines::outcome_text))]
 pub fn write_event(event: Event, outcome: Outcome) -> LineText
     requires { Spells event outcome }
     ensures text { result.items ≡ line_text event outcome }
@@ -112,7 +107,10 @@ pub fn write_event(event: Event, outcome: Outcome) -> LineText
     let mut out = ArrayVec::new();
     push_event(&mut out, event);
     push_all(&mut out, b" : ");
-    push_outcome(&mut out, event, outcome);
+    match outcome {
+        Outcome::Access(access) => push_access(&mut out, &access),
+        Outcome::NoAccess => push_all(&mut out, b"n"),
+    }
     out
 }
 
@@ -225,41 +223,47 @@ pub fn write_end(events: u32) -> LineText
 mod tests {
     use super::*;
 
-    fn access(cpu: Cpu, kind: Kind, size: u8, value: u64) -> Access
-        ensures { result ≡ record { cpu = cpu; kind = kind; address = 16384; size = size; value = value; place = At 1 } }
+    // The line of a step that makes an access at address 0x4000 in turn 1.
+    fn accessed(cpu: Cpu, kind: Kind, size: u8, value: u64) -> LineText
+        requires size { IsSizeOf kind size }
+        requires aligned { 16384 % size ≡ 0 }
+        requires value { value < 2 ^ (8 * size) }
     {
-        Access {
+        let event = Event {
+            cpu,
+            act: Act::Step,
+        };
+        let access = Access {
             cpu,
             kind,
             address: 0x4000,
             size,
             value,
             place: Place::At(1),
-        }
+        };
+        write_event(event, Outcome::Access(access))
     }
 
     #[test]
     fn lines_have_their_text(rt: HostRuntime) {
-        let cpu = Cpu::new(1).expect(&rt, "1 is a processor");
+        let zero = Cpu::new(0).expect(&rt, "0 is a processor");
+        let one = Cpu::new(1).expect(&rt, "1 is a processor");
         let event = Event {
-            cpu,
+            cpu: one,
             act: Act::Step,
         };
-        let fetch = access(cpu, Kind::Fetch, 4, 0x47FF_041F);
-        let read = access(cpu, Kind::Read, 2, 0xBEEF);
-        let write = access(cpu, Kind::Write, 8, 1);
         let lines: [(LineText, &[u8]); 11] = [
             (
-                write_event(event, Outcome::Access(fetch)),
-                b"1 step : i 00004000 47FF041F @1",
+                accessed(zero, Kind::Fetch, 4, 0x47FF_041F),
+                b"0 step : i 00004000 47FF041F @1",
             ),
             (
-                write_event(event, Outcome::Access(read)),
-                b"1 step : r 00004000 2 BEEF @1",
+                accessed(zero, Kind::Read, 2, 0xBEEF),
+                b"0 step : r 00004000 2 BEEF @1",
             ),
             (
-                write_event(event, Outcome::Access(write)),
-                b"1 step : w 00004000 8 0000000000000001 @1",
+                accessed(zero, Kind::Write, 8, 1),
+                b"0 step : w 00004000 8 0000000000000001 @1",
             ),
             (write_event(event, Outcome::NoAccess), b"1 step : n"),
             (
@@ -267,14 +271,14 @@ mod tests {
                 b"axp-trace 1 cpus 2 budget 20 memory 65536",
             ),
             (
-                write_processor(cpu, Some(1), 1, 0xFFFF_FC00_0000_0004),
-                b"cpu 1 halt 1 steps 1 pc FFFFFC0000000004",
+                write_processor(zero, Some(1), 1, 0xFFFF_FC00_0000_0004),
+                b"cpu 0 halt 1 steps 1 pc FFFFFC0000000004",
             ),
             (
-                write_processor(cpu, None, 20, 0),
+                write_processor(one, None, 20, 0),
                 b"cpu 1 spent steps 20 pc 0000000000000000",
             ),
-            (write_register(cpu, 16, 1), b"reg 1 16 0000000000000001"),
+            (write_register(one, 16, 1), b"reg 1 16 0000000000000001"),
             (write_memory(0x4000, 1), b"mem 00004000 0000000000000001"),
             (write_console(), b"console -"),
             (write_end(14), b"end 14"),

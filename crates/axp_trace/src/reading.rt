@@ -46,7 +46,7 @@ fn words(line: &[u8]) -> Option<Words<'_>>
 {
     let mut words = ArrayVec::new();
     let mut rest = line;
-    for _turn in 0..MOST_WORDS {
+    for _taken in 0..MOST_WORDS {
         let Some((word, more)) = cut(rest, BLANK) else {
             words.push(rest);
             return Some(words);
@@ -103,8 +103,8 @@ fn guess_header(words: &[&[u8]]) -> Option<Header>
 fn header_in_range(cpus: u64, budget: u64) -> Option<Header>
     ensures { result ≡ header_by (Some cpus) (Some budget) }
 {
-    let is_cpus = cpus >= MIN_CPUS as u64 && cpus <= MAX_CPUS as u64;
-    let is_budget = budget >= 1 && budget <= MAX_BUDGET as u64;
+    let is_cpus = (MIN_CPUS as u64..=MAX_CPUS as u64).contains(&cpus);
+    let is_budget = (1..=MAX_BUDGET as u64).contains(&budget);
     if is_cpus && is_budget {
         Some(Header {
             cpus: cpus as u8,
