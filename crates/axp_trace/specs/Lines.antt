@@ -1,4 +1,4 @@
--- The lines of event lists and traces, as bytes without the line feed.
+-- The lines of event lists and traces, as bytes without the line feed. 32 is a blank.
 use Rattle.std.specs.Prelude.{ℕ, ◌*◌, List, [], ◌∷◌, ◌++◌, codes, decimal, Option, Some, None}
 use Rattle.axp_base.specs.Cpus.{cpu_number}
 use Rattle.axp_access.specs.declared.Access.{Access}
@@ -53,7 +53,7 @@ outcome_text outcome.NoAccess = codes "n"
 unfoldable pub line_text : Event → Outcome → List ℕ
 line_text e o = event_text e ++ codes " : " ++ outcome_text o
 
--- the first line of an event list: how many processors, and how many events at most
+-- the first line of an event list: how many processors, and how many steps each makes at most
 unfoldable pub events_header : ℕ → ℕ → List ℕ
 events_header cpus budget = codes "axp-events 1 cpus " ++ decimal cpus ++ codes " budget " ++ decimal budget
 

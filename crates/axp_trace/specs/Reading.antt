@@ -12,11 +12,11 @@ use Rattle.axp_access.specs.declared.Event.{Event}
 use Rattle.axp_trace.specs.Digits.{number_of}
 use Rattle.axp_trace.specs.Lines.{event_text, events_header}
 use Rattle.axp_trace.specs.declared.reading.Header.{Header}
-use Rattle.axp_trace.specs.declared.reading.TheConstants.{MIN_CPUS, MAX_BUDGET}
+use Rattle.axp_trace.specs.declared.reading.TheConstants.{MIN_CPUS, MAX_BUDGET, BLANK}
 
 -- the words of a line, cut at each blank
 abbrev pub words_of : List ℕ → List (List ℕ)
-words_of line = slice_split (λ b. b == 32) line
+words_of line = slice_split (λ b. b == BLANK) line
 
 -- the processor of a number
 abbrev pub cpu_in : Option ℕ → Option Cpu
@@ -29,6 +29,7 @@ act_in [] = None
 act_in (verb ∷ []) = if bytes_eq verb (codes "step") then Some Step else None
 act_in (verb ∷ other ∷ more) = None
 
+-- the event of both
 abbrev pub event_by : Option Cpu → Option Act → Option Event
 event_by None act = None
 event_by (Some cpu) None = None
@@ -52,10 +53,11 @@ event_of cpus line = event_if cpus line (event_in (words_of line))
 abbrev pub is_cpus : ℕ → Bool
 is_cpus cpus = nat_le MIN_CPUS cpus && nat_le cpus MAX_CPUS
 
--- a list may have this many events of a processor at most
+-- a run may allow each processor this many steps
 abbrev pub is_budget : ℕ → Bool
 is_budget budget = nat_le 1 budget && nat_le budget MAX_BUDGET
 
+-- the header of both, if they are in range
 abbrev pub header_by : Option ℕ → Option ℕ → Option Header
 header_by None budget = None
 header_by (Some cpus) None = None

@@ -114,7 +114,7 @@ pub fn write_event(event: Event, outcome: Outcome) -> LineText
     out
 }
 
-/// The first line of a trace: the number of processors, the events that each has at most, and the
+/// The first line of a trace: the number of processors, the steps that each makes at most, and the
 /// bytes of memory.
 #[tactic(auto, unfolding(crate::specs::Lines::trace_header))]
 pub fn write_header(cpus: u8, budget: u32, memory: u64) -> LineText

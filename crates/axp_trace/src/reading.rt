@@ -1,11 +1,9 @@
-ghost use Rattle.std.specs.Prelude.{ℕ, List, ◌≡◌, ◌≢◌, ◌+◌, ◌<◌, ◌≤◌, IsNone, IsSome, IfSome, Some, map, length, true, ◌↔◌};
-ghost use Rattle.std.specs.List.{All};
-ghost use Rattle.axp_base.specs.Cpus.{cpu_number, cpu_of};
-ghost use Rattle.axp_base.specs.declared.processors.TheConstants.{MAX_CPUS};
+ghost use Rattle.std.specs.Prelude.{ℕ, List, ◌≡◌, ◌<◌, IsNone, IfSome, Some, map, length, ◌↔◌};
+ghost use Rattle.axp_base.specs.Cpus.{cpu_number};
 ghost use Rattle.axp_access.specs.declared.Event.{Event};
 ghost use Rattle.axp_trace.specs.Digits.{number_of};
 ghost use Rattle.axp_trace.specs.Lines.{event_text, events_header};
-ghost use Rattle.axp_trace.specs.Reading.{words_of, cpu_in, act_in, event_in, event_if, event_of, header_in, header_if, header_of, header_by, HasRange};
+ghost use Rattle.axp_trace.specs.Reading.{words_of, cpu_in, act_in, event_in, event_of, header_in, header_of, header_by, HasRange};
 
 use crate::LineText;
 use crate::cuts::cut;
@@ -18,7 +16,7 @@ use axp_base::{Cpu, MAX_CPUS};
 /// The least number of processors that a machine has.
 pub const MIN_CPUS: u8 = 2;
 
-/// The greatest number of events of one processor in an event list.
+/// The greatest number of steps that a run allows each processor.
 pub const MAX_BUDGET: u32 = 32_768;
 
 /// The most words that a line has.
@@ -35,7 +33,7 @@ type Words<'a> = ArrayVec<&'a [u8], MOST_WORDS>;
 pub struct Header {
     /// The number of processors, [`MIN_CPUS`] to [`MAX_CPUS`].
     pub cpus: u8,
-    /// How many events each processor has at most, 1 to [`MAX_BUDGET`].
+    /// How many steps each processor makes at most, 1 to [`MAX_BUDGET`].
     pub budget: u32,
 }
 
