@@ -1,0 +1,5 @@
+pub mod DigitLemmas
+pub mod FileLemmas
+pub mod LineLemmas
+pub mod ReadBackLemmas
+pub mod ReadingLemmas

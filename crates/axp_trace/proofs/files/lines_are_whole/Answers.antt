@@ -1,0 +1,5 @@
+use Rattle.axp_trace.proofs.LineLemmas.{whole_event, whole_line, whole_events_header, whole_trace_header, whole_processor, whole_register, whole_memory, whole_console, whole_end}
+use Rattle.axp_trace.proofs.files.lines_are_whole.Goals as goal
+
+pub returns : goal.returns
+returns c = record { event = whole_event; line = whole_line; events_header = whole_events_header; trace_header = whole_trace_header; processor = whole_processor; register = whole_register; memory = whole_memory; console = whole_console; end = whole_end }

@@ -1,0 +1,33 @@
+-- Numbers as digits, and digits as numbers.
+use Rattle.std.specs.Prelude.{ℕ, suc, zero, ◌+◌, ◌-◌, ◌*◌, ◌/◌, ◌%◌, ◌^◌, nat_lt, nat_le, if◌then◌else◌, List, [], ◌∷◌, length, Option, Some, None}
+use Rattle.axp_trace.specs.declared.digits.TheConstants.{MOST_DIGITS}
+
+-- one hexadecimal digit, in upper case
+abbrev pub hex_digit : ℕ → ℕ
+hex_digit d = if nat_lt d 10 then 48 + d else 55 + d
+
+-- the lowest k hexadecimal digits of a number, the highest first
+unfoldable pub hex : ℕ → ℕ → List ℕ
+hex zero n = []
+hex (suc k) n = hex_digit (n / 2 ^ (4 * k) % 16) ∷ hex k n
+
+-- what a hexadecimal digit stands for
+abbrev pub hex_digit_value : ℕ → ℕ
+hex_digit_value c = if nat_lt c 65 then c - 48 else c - 55
+
+-- the number that hexadecimal digits stand for, where those before them stand for acc
+abbrev pub hex_value_after : ℕ → List ℕ → ℕ
+hex_value_after acc [] = acc
+hex_value_after acc (c ∷ cs) = hex_value_after (acc * 16 + hex_digit_value c) cs
+
+abbrev pub hex_value : List ℕ → ℕ
+hex_value cs = hex_value_after 0 cs
+
+-- the number that decimal digits stand for, where those before them stand for acc
+abbrev pub decimal_value_after : ℕ → List ℕ → ℕ
+decimal_value_after acc [] = acc
+decimal_value_after acc (c ∷ cs) = decimal_value_after (acc * 10 + (c - 48)) cs
+
+-- the number that a word stands for if its bytes are decimal digits; none for more bytes than a number of a line has
+abbrev pub number_of : List ℕ → Option ℕ
+number_of word = if nat_le (length word) MOST_DIGITS then Some (decimal_value_after 0 word) else None

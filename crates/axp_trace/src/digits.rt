@@ -1,0 +1,88 @@
+ghost use Rattle.std.specs.Prelude.{ℕ, ◌≡◌, ◌+◌, ◌*◌, ◌^◌, ◌≤◌, ◌<◌, ◌++◌, length, decimal, Some};
+ghost use Rattle.arrayvec.specs.ArrayVec.{array_vec_len};
+ghost use Rattle.axp_trace.specs.Digits.{hex, hex_digit, hex_value, number_of};
+ghost use Rattle.axp_trace.specs.declared.lines.TheConstants.{LINE_ROOM};
+ghost use Rattle.axp_trace.specs.declared.digits.TheConstants.{MOST_DIGITS};
+
+use crate::{LINE_ROOM, LineText};
+use itoa::Buffer;
+
+/// The most digits of a number below 2 ^ 32.
+const MOST_DIGITS: usize = 10;
+
+/// Appends bytes.
+pub(crate) fn push_all(out: &mut LineText, bytes: &[u8])
+    requires { array_vec_len out.old + length bytes.now ≤ LINE_ROOM }
+    ensures text { out.new.items ≡ out.old.items ++ bytes.now }
+    ensures len { array_vec_len out.new ≡ array_vec_len out.old + length bytes.now }
+{
+    out.try_extend_from_slice(bytes).unwrap();
+}
+
+/// Appends a number in decimal.
+#[tactic(auto, using(crate::proofs::DigitLemmas::short_decimal))]
+pub(crate) fn push_decimal(out: &mut LineText, n: u32)
+    requires { array_vec_len out.old + MOST_DIGITS ≤ LINE_ROOM }
+    ensures text { out.new.items ≡ out.old.items ++ decimal n }
+    ensures len { array_vec_len out.new ≤ array_vec_len out.old + MOST_DIGITS }
+{
+    let mut buffer = Buffer::new();
+    push_all(out, buffer.format(n).as_bytes());
+}
+
+/// Appends a number below 256 in decimal.
+#[tactic(auto, using(crate::proofs::DigitLemmas::short_byte))]
+pub(crate) fn push_byte(out: &mut LineText, n: u8)
+    requires { array_vec_len out.old + 3 ≤ LINE_ROOM }
+    ensures text { out.new.items ≡ out.old.items ++ decimal n }
+    ensures len { array_vec_len out.new ≤ array_vec_len out.old + 3 }
+{
+    let mut buffer = Buffer::new();
+    push_all(out, buffer.format(n).as_bytes());
+}
+
+/// One hexadecimal digit in upper case.
+fn digit(d: u8) -> u8
+    requires { d < 16 }
+    ensures { result ≡ hex_digit d }
+{
+    if d < 10 { b'0' + d } else { b'A' - 10 + d }
+}
+
+/// Appends the lowest hexadecimal digits of a number, the highest first.
+pub(crate) fn push_hex(out: &mut LineText, digits: u8, n: u64)
+    requires room { array_vec_len out.old + digits ≤ LINE_ROOM }
+    requires few { digits ≤ 16 }
+    ensures text { out.new.items ≡ out.old.items ++ hex digits n }
+    ensures len { array_vec_len out.new ≡ array_vec_len out.old + digits }
+{
+    for k in (0..digits).rev() {
+        out.push(digit(((n >> (4 * k)) % 16) as u8));
+    }
+}
+
+/// The number that a word stands for if its bytes are decimal digits; `None` where it has more than
+/// [`MOST_DIGITS`].
+pub(crate) fn read_number(word: &[u8]) -> Option<u64>
+    ensures { result ≡ number_of word.now }
+{
+    if word.len() > MOST_DIGITS {
+        return None;
+    }
+    let mut value: u64 = 0;
+    for byte in word {
+        value = value * 10 + byte.saturating_sub(b'0') as u64;
+    }
+    Some(value)
+}
+
+/// Hexadecimal digits are as many as are asked for, and give their number back.
+pub fn hex_gives_back()
+    ensures width { (k n : ℕ) → length (hex k n) ≡ k }
+    ensures value { (k n : ℕ) → n < 2 ^ (4 * k) → hex_value (hex k n) ≡ n }
+{}
+
+/// A number below 2 ^ 32 in decimal gives itself back.
+pub fn decimal_gives_back()
+    ensures { (n : ℕ) → n < 2 ^ 32 → number_of (decimal n) ≡ Some n }
+{}

@@ -1,0 +1,55 @@
+ghost use Rattle.std.specs.Prelude.{◌≡◌, ◌==◌, ◌<◌, ◌∷◌, ◌++◌, [], ℕ, List, None, Some, IsNone, IfSome, ◌↔◌, length, ◌^◌, Option, if◌then◌else◌};
+ghost use Rattle.axp_access.specs.Spelling.{Spells};
+ghost use Rattle.axp_access.specs.declared.Event.{Event};
+ghost use Rattle.axp_access.specs.declared.Outcome.{Outcome};
+ghost use Rattle.axp_trace.specs.Lines.{event_text, line_text, events_header, trace_header, processor_line, register_line, memory_line, console_line, end_line};
+ghost use Rattle.axp_trace.specs.declared.files.TheConstants.{LINE_FEED};
+ghost use Rattle.axp_trace.specs.Files.{lines_of, IsOneLine};
+
+use crate::cuts::cut;
+
+/// The byte that ends a line.
+pub const LINE_FEED: u8 = b'\n';
+
+/// The first line of a text without its line feed, and what follows it; `None` where no line ends.
+pub fn first_line(text: &[u8]) -> Option<(&[u8], &[u8])>
+    ensures none { IsNone result ↔ IsOneLine text.now }
+    ensures lines { IfSome result (λ p. lines_of text.now ≡ Some p.0.now ∷ lines_of p.1.now) }
+    ensures parted { IfSome result (λ p. text.now ≡ p.0.now ++ LINE_FEED ∷ p.1.now) }
+    ensures shorter { IfSome result (λ p. length p.1.now < length text.now) }
+    ensures last { IsNone result → lines_of text.now ≡ (if length text.now == 0 then [] else None ∷ []) }
+{
+    cut(text, LINE_FEED)
+}
+
+/// A line and its line feed, put before a text, are its first line.
+pub fn lines_begin()
+    ensures { (line rest : List ℕ) → IsOneLine line → lines_of (line ++ LINE_FEED ∷ rest) ≡ Some line ∷ lines_of rest }
+{}
+
+/// No line of an event list or a trace has a line feed in it.
+pub fn lines_are_whole()
+    ensures event { (e : Event) → IsOneLine (event_text e) }
+    ensures line { (e : Event) (o : Outcome) → Spells e o → IsOneLine (line_text e o) }
+    ensures events_header { (cpus budget : ℕ) → cpus < 2 ^ 64 → budget < 2 ^ 64 → IsOneLine (events_header cpus budget) }
+    ensures trace_header { (cpus budget memory : ℕ) → cpus < 2 ^ 64 → budget < 2 ^ 64 → memory < 2 ^ 64 → IsOneLine (trace_header cpus budget memory) }
+    ensures processor { (cpu : ℕ) (halted : Option ℕ) (steps pc : ℕ) → cpu < 2 ^ 64 → IfSome halted (λ code. code < 2 ^ 64) → steps < 2 ^ 64 → IsOneLine (processor_line cpu halted steps pc) }
+    ensures register { (cpu n value : ℕ) → cpu < 2 ^ 64 → n < 2 ^ 64 → IsOneLine (register_line cpu n value) }
+    ensures memory { (address value : ℕ) → IsOneLine (memory_line address value) }
+    ensures console { IsOneLine console_line }
+    ensures end { (events : ℕ) → events < 2 ^ 64 → IsOneLine (end_line events) }
+{}
+
+#[cfg(test)]
+mod tests {
+    use super::*;
+
+    #[test]
+    fn a_text_is_taken_line_by_line(rt: HostRuntime) {
+        let text: &[u8] = b"0 step\n1 st";
+        let (line, rest) = first_line(text).expect(&rt, "a line ends");
+        assert!(rt; line == b"0 step" as &[u8]);
+        assert!(rt; rest == b"1 st" as &[u8]);
+        assert!(rt; first_line(rest).is_none());
+    }
+}

@@ -1,0 +1,290 @@
+ghost use Rattle.std.specs.Prelude.{◌≡◌, ◌+◌, ◌*◌, ◌%◌, ◌^◌, ◌≤◌, ◌<◌, ◌++◌};
+ghost use Rattle.arrayvec.specs.ArrayVec.{array_vec_len};
+ghost use Rattle.axp_base.specs.Masks.{IsSize};
+ghost use Rattle.axp_base.specs.Cpus.{cpu_number};
+ghost use Rattle.axp_access.specs.Spelling.{Spells, IsSpelled, IsSizeOf, IsPlaceOf};
+ghost use Rattle.axp_trace.specs.Lines.{event_text, place_text, data_text, move_text, access_text, outcome_text, line_text, trace_header, end_text, processor_line, register_line, memory_line, console_line, end_line};
+
+use crate::digits::{push_all, push_byte, push_decimal, push_hex};
+use arrayvec::ArrayVec;
+use axp_access::{Access, Act, Event, Kind, Outcome, Place};
+use axp_base::Cpu;
+
+/// The most bytes of a line, its line feed among them.
+pub const LINE_ROOM: usize = 96;
+
+/// The text of one line.
+pub type LineText = ArrayVec<u8, LINE_ROOM>;
+
+/// Appends an event.
+#[tactic(auto, unfolding(crate::specs::Lines::event_text))]
+pub(crate) fn push_event(out: &mut LineText, event: Event)
+    requires { array_vec_len out.old + 8 ≤ LINE_ROOM }
+    ensures text { out.new.items ≡ out.old.items ++ event_text event }
+    ensures len { array_vec_len out.new ≤ array_vec_len out.old + 8 }
+{
+    push_byte(out, event.cpu.number());
+    match event.act {
+        Act::Step => push_all(out, b" step"),
+    }
+}
+
+/// Appends what an access of data moves.
+fn push_data(out: &mut LineText, access: &Access)
+    requires room { array_vec_len out.old + 29 ≤ LINE_ROOM }
+    requires size { IsSize access.now.size }
+    ensures text { out.new.items ≡ out.old.items ++ data_text access.now.address access.now.size access.now.value }
+    ensures len { array_vec_len out.new ≤ array_vec_len out.old + 29 }
+{
+    push_hex(out, 8, access.address);
+    push_all(out, b" ");
+    push_byte(out, access.size);
+    push_all(out, b" ");
+    push_hex(out, 2 * access.size, access.value);
+}
+
+/// Appends what an access moves.
+#[tactic(auto, unfolding(crate::specs::Lines::move_text))]
+fn push_move(out: &mut LineText, access: &Access)
+    requires room { array_vec_len out.old + 31 ≤ LINE_ROOM }
+    requires size { IsSizeOf access.now.kind access.now.size }
+    ensures text { out.new.items ≡ out.old.items ++ move_text access.now.kind access.now.address access.now.size access.now.value }
+    ensures len { array_vec_len out.new ≤ array_vec_len out.old + 31 }
+{
+    match access.kind {
+        Kind::Fetch => {
+            push_all(out, b"i ");
+            push_hex(out, 8, access.address);
+            push_all(out, b" ");
+            push_hex(out, 8, access.value);
+        }
+        Kind::Read => {
+            push_all(out, b"r ");
+            push_data(out, access);
+        }
+        Kind::Write => {
+            push_all(out, b"w ");
+            push_data(out, access);
+        }
+    }
+}
+
+/// Appends where an access stands.
+fn push_place(out: &mut LineText, access: &Access)
+    requires room { array_vec_len out.old + 11 ≤ LINE_ROOM }
+    requires place { IsPlaceOf access.now.kind access.now.place }
+    ensures text { out.new.items ≡ out.old.items ++ place_text access.now.place }
+    ensures len { array_vec_len out.new ≤ array_vec_len out.old + 11 }
+{
+    match access.place {
+        Place::At(turn) => {
+            push_all(out, b"@");
+            push_decimal(out, turn as u32);
+        }
+    }
+}
+
+/// Appends an access.
+#[tactic(auto, unfolding(crate::specs::Lines::access_text))]
+fn push_access(out: &mut LineText, access: &Access)
+    requires room { array_vec_len out.old + 43 ≤ LINE_ROOM }
+    requires spelled { IsSpelled access.now }
+    ensures text { out.new.items ≡ out.old.items ++ access_text access.now }
+    ensures len { array_vec_len out.new ≤ array_vec_len out.old + 43 }
+{
+    push_move(out, access);
+    push_all(out, b" ");
+    push_place(out, access);
+}
+
+/// The line of an event and its outcome in a trace.
+#[tactic(auto, unfolding(crate::specs::Lines::line_text, crate::specs::Lines::outcome_text))]
+pub fn write_event(event: Event, outcome: Outcome) -> LineText
+    requires { Spells event outcome }
+    ensures text { result.items ≡ line_text event outcome }
+    ensures short { array_vec_len result ≤ 64 }
+{
+    let mut out = ArrayVec::new();
+    push_event(&mut out, event);
+    push_all(&mut out, b" : ");
+    match outcome {
+        Outcome::Access(access) => push_access(&mut out, &access),
+        Outcome::NoAccess => push_all(&mut out, b"n"),
+    }
+    out
+}
+
+/// The first line of a trace: the number of processors, the steps that each makes at most, and the
+/// bytes of memory.
+#[tactic(auto, unfolding(crate::specs::Lines::trace_header))]
+pub fn write_header(cpus: u8, budget: u32, memory: u64) -> LineText
+    requires { memory < 2 ^ 32 }
+    ensures text { result.items ≡ trace_header cpus budget memory }
+    ensures short { array_vec_len result < LINE_ROOM }
+{
+    let mut out = ArrayVec::new();
+    push_all(&mut out, b"axp-trace 1 cpus ");
+    push_byte(&mut out, cpus);
+    push_all(&mut out, b" budget ");
+    push_decimal(&mut out, budget);
+    push_all(&mut out, b" memory ");
+    push_decimal(&mut out, memory as u32);
+    out
+}
+
+/// Appends how a processor ended.
+fn push_end(out: &mut LineText, halted: Option<u8>)
+    requires { array_vec_len out.old + 9 ≤ LINE_ROOM }
+    ensures text { out.new.items ≡ out.old.items ++ end_text halted }
+    ensures len { array_vec_len out.new ≤ array_vec_len out.old + 9 }
+{
+    match halted {
+        Some(code) => {
+            push_all(out, b" halt ");
+            push_byte(out, code);
+        }
+        None => push_all(out, b" spent"),
+    }
+}
+
+/// The line of a processor at the end: the code with which it halted, or none where its budget is
+/// spent, the number of its steps, and its program counter.
+#[tactic(auto, unfolding(crate::specs::Lines::processor_line))]
+pub fn write_processor(cpu: Cpu, halted: Option<u8>, steps: u32, pc: u64) -> LineText
+    ensures text { result.items ≡ processor_line (cpu_number cpu) halted steps pc }
+    ensures short { array_vec_len result < LINE_ROOM }
+{
+    let mut out = ArrayVec::new();
+    push_all(&mut out, b"cpu ");
+    push_byte(&mut out, cpu.number());
+    push_end(&mut out, halted);
+    push_all(&mut out, b" steps ");
+    push_decimal(&mut out, steps);
+    push_all(&mut out, b" pc ");
+    push_hex(&mut out, 16, pc);
+    out
+}
+
+/// The line of register `n` of a processor at the end.
+#[tactic(auto, unfolding(crate::specs::Lines::register_line))]
+pub fn write_register(cpu: Cpu, n: u8, value: u64) -> LineText
+    ensures text { result.items ≡ register_line (cpu_number cpu) n value }
+    ensures short { array_vec_len result < LINE_ROOM }
+{
+    let mut out = ArrayVec::new();
+    push_all(&mut out, b"reg ");
+    push_byte(&mut out, cpu.number());
+    push_all(&mut out, b" ");
+    push_byte(&mut out, n);
+    push_all(&mut out, b" ");
+    push_hex(&mut out, 16, value);
+    out
+}
+
+/// The line of the quadword of memory at `address` at the end.
+#[tactic(auto, unfolding(crate::specs::Lines::memory_line))]
+pub fn write_memory(address: u64, value: u64) -> LineText
+    requires { address < 2 ^ 32 }
+    ensures text { result.items ≡ memory_line address value }
+    ensures short { array_vec_len result < LINE_ROOM }
+{
+    let mut out = ArrayVec::new();
+    push_all(&mut out, b"mem ");
+    push_hex(&mut out, 8, address);
+    push_all(&mut out, b" ");
+    push_hex(&mut out, 16, value);
+    out
+}
+
+/// The line of a console that was sent no byte.
+#[tactic(auto, unfolding(crate::specs::Lines::console_line))]
+pub fn write_console() -> LineText
+    ensures text { result.items ≡ console_line }
+    ensures short { array_vec_len result < LINE_ROOM }
+{
+    let mut out = ArrayVec::new();
+    push_all(&mut out, b"console -");
+    out
+}
+
+/// The last line of a trace: the number of its events.
+#[tactic(auto, unfolding(crate::specs::Lines::end_line))]
+pub fn write_end(events: u32) -> LineText
+    ensures text { result.items ≡ end_line events }
+    ensures short { array_vec_len result < LINE_ROOM }
+{
+    let mut out = ArrayVec::new();
+    push_all(&mut out, b"end ");
+    push_decimal(&mut out, events);
+    out
+}
+
+#[cfg(test)]
+mod tests {
+    use super::*;
+
+    // The line of a step that makes an access at address 0x4000 in turn 1.
+    fn accessed(cpu: Cpu, kind: Kind, size: u8, value: u64) -> LineText
+        requires size { IsSizeOf kind size }
+        requires aligned { 16384 % size ≡ 0 }
+        requires value { value < 2 ^ (8 * size) }
+    {
+        let event = Event {
+            cpu,
+            act: Act::Step,
+        };
+        let access = Access {
+            cpu,
+            kind,
+            address: 0x4000,
+            size,
+            value,
+            place: Place::At(1),
+        };
+        write_event(event, Outcome::Access(access))
+    }
+
+    #[test]
+    fn lines_have_their_text(rt: HostRuntime) {
+        let zero = Cpu::new(0).expect(&rt, "0 is a processor");
+        let one = Cpu::new(1).expect(&rt, "1 is a processor");
+        let event = Event {
+            cpu: one,
+            act: Act::Step,
+        };
+        let lines: [(LineText, &[u8]); 11] = [
+            (
+                accessed(zero, Kind::Fetch, 4, 0x47FF_041F),
+                b"0 step : i 00004000 47FF041F @1",
+            ),
+            (
+                accessed(zero, Kind::Read, 2, 0xBEEF),
+                b"0 step : r 00004000 2 BEEF @1",
+            ),
+            (
+                accessed(zero, Kind::Write, 8, 1),
+                b"0 step : w 00004000 8 0000000000000001 @1",
+            ),
+            (write_event(event, Outcome::NoAccess), b"1 step : n"),
+            (
+                write_header(2, 20, 65_536),
+                b"axp-trace 1 cpus 2 budget 20 memory 65536",
+            ),
+            (
+                write_processor(zero, Some(1), 1, 0xFFFF_FC00_0000_0004),
+                b"cpu 0 halt 1 steps 1 pc FFFFFC0000000004",
+            ),
+            (
+                write_processor(one, None, 20, 0),
+                b"cpu 1 spent steps 20 pc 0000000000000000",
+            ),
+            (write_register(one, 16, 1), b"reg 1 16 0000000000000001"),
+            (write_memory(0x4000, 1), b"mem 00004000 0000000000000001"),
+            (write_console(), b"console -"),
+            (write_end(14), b"end 14"),
+        ];
+        for (line, text) in &lines {
+            assert!(rt; line.as_slice() == *text);
+        }
+    }
+}

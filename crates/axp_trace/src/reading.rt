@@ -1,0 +1,225 @@
+ghost use Rattle.std.specs.Prelude.{ℕ, List, ◌≡◌, ◌<◌, IsNone, IfSome, Some, map, length, ◌↔◌};
+ghost use Rattle.axp_base.specs.Cpus.{cpu_number};
+ghost use Rattle.axp_access.specs.declared.Event.{Event};
+ghost use Rattle.axp_trace.specs.Digits.{number_of};
+ghost use Rattle.axp_trace.specs.Lines.{event_text, events_header};
+ghost use Rattle.axp_trace.specs.Reading.{words_of, cpu_in, act_in, event_in, event_of, header_in, header_of, header_by, HasRange};
+
+use crate::LineText;
+use crate::cuts::cut;
+use crate::digits::{push_all, push_byte, push_decimal, read_number};
+use crate::lines::push_event;
+use arrayvec::ArrayVec;
+use axp_access::{Act, Event};
+use axp_base::{Cpu, MAX_CPUS};
+
+/// The least number of processors that a machine has.
+pub const MIN_CPUS: u8 = 2;
+
+/// The greatest number of steps that a run allows each processor.
+pub const MAX_BUDGET: u32 = 32_768;
+
+/// The most words that a line has.
+const MOST_WORDS: usize = 8;
+
+/// The byte between two words.
+const BLANK: u8 = b' ';
+
+/// The words of a line.
+type Words<'a> = ArrayVec<&'a [u8], MOST_WORDS>;
+
+/// What the first line of an event list says.
+#[derive(Clone, Copy, Debug, PartialEq, Eq)]
+pub struct Header {
+    /// The number of processors, [`MIN_CPUS`] to [`MAX_CPUS`].
+    pub cpus: u8,
+    /// How many steps each processor makes at most, 1 to [`MAX_BUDGET`].
+    pub budget: u32,
+}
+
+/// The words of a line, cut at each blank; `None` where it has more than any line has.
+fn words(line: &[u8]) -> Option<Words<'_>>
+    ensures value { IfSome result (λ w. map (λ x. x.now) w.items ≡ words_of line.now) }
+    ensures none { IsNone result → MOST_WORDS < length (words_of line.now) }
+{
+    let mut words = ArrayVec::new();
+    let mut rest = line;
+    for _taken in 0..MOST_WORDS {
+        let Some((word, more)) = cut(rest, BLANK) else {
+            words.push(rest);
+            return Some(words);
+        };
+        words.push(word);
+        rest = more;
+    }
+    None
+}
+
+/// The processor that a word names.
+fn guess_cpu(word: &[u8]) -> Option<Cpu>
+    ensures { result ≡ cpu_in (number_of word.now) }
+{
+    let number = u8::try_from(read_number(word)?).ok()?;
+    Cpu::new(number)
+}
+
+/// What the words of an act mean.
+fn guess_act(words: &[&[u8]]) -> Option<Act>
+    ensures { result ≡ act_in (map (λ w. w.now) words.now) }
+{
+    match words {
+        [verb] if *verb == b"step" as &[u8] => Some(Act::Step),
+        _ => None,
+    }
+}
+
+/// What the words of an event mean.
+fn guess_event(words: &[&[u8]]) -> Option<Event>
+    ensures { result ≡ event_in (map (λ w. w.now) words.now) }
+{
+    let [cpu, act @ ..] = words else {
+        return None;
+    };
+    let cpu = guess_cpu(cpu)?;
+    let act = guess_act(act)?;
+    Some(Event { cpu, act })
+}
+
+/// What the words of a header mean.
+fn guess_header(words: &[&[u8]]) -> Option<Header>
+    ensures { result ≡ header_in (map (λ w. w.now) words.now) }
+{
+    let [_, _, _, cpus, _, budget] = words else {
+        return None;
+    };
+    let cpus = read_number(cpus)?;
+    let budget = read_number(budget)?;
+    header_in_range(cpus, budget)
+}
+
+/// The header of these numbers, if a machine may have them.
+fn header_in_range(cpus: u64, budget: u64) -> Option<Header>
+    ensures { result ≡ header_by (Some cpus) (Some budget) }
+{
+    let is_cpus = (MIN_CPUS as u64..=MAX_CPUS as u64).contains(&cpus);
+    let is_budget = (1..=MAX_BUDGET as u64).contains(&budget);
+    if is_cpus && is_budget {
+        Some(Header {
+            cpus: cpus as u8,
+            budget: budget as u32,
+        })
+    } else {
+        None
+    }
+}
+
+/// The text of an event.
+fn event_line(event: Event) -> LineText
+    ensures { result.items ≡ event_text event }
+{
+    let mut out = ArrayVec::new();
+    push_event(&mut out, event);
+    out
+}
+
+/// The first line of an event list with this header.
+#[tactic(auto, unfolding(crate::specs::Lines::events_header))]
+fn header_line(header: Header) -> LineText
+    ensures { result.items ≡ events_header header.cpus header.budget }
+{
+    let mut out = ArrayVec::new();
+    push_all(&mut out, b"axp-events 1 cpus ");
+    push_byte(&mut out, header.cpus);
+    push_all(&mut out, b" budget ");
+    push_decimal(&mut out, header.budget);
+    out
+}
+
+/// The event that a line spells, in a list for this many processors; `None` where the line is the
+/// text of no event of one of them.
+#[tactic(auto, unfolding(crate::specs::Reading::event_of), using(crate::proofs::ReadingLemmas::event_in_long))]
+pub fn read_event(line: &[u8], cpus: u8) -> Option<Event>
+    ensures value { result ≡ event_of cpus line.now }
+    ensures spelled { IfSome result (λ e. line.now ≡ event_text e) }
+    ensures below { IfSome result (λ e. cpu_number e.cpu < cpus) }
+{
+    let words = words(line)?;
+    let event = guess_event(words.as_slice())?;
+    if event.cpu.number() < cpus && event_line(event).as_slice() == line {
+        Some(event)
+    } else {
+        None
+    }
+}
+
+/// The header that the first line of an event list spells; `None` where the line is the text of no
+/// header with such numbers.
+#[tactic(auto, unfolding(crate::specs::Reading::header_of), using(crate::proofs::ReadingLemmas::header_in_long))]
+pub fn read_header(line: &[u8]) -> Option<Header>
+    ensures value { result ≡ header_of line.now }
+    ensures spelled { IfSome result (λ h. line.now ≡ events_header h.cpus h.budget) }
+    ensures in_range { IfSome result HasRange }
+{
+    let words = words(line)?;
+    let header = guess_header(words.as_slice())?;
+    if header_line(header).as_slice() == line {
+        Some(header)
+    } else {
+        None
+    }
+}
+
+/// A line is read as an event exactly where it is the event's text and the event's processor is
+/// below the count.
+pub fn events_are_their_texts()
+    ensures { (cpus : ℕ) (line : List ℕ) (e : Event) → (event_of cpus line ≡ Some e) ↔ ((line ≡ event_text e) × (cpu_number e.cpu < cpus)) }
+{}
+
+/// A line is read as a header exactly where it is the header's text and the header's numbers are in
+/// range.
+pub fn headers_are_their_texts()
+    ensures { (line : List ℕ) (h : Header) → (header_of line ≡ Some h) ↔ ((line ≡ events_header h.cpus h.budget) × HasRange h) }
+{}
+
+#[cfg(test)]
+mod tests {
+    use super::*;
+
+    #[test]
+    fn a_line_is_read_as_it_is_spelled(rt: HostRuntime) {
+        for (line, cpus, cpu) in [
+            ("0 step", 8, Some(0)),
+            ("7 step", 8, Some(7)),
+            ("8 step", 8, None),
+            ("2 step", 2, None),
+            ("00 step", 8, None),
+            (" 0 step", 8, None),
+            ("0  step", 8, None),
+            ("0 step ", 8, None),
+            ("0 stepx", 8, None),
+            ("0 fill", 8, None),
+            ("", 8, None),
+        ] {
+            let event = read_event(line.as_bytes(), cpus);
+            assert!(rt; event.map(|e| e.cpu.number()) == cpu, "at {line}");
+        }
+    }
+
+    #[test]
+    fn a_header_is_read_as_it_is_spelled(rt: HostRuntime) {
+        for (line, header) in [
+            ("axp-events 1 cpus 2 budget 20", Some((2, 20))),
+            ("axp-events 1 cpus 8 budget 32768", Some((8, 32_768))),
+            ("axp-events 1 cpus 1 budget 20", None),
+            ("axp-events 1 cpus 9 budget 20", None),
+            ("axp-events 1 cpus 2 budget 0", None),
+            ("axp-events 1 cpus 2 budget 32769", None),
+            ("axp-events 1 cpus 2 budget 020", None),
+            ("axp-events 2 cpus 2 budget 20", None),
+            ("axp-events 1 cpus 2 budget 20 ", None),
+        ] {
+            let read = read_header(line.as_bytes());
+            assert!(rt; read.map(|h| (h.cpus, h.budget)) == header, "at {line}");
+        }
+    }
+}
