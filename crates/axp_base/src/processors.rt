@@ -1,4 +1,4 @@
-ghost use Rattle.std.specs.Prelude.{◌≡◌, ◌<◌, ◌≤◌, ◌↔◌, nat_lt, true, IsNone};
+ghost use Rattle.std.specs.Prelude.{◌≡◌, ◌<◌, ◌≤◌, ◌↔◌, nat_lt, true, IsNone, IsSome, IfSome};
 ghost use Rattle.axp_base.specs.declared.processors.TheConstants.{MAX_CPUS};
 
 /// The greatest number of processors that a machine has.
@@ -24,6 +24,8 @@ impl Cpu {
     pub fn new(n: u8) -> Option<Cpu>
         ensures value { result ≡ cpu_of n }
         ensures none { IsNone result ↔ (MAX_CPUS ≤ n) }
+        ensures some { n < MAX_CPUS → IsSome result }
+        ensures number { IfSome result (λ c. cpu_number c ≡ n) }
     {
         if n < MAX_CPUS {
             Some(Cpu { number: n })

@@ -3,3 +3,4 @@ pub mod Valid
 pub mod Places
 pub mod Spelled
 pub mod Again
+pub mod Placed

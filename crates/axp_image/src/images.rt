@@ -1,7 +1,8 @@
-ghost use Rattle.std.specs.Prelude.{◌≡◌, ◌<◌, Some, length, slice_get, slice_index};
+ghost use Rattle.std.specs.Prelude.{◌≡◌, ◌+◌, ◌<◌, ◌≤◌, Some, length, slice_get, slice_index, IfOk, OnOk};
 ghost use Rattle.axp_image.specs.Contents.{IsValid, byte_in, contents, covers, segment_of};
 
-use axp_base::Bytes;
+use axp_base::{Bytes, NoMemory};
+use std::alloc::Global;
 use std::marker::Model;
 
 /// Bytes that stand in memory from an address on.
@@ -25,6 +26,17 @@ impl Segment {
         ensures { result ≡ segment_of address bytes }
     {
         Segment { address, bytes }
+    }
+
+    /// A copy of the segment.
+    fn copy(&self, alloc: Global) -> Result<Segment, NoMemory>
+        ensures { IfOk result (λ segment. segment ≡ self.now) }
+    {
+        let bytes = Bytes::copy(alloc, self.bytes.as_slice())?;
+        Ok(Segment {
+            address: self.address,
+            bytes,
+        })
     }
 
     /// The address of the first byte.
@@ -93,6 +105,24 @@ impl Image {
         }
     }
 
+    /// A copy of the image.
+    pub fn copy(&self, alloc: Global) -> Result<Image, NoMemory>
+        ensures value { IfOk result (λ image. image ≡ self.now) }
+        ensures valid { OnOk result (IsValid self.now) }
+    {
+        let mut segments = Vec::with_capacity(alloc, self.segments.len())?;
+        for segment in &self.segments {
+            segments.push(segment.copy(alloc)?)?;
+        }
+        Ok(Image {
+            size: self.size,
+            entry: self.entry,
+            stack: self.stack,
+            table: self.table,
+            segments,
+        })
+    }
+
     /// The size of memory in bytes, a whole number of pages from 8,192 to 16,777,216.
     pub fn size(&self) -> u64
         ensures value { result ≡ self.now.size }
@@ -150,6 +180,7 @@ impl Image {
     pub fn segment(&self, n: u32) -> (u64, &[u8])
         requires { n < length self.now.segments }
         ensures value { slice_get self.now.segments n ≡ Some (segment_of result.0 result.1.now) }
+        ensures within { result.0 + length result.1.now ≤ self.now.size }
         ensures valid { IsValid self.now }
     {
         let segment = &self.segments[n as usize];

@@ -1,5 +1,5 @@
 -- What an accepted event makes of a machine's parts.
-use Rattle.std.proofs.Common.{◌≡◌, ℕ, ◌+◌, ◌*◌, ◌%◌, ◌/◌, ◌^◌, ◌<◌, ◌≤◌, ◌||◌, Bool, true, false, cond, eqb, ltb, leb, List, [], ◌∷◌, ◌++◌, length, reverse, get_or, set, slice_get, Option, Some, None, All, is_some, arith, refl, sym, ap, ◌∙◌, subst, ⊎_elim}
+use Rattle.std.proofs.Common.{◌≡◌, ℕ, ◌+◌, ◌*◌, ◌^◌, ◌<◌, ◌≤◌, ◌||◌, Bool, true, false, cond, leb, List, [], ◌∷◌, ◌++◌, length, reverse, get_or, set, slice_get, Option, Some, None, All, is_some, arith, refl, sym, ap, ◌∙◌, subst, ⊎_elim}
 use Rattle.std.specs.Vec.{vec_len, vec_capacity}
 use Rattle.std.proofs.Math.ListN.{length-set}
 use Rattle.std.proofs.Math.Nat.{mul-le-mul_left}
@@ -12,28 +12,25 @@ use Rattle.axp_access.specs.declared.Kind.{Kind}
 use Rattle.axp_access.specs.declared.Kind.TheVariants.{Fetch, Read, Write}
 use Rattle.axp_access.specs.declared.Outcome.{Outcome}
 use Rattle.axp_access.specs.declared.Outcome.TheVariants as outcome
-use Rattle.axp_access.specs.declared.Place.{Place}
 use Rattle.axp_access.specs.declared.Record.{Record}
-use Rattle.axp_access.specs.Spelling.{IsSpelled, IsPlaceOf, Spells}
+use Rattle.axp_access.specs.Spelling.{IsPlaceOf, Spells}
 use Rattle.axp_base.specs.declared.processors.Cpu.{Cpu}
 use Rattle.axp_base.specs.declared.processors.TheConstants.{MAX_CPUS, MAX_BUDGET}
 use Rattle.axp_base.specs.Cpus.{cpu_number}
-use Rattle.axp_image.specs.Contents.{Contents}
-use Rattle.axp_image.specs.declared.limits.TheConstants.{PAGE_BYTES}
 use Rattle.axp_model.specs.Turns.{turns, turns_of, turns_of_kind}
 use Rattle.axp_model.specs.Places.{place_at}
 use Rattle.axp_machine.specs.declared.machine.Machine.TheInside.{Inside}
 use Rattle.axp_machine.specs.declared.phases.Wanted.{Wanted}
 use Rattle.axp_machine.specs.declared.processor.Processor.{Processor}
 use Rattle.axp_machine.specs.declared.processor.Step.{Step}
-use Rattle.axp_machine.specs.Plains.{Plain, after_access}
+use Rattle.axp_machine.specs.Plains.{after_access}
 use Rattle.axp_machine.specs.Phases.{plan_of}
 use Rattle.axp_machine.specs.Plans.{Plan, End, Want, Unbuilt, given, is_built}
-use Rattle.axp_machine.specs.Runs.{Seen, IsRunOf, IsRun, seat, step_of, access_of, given_by, value_of, made_access, outcome_of, after_event, after_outcome, with_record}
+use Rattle.axp_machine.specs.Runs.{Seen, IsRunOf, seat, step_of, access_of, given_by, value_of, made_access, outcome_of, after_event}
 use Rattle.axp_machine.specs.Seats.{stepped}
 use Rattle.axp_machine.specs.Soundness.{IsInside}
-use Rattle.axp_machine.specs.Stands.{Stands, LeadsOn, StepsOf, IsReady, accesses, is_done, undone_step, step_at, plan_left, number_there, moved_on}
-use Rattle.axp_machine.specs.Ties.{Ties, AreSeated, MemoryIs, seen, history}
+use Rattle.axp_machine.specs.Stands.{Stands, LeadsOn, StepsOf, IsReady, is_done, step_at, plan_left, number_there, moved_on}
+use Rattle.axp_machine.specs.Ties.{Ties, seen, history}
 use Rattle.axp_machine.proofs.MemoryLemmas.{memory_step}
 use Rattle.axp_machine.proofs.RoomLemmas.{run_fits}
 use Rattle.axp_machine.proofs.SeatLemmas.{all_ready, outcome_is, seats_step, stands_step}

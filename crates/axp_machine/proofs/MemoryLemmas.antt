@@ -1,5 +1,5 @@
 -- What an access leaves of memory is what the history with its record says.
-use Rattle.std.proofs.Common.{◌≡◌, ◌≢◌, ℕ, suc, zero, ◌+◌, ◌-◌, ◌*◌, ◌%◌, ◌/◌, ◌^◌, ◌<◌, ◌≤◌, ◌&&◌, ◌||◌, Bool, true, false, cond, eqb, ltb, leb, List, [], ◌∷◌, length, get_or, set, slice_get, slice_set, slice_index, Option, Some, None, IsTrue, arith, refl, sym, ap, ◌∙◌, subst, inl, inr, ⊎_elim, get_or-set_other}
+use Rattle.std.proofs.Common.{◌≡◌, ◌≢◌, ℕ, ◌+◌, ◌-◌, ◌%◌, ◌/◌, ◌<◌, ◌≤◌, ◌&&◌, ◌||◌, Bool, true, false, eqb, ltb, leb, List, ◌∷◌, length, get_or, set, slice_get, slice_index, Some, arith, refl, sym, ap, ◌∙◌, ⊎_elim, get_or-set_other}
 use Rattle.std.proofs.Math.ListN.{length-set}
 use Rattle.std.proofs.lemmas.Bool.{ltb-true, leb-true, lt-ltb, le-leb, cases_Bool, cases_eq, eq-eqb, ne_eqb}
 use Rattle.std.proofs.lemmas.Option.{get_or_from_slice_get, slice_get-get_or, slice_get_within}
@@ -8,16 +8,13 @@ use Rattle.axp_access.specs.declared.Access.{Access}
 use Rattle.axp_access.specs.declared.Event.{Event}
 use Rattle.axp_access.specs.declared.Kind.{Kind}
 use Rattle.axp_access.specs.declared.Kind.TheVariants.{Fetch, Read, Write}
-use Rattle.axp_access.specs.declared.Outcome.{Outcome}
 use Rattle.axp_access.specs.declared.Outcome.TheVariants as outcome
 use Rattle.axp_access.specs.declared.Record.{Record}
-use Rattle.axp_access.specs.Spelling.{IsSizeOf}
-use Rattle.axp_base.specs.Masks.{IsSize}
 use Rattle.axp_base.specs.Parts.{byte, number_at, part, with_part}
 use Rattle.axp_base.proofs.PartLemmas.{get_or-with_part, get_or-with_part_other, length-with_part, number_at-same}
 use Rattle.axp_base.specs.declared.parts.TheConstants.{QUADWORD_BYTES}
 use Rattle.axp_image.specs.Contents.{Contents, Segment}
-use Rattle.axp_model.specs.Sources.{memory_byte, byte_of_source, source, first_of_two, write_of, writes_byte, has_byte, is_touched, touched_by, writes_quadword}
+use Rattle.axp_model.specs.Sources.{memory_byte, writes_byte, has_byte, is_touched, touched_by, writes_quadword}
 use Rattle.axp_image.specs.declared.limits.TheConstants.{PAGE_BYTES}
 use Rattle.axp_machine.proofs.PlanLemmas.{size_of_kind, size_some}
 use Rattle.axp_machine.specs.Plains.{Plain, after_kind, after_access}

@@ -1,6 +1,5 @@
 -- Memory is filled segment by segment, from the last to the first.
-use Rattle.std.proofs.Common.{◌≡◌, ℕ, suc, ◌+◌, ◌-◌, ◌≤◌, ◌<◌, ◌&&◌, nat_lt, nat_le, Bool, cond, List, [], ◌∷◌, length, get_or, slice_get, slice_index, drop, Option, Some, None, arith, ap, sym, ◌∙◌, drop-cons}
-use Rattle.std.specs.Prelude.{if◌then◌else◌}
+use Rattle.std.proofs.Common.{◌≡◌, ℕ, suc, ◌-◌, ◌≤◌, ◌<◌, cond, List, ◌∷◌, length, slice_get, slice_index, drop, Some, arith, ap, sym, ◌∙◌, drop-cons}
 use Rattle.std.proofs.lemmas.Option.{get_or_from_slice_get}
 use Rattle.axp_image.specs.Contents.{Segment, byte_in, covers, segment_of}
 use Rattle.axp_machine.specs.Plains.{PutsPiece}

@@ -1,5 +1,5 @@
 -- Every plan of the instruction table is sound.
-use Rattle.std.proofs.Common.{◌≡◌, ℕ, ◌+◌, ◌*◌, ◌%◌, ◌/◌, ◌^◌, ◌<◌, ◌≤◌, ◌&&◌, Bool, true, false, cond, eqb, ltb, List, [], ◌∷◌, Option, Some, None, IsTrue, arith, refl, sym, ap, ◌∙◌, inl, inr, ⊎_elim, bit_or}
+use Rattle.std.proofs.Common.{◌≡◌, ℕ, ◌+◌, ◌%◌, ◌<◌, ◌≤◌, ◌&&◌, Bool, true, false, cond, eqb, ltb, List, [], ◌∷◌, arith, refl, ap, ◌∙◌, inl, inr, bit_or}
 use Rattle.std.proofs.lemmas.Bool.{ltb-true, eqb-true}
 use Rattle.axp_access.specs.declared.Kind.{Kind}
 use Rattle.axp_access.specs.declared.Kind.TheVariants.{Fetch, Read, Write}
@@ -11,9 +11,9 @@ use Rattle.axp_machine.specs.declared.instructions.Instruction.TheVariants as wo
 use Rattle.axp_machine.specs.declared.phases.Table.{Table}
 use Rattle.axp_machine.specs.declared.registers.State.{State}
 use Rattle.axp_machine.specs.declared.registers.TheConstants.{ZERO_REGISTER}
-use Rattle.axp_machine.specs.Instructions.{group, row, reached, aligned, loaded, wrote, ended, stopped, in_kseg, physical, effective}
+use Rattle.axp_machine.specs.Instructions.{group, row, reached, aligned, wrote, ended, in_kseg, physical, effective}
 use Rattle.axp_machine.specs.Plans.{Plan, End, Want, Unbuilt, given, along}
-use Rattle.axp_machine.specs.Registers.{register, with_register, advanced, next_pc}
+use Rattle.axp_machine.specs.Registers.{register, with_register, next_pc}
 use Rattle.axp_machine.specs.Soundness.{IsSound, IsInside}
 use Rattle.axp_machine.specs.Words.{instruction_of}
 

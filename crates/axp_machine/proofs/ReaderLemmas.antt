@@ -1,16 +1,15 @@
 -- What the machine's readers read.
-use Rattle.std.proofs.Common.{◌≡◌, ℕ, zero, suc, ◌+◌, ◌*◌, ◌%◌, ◌/◌, ◌<◌, ◌≤◌, ◌&&◌, Bool, true, false, List, reverse, replicate, [], ◌∷◌, ◌++◌, length, get_or, slice_get, Option, Some, None, arith, refl, sym, ap, ◌∙◌, subst, ⊎_elim, add-one}
-use Rattle.std.proofs.lemmas.Option.{slice_get-get_or, slice_get_within}
+use Rattle.std.proofs.Common.{◌≡◌, ℕ, zero, suc, ◌+◌, ◌*◌, ◌/◌, ◌<◌, ◌≤◌, ◌&&◌, Bool, false, List, reverse, replicate, [], ◌∷◌, ◌++◌, length, get_or, slice_get, Some, arith, refl, sym, ap, ◌∙◌, subst, add-one}
+use Rattle.std.proofs.lemmas.Option.{slice_get-get_or}
 use Rattle.std.proofs.Common.{length-append}
 use Rattle.std.specs.Vec.{vec_capacity}
 use Rattle.axp_base.specs.declared.processors.TheConstants.{MAX_CPUS, MAX_BUDGET}
 use Rattle.axp_base.specs.Parts.{part}
 use Rattle.axp_base.specs.declared.parts.TheConstants.{QUADWORD_BYTES}
 use Rattle.axp_image.specs.Contents.{Contents, IsValid}
-use Rattle.axp_image.specs.declared.limits.TheConstants.{PAGE_BYTES}
 use Rattle.axp_machine.specs.declared.machine.Machine.TheInside.{Inside}
 use Rattle.axp_machine.specs.declared.processor.Processor.{Processor}
-use Rattle.axp_machine.specs.Runs.{Seen, started, seat, are_finished, table_of, steps_of, quadword_of}
+use Rattle.axp_machine.specs.Runs.{Seen, started, seat, are_finished, quadword_of}
 use Rattle.axp_machine.specs.Seats.{first_seat}
 use Rattle.axp_machine.specs.Stands.{Stands, StartsAll, is_done}
 use Rattle.axp_machine.specs.Ties.{Ties, MemoryIs, seen, history}

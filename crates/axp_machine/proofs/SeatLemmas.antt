@@ -1,19 +1,18 @@
 -- A processor stays at its seat, step by step.
-use Rattle.std.proofs.Common.{◌≡◌, ◌≢◌, ℕ, zero, suc, ◌+◌, ◌*◌, ◌%◌, ◌<◌, ◌≤◌, ◌&&◌, ◌||◌, not, Bool, true, false, cond, eqb, ltb, leb, List, [], ◌∷◌, ◌++◌, length, set, slice_get, slice_index, Option, Some, None, is_some, arith, refl, sym, ap, ◌∙◌, subst, ⊎_elim}
+use Rattle.std.proofs.Common.{◌≡◌, ◌≢◌, ℕ, zero, suc, ◌+◌, ◌%◌, ◌<◌, ◌≤◌, not, Bool, true, false, cond, ltb, List, [], ◌∷◌, ◌++◌, length, set, slice_get, Option, Some, None, arith, refl, sym, ap, ◌∙◌, subst, ⊎_elim}
 use Rattle.std.proofs.Common.{get_or-set_other}
 use Rattle.std.proofs.Math.ListN.{length-set}
 use Rattle.std.proofs.lemmas.Grind.{get_or-set_at}
 use Rattle.std.proofs.lemmas.Option.{get_or_from_slice_get, slice_get-get_or, slice_get_within}
-use Rattle.std.proofs.lemmas.Bool.{cases_eq, cases_lt, eq-eqb, ne_eqb, lt-ltb, le-ltb}
+use Rattle.std.proofs.lemmas.Bool.{cases_eq, eq-eqb, ne_eqb, lt-ltb, le-ltb}
 use Rattle.axp_access.specs.declared.Access.{Access}
 use Rattle.axp_access.specs.declared.Event.{Event}
-use Rattle.axp_access.specs.declared.Outcome.{Outcome}
 use Rattle.axp_access.specs.declared.Outcome.TheVariants as outcome
 use Rattle.axp_access.specs.declared.Record.{Record}
 use Rattle.axp_base.specs.declared.processors.Cpu.{Cpu}
 use Rattle.axp_base.specs.Cpus.{cpu_number}
 use Rattle.axp_image.specs.Contents.{Contents}
-use Rattle.axp_image.specs.declared.limits.TheConstants.{PAGE_BYTES, INSTRUCTION_BYTES}
+use Rattle.axp_image.specs.declared.limits.TheConstants.{PAGE_BYTES}
 use Rattle.axp_model.specs.Turns.{turns}
 use Rattle.axp_machine.specs.declared.phases.Phase.{Phase}
 use Rattle.axp_machine.specs.declared.phases.Phase.TheVariants as phase
@@ -22,10 +21,10 @@ use Rattle.axp_machine.specs.Instructions.{group}
 use Rattle.axp_machine.specs.Phases.{plan_of, PhaseFits, after}
 use Rattle.axp_machine.specs.Plains.{Plain}
 use Rattle.axp_machine.specs.Plans.{Plan, End, Want, Unbuilt, given, along, is_built}
-use Rattle.axp_machine.specs.Runs.{Seen, seat, given_by, value_of, access_of, step_of, there_after, may_step, made_access, outcome_of}
+use Rattle.axp_machine.specs.Runs.{seat, given_by, value_of, access_of, step_of, there_after, made_access, outcome_of}
 use Rattle.axp_machine.specs.Seats.{Seat, moved, plan_now, stepped, is_finished}
-use Rattle.axp_machine.specs.Soundness.{IsSound, IsInside}
-use Rattle.axp_machine.specs.Stands.{Stands, plan_left, moved_on, number_there, is_done, undone_step, step_at, IsReady}
+use Rattle.axp_machine.specs.Soundness.{IsSound}
+use Rattle.axp_machine.specs.Stands.{Stands, plan_left, moved_on, number_there, is_done, step_at, IsReady}
 use Rattle.axp_machine.specs.Ties.{AreSeated, MemoryIs}
 use Rattle.axp_machine.proofs.PlanLemmas.{group_sound, along_sound}
 use Rattle.axp_machine.proofs.MemoryLemmas.{number_there-after}

@@ -1,5 +1,5 @@
 -- A group of accesses is a plan: an end, or a wanted access and what follows for each value.
-use Rattle.std.specs.Prelude.{ℕ, Bool, true, false, List, [], ◌∷◌, Option, Some, None}
+use Rattle.std.specs.Prelude.{ℕ, Bool, true, false, List, [], ◌∷◌}
 use Rattle.axp_machine.specs.declared.phases.Table.{Table}
 use Rattle.axp_machine.specs.declared.phases.Wanted.{Wanted}
 

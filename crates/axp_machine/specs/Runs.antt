@@ -1,5 +1,5 @@
 -- What an event gives after any records, and the run of a list of events.
-use Rattle.std.specs.Prelude.{◌≡◌, ℕ, ◌*◌, zero, suc, Bool, true, false, not, ◌&&◌, nat_lt, ◌==◌, List, [], ◌∷◌, Option, Some, None, Result, ok_or, if◌then◌else◌}
+use Rattle.std.specs.Prelude.{◌≡◌, ℕ, ◌*◌, zero, suc, Bool, true, not, ◌&&◌, nat_lt, ◌==◌, List, [], ◌∷◌, Option, Some, None, Result, ok_or, if◌then◌else◌}
 use Rattle.axp_access.specs.declared.Access.{Access}
 use Rattle.axp_access.specs.declared.Event.{Event}
 use Rattle.axp_access.specs.declared.Kind.{Kind}
@@ -10,7 +10,7 @@ use Rattle.axp_access.specs.declared.Record.{Record}
 use Rattle.axp_base.specs.declared.processors.Cpu.{Cpu}
 use Rattle.axp_base.specs.Cpus.{cpu_number}
 use Rattle.axp_image.specs.Contents.{Contents}
-use Rattle.axp_model.specs.Turns.{turns, turns_of_kind}
+use Rattle.axp_model.specs.Turns.{turns}
 use Rattle.axp_model.specs.Places.{place_at}
 use Rattle.axp_model.specs.Sources.{memory_number}
 use Rattle.axp_machine.specs.declared.machine.NotBuilt.{NotBuilt}

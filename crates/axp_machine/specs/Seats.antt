@@ -1,5 +1,5 @@
 -- One processor by itself, led by the values that its accesses gave.
-use Rattle.std.specs.Prelude.{ℕ, ◌+◌, Bool, ◌||◌, nat_le, List, [], ◌∷◌, ◌++◌, replicate, Option, Some, None, is_some, slice_set}
+use Rattle.std.specs.Prelude.{ℕ, ◌+◌, Bool, ◌||◌, nat_le, List, [], ◌∷◌, ◌++◌, replicate, None, is_some, slice_set}
 use Rattle.axp_image.specs.Contents.{Contents}
 use Rattle.axp_machine.specs.declared.phases.Table.{Table}
 use Rattle.axp_machine.specs.declared.registers.TheConstants.{REGISTERS}

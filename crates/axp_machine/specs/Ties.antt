@@ -1,5 +1,5 @@
 -- How the parts of a machine stand for its records.
-use Rattle.std.specs.Prelude.{◌≡◌, ℕ, ◌+◌, ◌*◌, ◌/◌, ◌<◌, ◌≤◌, Bool, List, reverse, length, slice_get, slice_index, Some}
+use Rattle.std.specs.Prelude.{◌≡◌, ℕ, ◌*◌, ◌/◌, ◌<◌, ◌≤◌, List, reverse, length, slice_get, slice_index, Some}
 use Rattle.std.specs.Vec.{vec_capacity}
 use Rattle.axp_access.specs.declared.Record.{Record}
 use Rattle.axp_base.specs.declared.parts.TheConstants.{QUADWORD_BYTES}

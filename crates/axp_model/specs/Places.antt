@@ -1,5 +1,5 @@
 -- The place of an access in the order of memory.
-use Rattle.std.specs.Prelude.{ℕ, ◌+◌, List}
+use Rattle.std.specs.Prelude.{ℕ, ◌+◌}
 use Rattle.axp_access.specs.declared.Kind.{Kind}
 use Rattle.axp_access.specs.declared.Place.{Place}
 use Rattle.axp_access.specs.declared.Place.TheVariants.{At}

@@ -1,7 +1,6 @@
 -- A history is the list of its records, the newest first. A turn is a write that reaches memory;
 -- turns are numbered from 1, in the order in which they come.
 use Rattle.std.specs.Prelude.{ℕ, ◌+◌, List, [], ◌∷◌}
-use Rattle.axp_access.specs.declared.Access.{Access}
 use Rattle.axp_access.specs.declared.Kind.{Kind}
 use Rattle.axp_access.specs.declared.Kind.TheVariants.{Fetch, Read, Write}
 use Rattle.axp_access.specs.declared.Outcome.{Outcome}

@@ -6,7 +6,7 @@ use Rattle.std.proofs.lemmas.Bool.{cases_Bool, and_parts, and_from, le-leb, leb-
 use Rattle.std.proofs.lemmas.List.Elements.{All-weaker}
 use Rattle.std.proofs.lemmas.Slice.Eq.{bytes_eq-Decides}
 use Rattle.axp_base.specs.Cpus.{cpu_number}
-use Rattle.axp_base.specs.declared.processors.TheConstants.{MAX_CPUS}
+use Rattle.axp_base.specs.declared.processors.TheConstants.{MIN_CPUS, MAX_CPUS, MAX_BUDGET}
 use Rattle.axp_base.proofs.CpuLemmas.{cpu_of_number}
 use Rattle.axp_access.specs.declared.Act.{Act}
 use Rattle.axp_access.specs.declared.Act.TheVariants.{Step}
@@ -15,7 +15,6 @@ use Rattle.axp_trace.specs.Digits.{number_of}
 use Rattle.axp_trace.specs.Lines.{act_text, event_text, events_header}
 use Rattle.axp_trace.specs.Reading.{words_of, cpu_in, act_in, event_by, event_in, event_if, event_of, is_cpus, is_budget, header_by, header_in, header_if, header_of, HasRange}
 use Rattle.axp_trace.specs.declared.reading.Header.{Header}
-use Rattle.axp_trace.specs.declared.reading.TheConstants.{MIN_CPUS, MAX_BUDGET}
 use Rattle.axp_trace.proofs.DigitLemmas.{decimal_back}
 use Rattle.axp_trace.proofs.LineLemmas.{high_decimal, small_cpu}
 use Rattle.axp_trace.proofs.ReadingLemmas.{words_of-begin, words_of-one}

@@ -5,14 +5,14 @@ use Rattle.std.specs.Str.{bytes_eq}
 use Rattle.std.specs.List.{slice_split}
 use Rattle.axp_base.specs.declared.processors.Cpu.{Cpu}
 use Rattle.axp_base.specs.Cpus.{cpu_number, cpu_of}
-use Rattle.axp_base.specs.declared.processors.TheConstants.{MAX_CPUS}
+use Rattle.axp_base.specs.declared.processors.TheConstants.{MIN_CPUS, MAX_CPUS, MAX_BUDGET}
 use Rattle.axp_access.specs.declared.Act.{Act}
 use Rattle.axp_access.specs.declared.Act.TheVariants.{Step}
 use Rattle.axp_access.specs.declared.Event.{Event}
 use Rattle.axp_trace.specs.Digits.{number_of}
 use Rattle.axp_trace.specs.Lines.{event_text, events_header}
 use Rattle.axp_trace.specs.declared.reading.Header.{Header}
-use Rattle.axp_trace.specs.declared.reading.TheConstants.{MIN_CPUS, MAX_BUDGET, BLANK}
+use Rattle.axp_trace.specs.declared.reading.TheConstants.{BLANK}
 
 -- the words of a line, cut at each blank
 abbrev pub words_of : List ℕ → List (List ℕ)

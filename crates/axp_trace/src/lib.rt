@@ -15,6 +15,5 @@ pub use lines::{
     write_processor, write_register,
 };
 pub use reading::{
-    Header, MAX_BUDGET, MIN_CPUS, events_are_their_texts, headers_are_their_texts, read_event,
-    read_header,
+    Header, events_are_their_texts, headers_are_their_texts, read_event, read_header,
 };

@@ -11,13 +11,7 @@ use crate::digits::{push_all, push_byte, push_decimal, read_number};
 use crate::lines::push_event;
 use arrayvec::ArrayVec;
 use axp_access::{Act, Event};
-use axp_base::{Cpu, MAX_CPUS};
-
-/// The least number of processors that a machine has.
-pub const MIN_CPUS: u8 = 2;
-
-/// The greatest number of steps that a run allows each processor.
-pub const MAX_BUDGET: u32 = 32_768;
+use axp_base::{Cpu, MAX_BUDGET, MAX_CPUS, MIN_CPUS};
 
 /// The most words that a line has.
 const MOST_WORDS: usize = 8;

@@ -1,14 +1,14 @@
-use Rattle.std.proofs.Common.{◌≡◌, ◌<◌, ◌∷◌, ◌∙◌, List, Option, Some, None, Ok, Err, All, length, get_or, set, slice_get, arith, refl, sym, ap, subst}
+use Rattle.std.proofs.Common.{◌≡◌, ◌∙◌, List, Some, None, All, length, set, slice_get, arith, refl, sym, ap, subst}
 use Rattle.std.specs.Vec.{with_item}
 use Rattle.std.proofs.Math.ListN.{length-set}
 use Rattle.axp_access.specs.declared.Outcome.TheVariants as outcome
 use Rattle.axp_base.specs.Cpus.{cpu_number}
 use Rattle.axp_machine.specs.declared.machine.Machine.TheInside.{Inside}
 use Rattle.axp_machine.specs.declared.processor.Processor.{Processor}
-use Rattle.axp_machine.specs.Runs.{Seen, IsRun, outcome_of, answer_of, after_event}
+use Rattle.axp_machine.specs.Runs.{Seen, outcome_of, answer_of, after_event}
 use Rattle.axp_machine.specs.Stands.{step_at, IsReady, moved_on}
-use Rattle.axp_machine.specs.Ties.{Ties, seen}
-use Rattle.axp_machine.proofs.EventLemmas.{Taken, ready, few_turns, gives, refuses, runs, has_room, few_steps, ties_step, shows, stays, spells, record_of, taken_in, step_in, lent, index_within}
+use Rattle.axp_machine.specs.Ties.{seen}
+use Rattle.axp_machine.proofs.EventLemmas.{Taken, ready, few_turns, gives, refuses, has_room, few_steps, ties_step, shows, stays, spells, taken_in, step_in, lent, index_within}
 use Rattle.axp_machine.proofs.machine.Machine.event.Goals as goal
 
 pub next_step-requires-clause-ready : goal.next_step-requires-clause-ready

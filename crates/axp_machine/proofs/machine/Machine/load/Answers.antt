@@ -3,7 +3,7 @@ use Rattle.axp_image.specs.Contents.{Contents, IsValid}
 use Rattle.axp_machine.specs.declared.machine.Machine.TheInside.{Inside}
 use Rattle.axp_machine.specs.Plains.{IsLoaded}
 use Rattle.axp_machine.specs.Stands.{StartsAll}
-use Rattle.axp_machine.proofs.ReaderLemmas.{ties_start, shows_start}
+use Rattle.axp_machine.proofs.ReaderLemmas.{ties_start}
 use Rattle.axp_machine.proofs.machine.Machine.load.Goals as goal
 
 -- the fields at the start

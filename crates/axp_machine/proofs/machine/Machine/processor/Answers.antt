@@ -1,4 +1,4 @@
-use Rattle.std.proofs.Common.{◌≡◌, ◌∙◌, sym, ap}
+use Rattle.std.proofs.Common.{◌∙◌, ap}
 use Rattle.axp_base.specs.Cpus.{cpu_number}
 use Rattle.axp_machine.specs.Runs.{Seen, seat, table_of, steps_of}
 use Rattle.axp_machine.specs.Stands.{Stands}
