@@ -1,7 +1,7 @@
 -- What puts one after another leave in a sink, whether or not its bytes are told.
-use Rattle.std.proofs.Common.{◌≡◌, ℕ, ◌≤◌, List, [], ◌∷◌, ◌++◌, None, Some, Option, refl, sym, ap, ◌∙◌, append_assoc, append-nil, arith}
+use Rattle.std.proofs.Common.{ℕ, ◌≤◌, List, [], ◌++◌, None, Some, Option, refl, sym, ap, ◌∙◌, append_assoc, append-nil, arith}
 use Rattle.std.proofs.KnownBytes.{Appends-nil, Appends-trans}
-use Rattle.axp_io.specs.Causes.{Appends, Keeps, AppendsFront, Rose, RoseBy}
+use Rattle.axp_io.specs.Causes.{Appends, Keeps, AppendsFront, Rose}
 
 -- the whole piece is a front of it
 pub front_whole : (before now : Option (List ℕ)) (piece : List ℕ) → Appends before now piece → AppendsFront before now piece

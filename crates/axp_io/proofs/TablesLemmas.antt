@@ -1,5 +1,5 @@
 -- What comes of a fetch of a list that the desk has.
-use Rattle.std.proofs.Common.{◌≡◌, ℕ, ◌+◌, ◌≤◌, ◌<◌, false, List, length, Result, Ok, Err, min, refl, sym, ap, ◌∙◌, arith}
+use Rattle.std.proofs.Common.{◌≡◌, ℕ, ◌+◌, ◌≤◌, ◌<◌, false, List, length, Result, Ok, Err, min, ap, ◌∙◌, arith}
 use Rattle.axp_io.specs.Causes.{raised, Ask, FetchTold}
 use Rattle.axp_io.specs.Lists.{NeverFails}
 use Rattle.axp_io.specs.Tables.{TableView, asked, with_given, fails_at, TableFetch}

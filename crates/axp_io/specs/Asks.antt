@@ -1,5 +1,5 @@
 -- What a desk keeps of its asks.
-use Rattle.std.specs.Prelude.{ℕ, List, map, string_bytes}
+use Rattle.std.specs.Prelude.{List, map, string_bytes}
 use Rattle.axp_io.specs.Causes.{Ask}
 use Rattle.axp_io.specs.declared.asks.Asked.{Asked}
 
