@@ -1,7 +1,9 @@
 -- What puts one after another leave in a sink, whether or not its bytes are told.
-use Rattle.std.proofs.Common.{ℕ, ◌≤◌, List, [], ◌++◌, None, Some, Option, refl, sym, ap, ◌∙◌, append_assoc, append-nil, arith}
+use Rattle.std.proofs.Common.{ℕ, ◌≤◌, List, [], ◌++◌, None, Some, Option, Result, Ok, Err, refl, sym, ap, ◌∙◌, append_assoc, append-nil, arith}
 use Rattle.std.proofs.KnownBytes.{Appends-nil, Appends-trans}
-use Rattle.axp_io.specs.Causes.{Appends, Keeps, AppendsFront, Rose}
+use Rattle.axp_io.specs.Causes.{Appends, Keeps, AppendsFront, PutTaken, Rose}
+use Rattle.axp_io.specs.declared.SinkFault.{SinkFault}
+use Rattle.axp_io.specs.declared.SinkFault.TheVariants as sink
 
 -- the whole piece is a front of it
 pub front_whole : (before now : Option (List ℕ)) (piece : List ℕ) → Appends before now piece → AppendsFront before now piece
@@ -19,6 +21,12 @@ appends_none (Some xs) (Some ys) kept = kept ∙ sym (append-nil xs)
 
 pub front_kept : (before now : Option (List ℕ)) (piece : List ℕ) → Keeps before now → AppendsFront before now piece
 front_kept before now piece kept = ([], piece, refl, appends_none before now kept)
+
+-- whatever a put answers, a front of its piece was taken
+pub front_put : {T : Type 0} (before now : Option (List ℕ)) (piece : List ℕ) (result : Result T SinkFault) → PutTaken before now piece result → AppendsFront before now piece
+front_put before now piece (Ok _) taken = front_whole before now piece taken
+front_put before now piece (Err sink.Failed) taken = taken
+front_put before now piece (Err sink.Memory) taken = front_kept before now piece taken
 
 -- a front of a text is a front of a longer one
 pub front_longer : (before now : Option (List ℕ)) (text more : List ℕ) → AppendsFront before now text → AppendsFront before now (text ++ more)

@@ -113,6 +113,7 @@ fn read_whole<F: Read>(
     let mut bytes = Bytes::empty(alloc);
     let mut chunk = [0; CHUNK];
     let mut left = most;
+    // The end of the range is never met: a turn reads a byte or more, ends, or was interrupted.
     for _ in 0..u64::MAX {
         // One byte more than may still come would show that the list is too long.
         let room = left.min(CHUNK as u64 - 1) as usize + 1;

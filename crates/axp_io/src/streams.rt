@@ -9,8 +9,8 @@ use std::marker::Model;
 
 /// The sink over standard output, which is not buffered.
 ///
-/// A write that fails or takes nothing is a failure. It tells no bytes, since nothing is known of what
-/// reads them.
+/// A write that fails or takes nothing is a failure. It tells no bytes, since no contract knows what
+/// standard output holds; that a piece is written whole is the contract of `write_whole`.
 #[derive(Drop)]
 pub struct OutSink<R> {
     rt: R,
@@ -61,6 +61,7 @@ fn write_whole<W: Write>(to: &mut W, piece: &[u8]) -> Result<(), SinkFault>
     ensures { PutTaken (W.contents to.old) (W.contents to.new) piece.now result }
 {
     let mut rest = piece;
+    // The end of the range is never met: a turn writes a byte or more, ends, or was interrupted.
     for _ in 0..u64::MAX {
         if rest.is_empty() {
             return Ok(());
