@@ -81,6 +81,13 @@ impl Machine {
         self.processors.len() as u8
     }
 
+    /// The number of steps that each processor may make, 1 to 32,768.
+    pub fn budget(&self) -> u32
+        ensures { result ≡ self.now.budget }
+    {
+        self.budget
+    }
+
     /// The size of memory in bytes.
     pub fn memory_size(&self) -> u64
         ensures value { result ≡ self.now.image.size }

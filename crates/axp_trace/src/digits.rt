@@ -11,7 +11,7 @@ use itoa::Buffer;
 const MOST_DIGITS: usize = 10;
 
 /// Appends bytes.
-pub(crate) fn push_all(out: &mut LineText, bytes: &[u8])
+pub fn push_all(out: &mut LineText, bytes: &[u8])
     requires { array_vec_len out.old + length bytes.now ≤ LINE_ROOM }
     ensures text { out.new.items ≡ out.old.items ++ bytes.now }
     ensures len { array_vec_len out.new ≡ array_vec_len out.old + length bytes.now }
@@ -21,7 +21,7 @@ pub(crate) fn push_all(out: &mut LineText, bytes: &[u8])
 
 /// Appends a number in decimal.
 #[tactic(auto, using(crate::proofs::DigitLemmas::short_decimal))]
-pub(crate) fn push_decimal(out: &mut LineText, n: u32)
+pub fn push_decimal(out: &mut LineText, n: u32)
     requires { array_vec_len out.old + MOST_DIGITS ≤ LINE_ROOM }
     ensures text { out.new.items ≡ out.old.items ++ decimal n }
     ensures len { array_vec_len out.new ≤ array_vec_len out.old + MOST_DIGITS }

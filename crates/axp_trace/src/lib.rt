@@ -8,7 +8,7 @@ mod files;
 mod lines;
 mod reading;
 
-pub use digits::{decimal_gives_back, hex_gives_back};
+pub use digits::{decimal_gives_back, hex_gives_back, push_all, push_decimal};
 pub use files::{LINE_FEED, first_line, lines_are_whole, lines_begin};
 pub use lines::{
     LINE_ROOM, LineText, write_console, write_end, write_event, write_header, write_memory,

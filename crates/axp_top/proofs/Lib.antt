@@ -1,0 +1,4 @@
+pub mod Printings
+pub mod Replaying
+pub mod Ending
+pub mod Settling

@@ -1,0 +1,17 @@
+use Rattle.axp_top.proofs.Settling.{asks_first}
+use Rattle.axp_top.proofs.serve.serve_replay.Goals as goal
+
+pub returns-in-Ok-None-clause-asks : goal.returns-in-Ok-None-clause-asks
+returns-in-Ok-None-clause-asks g c = asks_first _ _ _ _ _ c.fetch.ensures.asks
+
+pub returns-in-Ok-clause-asks : goal.returns-in-Ok-clause-asks
+returns-in-Ok-clause-asks g c = asks_first _ _ _ _ _ c.fetch.ensures.asks
+
+pub returns-in-Err-Failed-clause-asks : goal.returns-in-Err-Failed-clause-asks
+returns-in-Err-Failed-clause-asks g c = asks_first _ _ _ _ _ c.fetch.ensures.asks
+
+pub returns-in-Err-TooLong-clause-asks : goal.returns-in-Err-TooLong-clause-asks
+returns-in-Err-TooLong-clause-asks g c = asks_first _ _ _ _ _ c.fetch.ensures.asks
+
+pub returns-clause-asks : goal.returns-clause-asks
+returns-clause-asks g c = asks_first _ _ _ _ _ c.fetch.ensures.asks

@@ -1,0 +1,6 @@
+pub mod Words
+pub mod Commands
+pub mod Texts
+pub mod Replays
+pub mod Answers
+pub mod Printing

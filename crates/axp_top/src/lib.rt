@@ -1,0 +1,16 @@
+//! The top call: it takes the words of the command line, a desk and a sink, does what the words say,
+//! and answers with a status.
+#![tactic(auto)]
+
+mod limits;
+mod printing;
+mod replay;
+mod serve;
+mod status;
+mod tail;
+mod words;
+
+pub use limits::{MAX_IMAGE_BYTES, MAX_TRACE_BYTES};
+pub use serve::serve_plain;
+pub use status::Status;
+pub use words::Word;
