@@ -15,3 +15,6 @@ pub use masks::{Mask, span};
 pub use numbers::sext;
 pub use parts::{QUADWORD_BYTES, number_in, put_number};
 pub use processors::{Cpu, MAX_BUDGET, MAX_CPUS, MIN_CPUS};
+
+#[cfg(test)]
+mod tests;
