@@ -2,3 +2,4 @@ pub mod CpuLemmas
 pub mod MaskLemmas
 pub mod NumberLemmas
 pub mod PartLemmas
+pub mod SpanLemmas

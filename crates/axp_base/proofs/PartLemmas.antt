@@ -1,11 +1,11 @@
 -- Parts of a list of bytes: what is put is read back, and the rest stays.
-use Rattle.std.proofs.Common.{◌≡◌, ◌≢◌, ℕ, zero, suc, ◌+◌, ◌*◌, ◌%◌, ◌^◌, ◌<◌, ◌≤◌, List, length, get_or, set, arith, sym, refl, ap, ◌∙◌, add-one, ⊎_elim, get_or-set_same, get_or-set_other}
-use Rattle.std.proofs.lemmas.Nat.{shl_whole, pow-add}
+use Rattle.std.proofs.Common.{◌≡◌, ◌≢◌, ◌⊎◌, inl, inr, slice_index, ℕ, zero, suc, ◌+◌, ◌*◌, ◌%◌, ◌^◌, ◌<◌, ◌≤◌, List, length, get_or, set, arith, sym, refl, ap, ◌∙◌, add-one, ⊎_elim, get_or-set_same, get_or-set_other}
+use Rattle.std.proofs.lemmas.Nat.{shl_whole, pow-add, mod-pow-add}
 use Rattle.std.proofs.lemmas.Bool.{cases_eq}
 use Rattle.std.proofs.Math.Nat.{mul-le-mul_right}
 use Rattle.std.proofs.Math.Pow.{pow_mono}
 use Rattle.std.proofs.Math.ListN.{length-set}
-use Rattle.axp_base.specs.Parts.{byte, number_at, with_part}
+use Rattle.axp_base.specs.Parts.{byte, number_at, part, with_part}
 
 pub number_at_none : (f : ℕ → ℕ) (a : ℕ) → number_at f a 0 ≡ 0
 unfolding number_at
@@ -83,3 +83,22 @@ unfolding with_part
 get_or-with_part_other xs a zero v k apart = refl
 get_or-with_part_other xs a (suc n) v k apart =
     kept_one (with_part xs a n v) (a + n) (byte v n) k (apart n (omega arith)) ∙ get_or-with_part_other xs a n v k (λ i below. apart i (omega arith))
+
+-- the number of bytes that are those of v is the low part of v
+pub number_at-bytes : (f : ℕ → ℕ) (a n v : ℕ) → ((i : ℕ) → i < n → f (a + i) ≡ byte v i) → number_at f a n ≡ v % 2 ^ (8 * n)
+unfolding number_at
+number_at-bytes f a zero v h = omega arith
+number_at-bytes f a (suc n) v h =
+    let low : number_at f a n ≡ v % 2 ^ (8 * n) = number_at-bytes f a n v (λ i below. h i (omega arith)) in
+    let top : f (a + n) ≡ byte v n = h n (omega arith) in
+    let e : 8 * suc n ≡ 8 + 8 * n = omega arith in
+    let split = mod-pow-add v 8 (8 * n) in
+    rw (low, top, e) (omega (arith, split))
+
+-- what is put is read back
+pub part-with_part : (xs : List ℕ) (a n v : ℕ) → a + n ≤ length xs → part (with_part xs a n v) a n ≡ v % 2 ^ (8 * n)
+part-with_part xs a n v fits = number_at-bytes (slice_index (with_part xs a n v)) a n v (λ i below. get_or-with_part xs a n v i fits below)
+
+pub outside-with_part : (xs : List ℕ) (a n v k : ℕ) → (k < a) ⊎ (a + n ≤ k) → get_or (with_part xs a n v) k 0 ≡ get_or xs k 0
+outside-with_part xs a n v k (inl before) = get_or-with_part_other xs a n v k (λ i below. omega arith)
+outside-with_part xs a n v k (inr past) = get_or-with_part_other xs a n v k (λ i below. omega arith)

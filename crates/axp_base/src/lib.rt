@@ -3,6 +3,7 @@
 #![tactic(auto)]
 
 mod byte_lists;
+mod laws;
 mod lines;
 mod masks;
 mod numbers;
@@ -10,8 +11,12 @@ mod parts;
 mod processors;
 
 pub use byte_lists::{Bytes, NoMemory};
+pub use laws::{put_is_read_back, span_is_its_bytes};
 pub use lines::{Bank, LINE_BYTES, Line};
 pub use masks::{Mask, span};
 pub use numbers::sext;
 pub use parts::{QUADWORD_BYTES, number_in, put_number};
 pub use processors::{Cpu, MAX_BUDGET, MAX_CPUS, MIN_CPUS};
+
+#[cfg(test)]
+mod tests;

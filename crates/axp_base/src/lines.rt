@@ -54,7 +54,12 @@ impl Line {
 }
 
 impl Default for Line {
-    fn default() -> Line {
+    ghost use Rattle.axp_base.specs.Lines.{line_number};
+
+    /// The line of memory's first byte.
+    fn default() -> Line
+        ensures { line_number result ≡ 0 }
+    {
         Line { number: 0 }
     }
 }

@@ -1,0 +1,27 @@
+//! Laws of parts of lists and of spans, each proved as the contract of a function that does nothing.
+ghost use Rattle.std.specs.Prelude.{ℕ, List, ◌≡◌, ◌+◌, ◌*◌, ◌/◌, ◌%◌, ◌^◌, ◌<◌, ◌≤◌, ◌⊎◌, IsTrue, length, slice_index};
+ghost use Rattle.axp_base.specs.declared.lines.TheConstants.{LINE_BYTES};
+ghost use Rattle.axp_base.specs.Masks.{IsSize, span_of, has_bit};
+ghost use Rattle.axp_base.specs.Parts.{byte, part, with_part};
+
+/// The low bytes of a number that are put into a list are read back as one number. Every byte
+/// before and past them stays, and so does the length.
+pub fn put_is_read_back()
+    ensures value { (bytes : List ℕ) (offset n v : ℕ) → offset + n ≤ length bytes
+        → part (with_part bytes offset n v) offset n ≡ v % 2 ^ (8 * n) }
+    ensures each { (bytes : List ℕ) (offset n v i : ℕ) → offset + n ≤ length bytes → i < n
+        → slice_index (with_part bytes offset n v) (offset + i) ≡ byte v i }
+    ensures others { (bytes : List ℕ) (offset n v k : ℕ) → (k < offset) ⊎ (offset + n ≤ k)
+        → slice_index (with_part bytes offset n v) k ≡ slice_index bytes k }
+    ensures as_long { (bytes : List ℕ) (offset n v : ℕ) → length (with_part bytes offset n v) ≡ length bytes }
+{}
+
+/// The bytes of an access are in one line, and its span has the bit of each of them and no other.
+pub fn span_is_its_bytes()
+    ensures one_line { (address size i : ℕ) → IsSize size → address % size ≡ 0 → i < size
+        → (address + i) / LINE_BYTES ≡ address / LINE_BYTES }
+    ensures each { (address size i : ℕ) → IsSize size → address % size ≡ 0 → i < size
+        → IsTrue (has_bit (span_of address size) ((address + i) % LINE_BYTES)) }
+    ensures only { (address size n : ℕ) → IsSize size → address % size ≡ 0 → IsTrue (has_bit (span_of address size) n)
+        → (i : ℕ) × (i < size) × ((address + i) % LINE_BYTES ≡ n) }
+{}
