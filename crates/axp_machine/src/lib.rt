@@ -15,3 +15,6 @@ mod registers;
 
 pub use machine::{Machine, NotBuilt};
 pub use registers::{REGISTERS, ZERO_REGISTER};
+
+#[cfg(test)]
+mod tests;
