@@ -9,16 +9,15 @@ use Rattle.std.proofs.lemmas.Option.{slice_get-get_or, get_or_from_slice_get, sl
 use Rattle.axp_access.specs.declared.Access.{Access}
 use Rattle.axp_access.specs.declared.Event.{Event}
 use Rattle.axp_access.specs.declared.Kind.{Kind}
-use Rattle.axp_access.specs.declared.Kind.TheVariants.{Fetch, Read, Write}
-use Rattle.axp_access.specs.declared.Outcome.{Outcome}
 use Rattle.axp_access.specs.declared.Outcome.TheVariants as outcome
 use Rattle.axp_access.specs.declared.Record.{Record}
 use Rattle.axp_access.specs.Spelling.{IsPlaceOf, Spells}
 use Rattle.axp_base.specs.declared.processors.Cpu.{Cpu}
 use Rattle.axp_base.specs.declared.processors.TheConstants.{MAX_CPUS, MAX_BUDGET}
 use Rattle.axp_base.specs.Cpus.{cpu_number}
-use Rattle.axp_model.specs.Turns.{turns, turns_of, turns_of_kind}
+use Rattle.axp_model.specs.Turns.{turns, turns_of_kind}
 use Rattle.axp_model.specs.Places.{place_at}
+use Rattle.axp_model.proofs.Turns.{turns_of_kind-le, turns-le}
 use Rattle.axp_machine.specs.declared.machine.Machine.TheInside.{Inside}
 use Rattle.axp_machine.specs.declared.phases.Wanted.{Wanted}
 use Rattle.axp_machine.specs.declared.processor.Processor.{Processor}
@@ -55,19 +54,6 @@ all_from_each P ps each = λ k d below. each k (get_or ps k d) (slice_get-get_or
 
 pub ready : (a : Inside) → Ties a → All (IsReady (length a.memory.bytes)) a.processors.items
 ready a ties = all_from_each (IsReady (length a.memory.bytes)) a.processors.items (all_ready a.image a.processors.items (history a) (length a.memory.bytes) ties.memory.size ties.valid.whole_pages ties.seats)
-
-turns_of_kind-le : (k : Kind) → turns_of_kind k ≤ 1
-turns_of_kind-le Fetch = omega arith
-turns_of_kind-le Read = omega arith
-turns_of_kind-le Write = omega arith
-
-turns_of-le : (o : Outcome) → turns_of o ≤ 1
-turns_of-le (outcome.Access a) = turns_of_kind-le a.kind
-turns_of-le outcome.NoAccess = omega arith
-
-turns-le : (h : List Record) → turns h ≤ length h
-turns-le [] = omega arith
-turns-le (r ∷ h) = omega (arith, turns_of-le r.outcome, turns-le h)
 
 most_records : (cpus budget : ℕ) → cpus ≤ MAX_CPUS → budget ≤ MAX_BUDGET → cpus * budget ≤ MAX_CPUS * MAX_BUDGET
 most_records cpus budget few least = omega (arith, mul-le-mul_left cpus least)

@@ -5,3 +5,4 @@ pub mod SeatLemmas
 pub mod RoomLemmas
 pub mod EventLemmas
 pub mod ReaderLemmas
+pub mod RunLemmas

@@ -1,5 +1,5 @@
 -- What an event gives after any records, and the run of a list of events.
-use Rattle.std.specs.Prelude.{◌≡◌, ℕ, ◌*◌, zero, suc, Bool, true, not, ◌&&◌, nat_lt, ◌==◌, List, [], ◌∷◌, Option, Some, None, Result, ok_or, if◌then◌else◌}
+use Rattle.std.specs.Prelude.{◌≡◌, ℕ, ◌*◌, zero, suc, Bool, true, not, ◌&&◌, nat_lt, ◌==◌, List, [], ◌∷◌, map, Option, Some, None, Result, ok_or, if◌then◌else◌}
 use Rattle.axp_access.specs.declared.Access.{Access}
 use Rattle.axp_access.specs.declared.Event.{Event}
 use Rattle.axp_access.specs.declared.Kind.{Kind}
@@ -110,6 +110,10 @@ IsRun m = IsRunOf m.image m.cpus m.budget m.records
 abbrev pub run : Seen → List Event → Seen
 run m [] = m
 run m (e ∷ es) = after_event (run m es) e
+
+-- the events of a history, the newest first
+abbrev pub events_of : List Record → List Event
+events_of h = map (λ r. r.event) h
 
 -- every processor below n is finished
 abbrev pub are_finished : ℕ → Seen → Bool

@@ -7,11 +7,16 @@
 #![tactic(auto)]
 
 mod instructions;
+mod laws;
 mod machine;
 mod phases;
 mod plain_memory;
 mod processor;
 mod registers;
 
+pub use laws::records_are_a_run;
 pub use machine::{Machine, NotBuilt};
 pub use registers::{REGISTERS, ZERO_REGISTER};
+
+#[cfg(test)]
+mod tests;

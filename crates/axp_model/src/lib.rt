@@ -1,2 +1,28 @@
-//! The definitions of the memory model, over lists of records: no code.
+//! The definitions of the memory model, over lists of records, and what they say in other words: laws,
+//! each proved as the contract of a function that does nothing.
 #![tactic(auto)]
+
+ghost use Rattle.std.specs.Prelude.{ℕ, List, None, Some, length, ◌<◌, ◌≡◌, ◌≤◌, ◌↔◌};
+ghost use Rattle.axp_access.specs.declared.Access.{Access};
+ghost use Rattle.axp_access.specs.declared.Record.{Record};
+ghost use Rattle.axp_image.specs.Contents.{Segment, byte_in};
+ghost use Rattle.axp_model.specs.Laws.{IsNewestWrite, IsUnwritten};
+ghost use Rattle.axp_model.specs.Sources.{memory_byte, source};
+ghost use Rattle.axp_model.specs.Turns.{turns};
+
+/// What the source of a byte is: the memory write of the history that has the byte and that no later
+/// record's write of the byte follows. There is none exactly where no record writes the byte.
+pub fn source_of_a_byte()
+    ensures newest { (h : List Record) (at : ℕ) (a : Access) → (source h at ≡ Some a) ↔ IsNewestWrite h at a }
+    ensures none { (h : List Record) (at : ℕ) → (source h at ≡ None) ↔ IsUnwritten h at }
+{}
+
+/// Memory holds bytes: each is below 256 after any history, where that of the image is.
+pub fn bytes_of_memory()
+    ensures { (image : List Segment) (h : List Record) (at : ℕ) → byte_in image at < 256 → memory_byte image h at < 256 }
+{}
+
+/// Each record is one turn at most.
+pub fn turns_of_a_history()
+    ensures { (h : List Record) → turns h ≤ length h }
+{}

@@ -1,0 +1,168 @@
+use super::*;
+use axp_access::{Access, Act, Event, Kind, Outcome, Place};
+use axp_base::{Cpu, NoMemory, QUADWORD_BYTES};
+use axp_image::read_image;
+use std::alloc::Global;
+use std::test::Fail;
+
+/// Four pages of memory, with one segment of five words at 0x2000, where every processor starts.
+const HEAD: [u8; 56] = [
+    0x41, 0x58, 0x50, 0x49, 1, 0, 1, 0, // magic, version, count
+    0, 0x80, 0, 0, 0, 0, 0, 0, // size
+    0, 0x20, 0, 0, 0, 0xFC, 0xFF, 0xFF, // entry
+    0, 0x40, 0, 0, 0, 0xFC, 0xFF, 0xFF, // stack
+    0, 0, 0, 0, 0, 0, 0, 0, // table
+    0, 0x20, 0, 0, 0, 0, 0, 0, 20, 0, 0, 0, 0, 0, 0, 0, // the segment's record
+];
+
+/// LDA R1, 1(R31); STQ R1, 0(R30); LDQ R2, 0(R30); BIS R31, R2, R3; halt.
+const STORE_AND_LOAD: [u32; 5] = [0x203F_0001, 0xB43E_0000, 0xA45E_0000, 0x47E2_0403, 0];
+
+/// A word that is not built.
+const NOT_BUILT: u32 = 0xF200_0003;
+
+/// The quadword at address 0x4000, where the stack starts.
+const STACK_QUADWORD: u64 = 0x800;
+
+/// Two processors over an image of these words, each with 7 steps; `None` where the file is no image.
+fn load_words(alloc: Global, words: &[u32; 5]) -> Result<Option<Machine>, NoMemory> {
+    let mut file = Vec::from_slice(alloc, &HEAD)?;
+    for word in words {
+        file.extend_from_slice(&word.to_le_bytes())?;
+    }
+    let Some(image) = read_image(alloc, file.as_slice())? else {
+        return Ok(None);
+    };
+    Ok(Some(Machine::load(alloc, &image, 2, 7)?))
+}
+
+/// A step of this processor.
+fn step_of(cpu: Cpu) -> Event {
+    Event {
+        cpu,
+        act: Act::Step,
+    }
+}
+
+/// Makes steps of a processor until one is refused.
+fn run_on(machine: &mut Machine, cpu: Cpu) {
+    for _ in 0..8 {
+        if machine.event(step_of(cpu)).is_err() {
+            return;
+        }
+    }
+}
+
+#[test]
+fn stores_loads_and_halts(rt: HostRuntime) -> Result<(), Fail> {
+    let cpu = Cpu::new(0).ok_or("0 is a processor's number")?;
+    let loaded = load_words(rt.alloc(), &STORE_AND_LOAD)
+        .ok()
+        .ok_or("memory")?;
+    let mut machine = loaded.ok_or("the file is an image")?;
+    for (kind, address, size, value, turn) in [
+        (Kind::Fetch, 0x2000, 4, 0x203F_0001, 0),
+        (Kind::Fetch, 0x2004, 4, 0xB43E_0000, 0),
+        (Kind::Write, 0x4000, 8, 1, 1),
+        (Kind::Fetch, 0x2008, 4, 0xA45E_0000, 1),
+        (Kind::Read, 0x4000, 8, 1, 1),
+        (Kind::Fetch, 0x200C, 4, 0x47E2_0403, 1),
+        (Kind::Fetch, 0x2010, 4, 0, 1),
+    ] {
+        let access = Access {
+            cpu,
+            kind,
+            address,
+            size,
+            value,
+            place: Place::At(turn),
+        };
+        assert_eq!(rt; machine.event(step_of(cpu)), Ok(Outcome::Access(access)));
+    }
+    assert_eq!(rt; machine.event(step_of(cpu)), Err(NotBuilt));
+    assert_eq!(rt; machine.events(), 7);
+    assert!(rt; cpu.number() < machine.cpus());
+    assert_eq!(rt; machine.halted(cpu), Some(1));
+    assert_eq!(rt; machine.steps(cpu), 7);
+    assert_eq!(rt; machine.pc(cpu), 0xFFFF_FC00_0000_2014);
+    for (n, value) in [
+        (0, 0),
+        (1, 1),
+        (2, 1),
+        (3, 1),
+        (30, 0xFFFF_FC00_0000_4000),
+        (31, 0),
+    ] {
+        assert!(rt; usize::from(n) < REGISTERS);
+        assert_eq!(rt; machine.register(cpu, n), value, "R{n}");
+    }
+    assert!(rt; STACK_QUADWORD * QUADWORD_BYTES < machine.memory_size());
+    assert!(rt; machine.is_touched(STACK_QUADWORD));
+    assert_eq!(rt; machine.quadword(STACK_QUADWORD), 1);
+    Ok(())
+}
+
+#[test]
+fn is_complete_once_every_processor_is(rt: HostRuntime) -> Result<(), Fail> {
+    let first = Cpu::new(0).ok_or("0 is a processor's number")?;
+    let second = Cpu::new(1).ok_or("1 is a processor's number")?;
+    let third = Cpu::new(2).ok_or("2 is a processor's number")?;
+    let loaded = load_words(rt.alloc(), &STORE_AND_LOAD)
+        .ok()
+        .ok_or("memory")?;
+    let mut machine = loaded.ok_or("the file is an image")?;
+    assert_eq!(rt;
+        machine.event(step_of(third)),
+        Err(NotBuilt),
+        "of two processors"
+    );
+    assert_eq!(rt; machine.events(), 0);
+    run_on(&mut machine, first);
+    assert!(rt; !machine.complete());
+    assert!(rt; machine.event(step_of(second)).is_ok());
+    assert!(rt; machine.event(step_of(second)).is_ok());
+    let store = Access {
+        cpu: second,
+        kind: Kind::Write,
+        address: 0x4000,
+        size: 8,
+        value: 1,
+        place: Place::At(2),
+    };
+    assert_eq!(rt; machine.event(step_of(second)), Ok(Outcome::Access(store)));
+    run_on(&mut machine, second);
+    assert_eq!(rt; machine.events(), 14);
+    assert!(rt; machine.complete());
+    Ok(())
+}
+
+#[test]
+fn tells_instructions_by_their_words(rt: HostRuntime) -> Result<(), Fail> {
+    let cpu = Cpu::new(0).ok_or("0 is a processor's number")?;
+    for (first, second, events, n, value) in [
+        // another instruction
+        (NOT_BUILT, 0, 0, 0, 0),
+        // LDA R2, 1(R31), and BIS R31, R2, R3 with bits 15:13 set
+        (0x205F_0001, 0x47E2_E403, 2, 3, 1),
+        // LDQ R31, 1(R30), which makes no access
+        (0xA7FE_0001, NOT_BUILT, 1, 31, 0),
+        // LDA R31, 5(R31), which is lost
+        (0x23FF_0005, NOT_BUILT, 1, 31, 0),
+        // LDQ R2, 1(R30), between two quadwords
+        (0xA45E_0001, 0, 0, 2, 0),
+        // LDQ R2, 0x4000(R30), behind the end of memory
+        (0xA45E_4000, 0, 0, 2, 0),
+    ] {
+        let words = [first, second, NOT_BUILT, 0, 0];
+        let loaded = load_words(rt.alloc(), &words).ok().ok_or("memory")?;
+        let mut machine = loaded.ok_or("the file is an image")?;
+        run_on(&mut machine, cpu);
+        assert_eq!(rt; machine.events(), events, "{first:08X}");
+        assert!(rt; cpu.number() < machine.cpus());
+        assert!(rt; usize::from(n) < REGISTERS);
+        assert_eq!(rt; machine.register(cpu, n), value, "{first:08X}");
+        let pc = 0xFFFF_FC00_0000_2000 + 4 * u64::from(events);
+        assert_eq!(rt; machine.pc(cpu), pc, "{first:08X}");
+    }
+    Ok(())
+}

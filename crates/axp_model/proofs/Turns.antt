@@ -1,0 +1,21 @@
+-- Each record is one turn at most.
+use Rattle.std.proofs.Common.{◌≤◌, List, [], ◌∷◌, length, arith}
+use Rattle.axp_access.specs.declared.Kind.{Kind}
+use Rattle.axp_access.specs.declared.Kind.TheVariants.{Fetch, Read, Write}
+use Rattle.axp_access.specs.declared.Outcome.{Outcome}
+use Rattle.axp_access.specs.declared.Outcome.TheVariants as outcome
+use Rattle.axp_access.specs.declared.Record.{Record}
+use Rattle.axp_model.specs.Turns.{turns, turns_of, turns_of_kind}
+
+pub turns_of_kind-le : (k : Kind) → turns_of_kind k ≤ 1
+turns_of_kind-le Fetch = omega arith
+turns_of_kind-le Read = omega arith
+turns_of_kind-le Write = omega arith
+
+pub turns_of-le : (o : Outcome) → turns_of o ≤ 1
+turns_of-le (outcome.Access a) = turns_of_kind-le a.kind
+turns_of-le outcome.NoAccess = omega arith
+
+pub turns-le : (h : List Record) → turns h ≤ length h
+turns-le [] = omega arith
+turns-le (r ∷ h) = omega (arith, turns_of-le r.outcome, turns-le h)
