@@ -1,5 +1,5 @@
 -- How the work ends.
-use Rattle.std.proofs.Common.{◌≡◌, ℕ, ◌+◌, ◌&&◌, Bool, true, false, cond, List, [], ◌∷◌, ◌++◌, length, Option, Some, None, Result, Ok, Err, refl, sym, ap, ◌∙◌, subst}
+use Rattle.std.proofs.Common.{◌≡◌, ℕ, ◌&&◌, Bool, true, false, cond, List, [], ◌∷◌, length, Option, Some, None, refl, sym, ap, ◌∙◌, subst}
 use Rattle.std.specs.Prelude.{◌==◌, if◌then◌else◌}
 use Rattle.axp_image.specs.Contents.{Contents}
 use Rattle.axp_machine.specs.Runs.{Seen, started, is_complete}
@@ -10,8 +10,8 @@ use Rattle.axp_top.specs.declared.printing.Stop.{Stop}
 use Rattle.axp_top.specs.declared.printing.Stop.TheVariants as stop
 use Rattle.axp_top.specs.declared.status.Status.{Status}
 use Rattle.axp_top.specs.declared.status.Status.TheVariants as status
-use Rattle.axp_top.specs.Printing.{Printed, Stopped, Prints, Ends, status_of_stop}
-use Rattle.axp_top.specs.Replays.{Answer, ending_of, answer_of_replay, replayed, answer_of_lines, answer_of_list, not_built_at_all}
+use Rattle.axp_top.specs.Printing.{Printed, Stopped, Ends, status_of_stop}
+use Rattle.axp_top.specs.Replays.{Answer, answer_of_replay, replayed, answer_of_lines, not_built_at_all}
 
 -- a status in which the work ends with its text printed
 abbrev IsEnd : Status → Type 0
@@ -67,7 +67,7 @@ pub run_stopped : (image : Contents) (first : List ℕ) (h : Header) (m : Seen) 
 run_stopped image first h m ls more b n c c' k s is some starts stops ends =
     subst (λ x. Ends b n c c' (answer_of_lines image ls) x) (sym ends)
     (subst (λ (a : Answer). Ends b n c c' a (status_of_stop k)) (ap (λ (x : Seen). answer_of_replay x more) starts ∙ answer_of_header image first h ls more is some)
-      (ends_stopped b n c c' (answer_of_replay m more) k stops))
+    (ends_stopped b n c c' (answer_of_replay m more) k stops))
 
 pub run_done : (image : Contents) (first : List ℕ) (h : Header) (m : Seen) (ls more : List (Option (List ℕ))) (b n : Option (List ℕ)) (c c' : ℕ) (s : Status) → ls ≡ Some first ∷ more → Some h ≡ header_of first → m ≡ started image h.cpus h.budget
     → Printed b n c c' (answer_of_replay m more).1 → s ≡ (answer_of_replay m more).0 → Ends b n c c' (answer_of_lines image ls) s

@@ -1,9 +1,9 @@
 -- One print after another.
-use Rattle.std.proofs.Common.{◌≡◌, ℕ, zero, suc, ◌+◌, ◌-◌, ◌/◌, ◌<◌, ◌≤◌, length, List, [], ◌∷◌, ◌++◌, Option, Result, Ok, Err, refl, sym, ap, ◌∙◌, subst, append_assoc, append-nil, add-one, add-zero, arith}
+use Rattle.std.proofs.Common.{◌≡◌, ℕ, zero, suc, ◌+◌, ◌-◌, ◌/◌, ◌<◌, length, List, [], ◌++◌, Option, Result, Ok, Err, refl, sym, ap, ◌∙◌, subst, append_assoc, add-one, add-zero, arith}
 use Rattle.std.specs.Prelude.{IsErrAnd}
 use Rattle.std.proofs.KnownBytes.{Appends-nil, Appends-trans}
-use Rattle.axp_io.specs.Causes.{Appends, AppendsFront, Rose}
-use Rattle.axp_io.proofs.Fronts.{front_longer, front_after, front_none}
+use Rattle.axp_io.specs.Causes.{Rose}
+use Rattle.axp_io.proofs.Fronts.{front_longer, front_after}
 use Rattle.axp_machine.specs.Runs.{Seen, table_of, steps_of}
 use Rattle.axp_machine.specs.declared.registers.TheConstants.{ZERO_REGISTER}
 use Rattle.axp_base.specs.declared.parts.TheConstants.{QUADWORD_BYTES}
@@ -123,20 +123,20 @@ pub tail_stopped_memory : (m : Seen) (b n n' : Option (List ℕ)) (c c' c'' : �
 tail_stopped_memory m b n n' c c' c'' s first stops =
     subst (λ t. Stopped b n' c c'' t s) (sym (tail_is m))
     (stopped_then b n n' c c' c'' (Processors m) (Memory m ++ (with_feed console_line ++ Last m)) s first
-      (stopped_longer n n' c' c'' (Memory m) (with_feed console_line ++ Last m) s stops))
+    (stopped_longer n n' c' c'' (Memory m) (with_feed console_line ++ Last m) s stops))
 
 pub tail_stopped_console : (m : Seen) (line : List ℕ) (b n n' k : Option (List ℕ)) (c c' c'' d : ℕ) (s : Stop) → line ≡ console_line → Printed b n c c' (Processors m) → Printed n n' c' c'' (Memory m) → Stopped n' k c'' d (with_feed line) s → Stopped b k c d (tail m) s
 tail_stopped_console m line b n n' k c c' c'' d s is first second stops =
     subst (λ t. Stopped b k c d t s) (sym (tail_is m))
     (stopped_then b n k c c' d (Processors m) (Memory m ++ (with_feed console_line ++ Last m)) s first
-      (stopped_then n n' k c' c'' d (Memory m) (with_feed console_line ++ Last m) s second
-        (stopped_longer n' k c'' d (with_feed console_line) (Last m) s (subst (λ l. Stopped n' k c'' d (with_feed l) s) is stops))))
+    (stopped_then n n' k c' c'' d (Memory m) (with_feed console_line ++ Last m) s second
+    (stopped_longer n' k c'' d (with_feed console_line) (Last m) s (subst (λ l. Stopped n' k c'' d (with_feed l) s) is stops))))
 
 pub tail_prints : (m : Seen) (line last : List ℕ) (events : ℕ) (b n n' k k' : Option (List ℕ)) (c c' c'' d d' : ℕ) (r : Result (Unit {0}) Stop) → line ≡ console_line → last ≡ end_line events → events ≡ length m.records
     → Printed b n c c' (Processors m) → Printed n n' c' c'' (Memory m) → Printed n' k c'' d (with_feed line) → Prints k k' d d' (with_feed last) r → Prints b k' c d' (tail m) r
 tail_prints m line last events b n n' k k' c c' c'' d d' r is ends count first second third prints =
     subst (λ t. Prints b k' c d' t r) (sym (tail_is m))
     (prints_then b n k' c c' d' (Processors m) (Memory m ++ (with_feed console_line ++ Last m)) r first
-      (prints_then n n' k' c' c'' d' (Memory m) (with_feed console_line ++ Last m) r second
-        (prints_then n' k k' c'' d d' (with_feed console_line) (Last m) r (subst (λ l. Printed n' k c'' d (with_feed l)) is third)
-          (subst (λ l. Prints k k' d d' (with_feed l) r) (ends ∙ ap end_line count) prints))))
+    (prints_then n n' k' c' c'' d' (Memory m) (with_feed console_line ++ Last m) r second
+    (prints_then n' k k' c'' d d' (with_feed console_line) (Last m) r (subst (λ l. Printed n' k c'' d (with_feed l)) is third)
+    (subst (λ l. Prints k k' d d' (with_feed l) r) (ends ∙ ap end_line count) prints))))

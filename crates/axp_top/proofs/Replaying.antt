@@ -1,12 +1,11 @@
 -- Line by line through an event list.
-use Rattle.std.proofs.Common.{◌≡◌, ℕ, zero, suc, ◌+◌, ◌&&◌, Bool, true, false, cond, List, [], ◌∷◌, ◌++◌, length, Option, Some, None, Result, Ok, Err, refl, sym, ap, ◌∙◌, subst, append_assoc, append-nil}
+use Rattle.std.proofs.Common.{◌≡◌, ℕ, Bool, true, false, cond, List, [], ◌∷◌, ◌++◌, length, Option, Some, None, Result, Ok, Err, refl, sym, ap, ◌∙◌, subst, append_assoc, append-nil}
 use Rattle.std.specs.Prelude.{IsErrAnd, IfOk, ◌==◌, if◌then◌else◌}
-use Rattle.std.specs.Option.{option_map_or}
 use Rattle.axp_access.specs.declared.Event.{Event}
 use Rattle.axp_access.specs.declared.Outcome.{Outcome}
 use Rattle.axp_access.specs.declared.Record.{Record}
 use Rattle.axp_machine.specs.declared.machine.NotBuilt.{NotBuilt}
-use Rattle.axp_machine.specs.Runs.{Seen, outcome_of, answer_of, after_event, with_record, is_complete}
+use Rattle.axp_machine.specs.Runs.{Seen, outcome_of, answer_of, after_event, with_record}
 use Rattle.axp_trace.specs.Lines.{with_feed, line_text, trace_header}
 use Rattle.axp_trace.specs.Reading.{event_of}
 use Rattle.axp_top.specs.declared.status.Status.{Status}
@@ -103,9 +102,10 @@ comes_more b n n' c c' c'' first m m' all ls l (Some r) is comes does =
 -- the list goes on with what is not built
 pub comes_to_none : (b n n' : Option (List ℕ)) (c c' c'' : ℕ) (first m m' : Seen) (all ls : List Line) (l : Line) (r : Option Record) → record_of m (event_in m.cpus l) ≡ r → Comes b n c c' first m all (l ∷ ls) → PrintsEvent n n' c' c'' m m' r (Ok false)
     → PrintsEvents b n' c c'' first m' all (Ok false)
-comes_to_none b n n' c c' c'' first m m' all ls l None is comes does =
-    (subst (Printed b n' c c'') (ap (λ t. comes.done ++ t) (sym (front_none m l ls is)) ∙ comes.text) (printed_then b n n' c c' c'' comes.done [] comes.printed does.2),
-      sym comes.ends ∙ replayed_none m l ls is ∙ ap (λ (s : Seen). (s, false)) (sym does.1))
+comes_to_none b n n' c c' c'' first m m' all ls l None is comes does = (
+  subst (Printed b n' c c'') (ap (λ t. comes.done ++ t) (sym (front_none m l ls is)) ∙ comes.text) (printed_then b n n' c c' c'' comes.done [] comes.printed does.2),
+  sym comes.ends ∙ replayed_none m l ls is ∙ ap (λ (s : Seen). (s, false)) (sym does.1),
+)
 comes_to_none b n n' c c' c'' first m m' all ls l (Some r) is comes does = cc
 
 -- the print of an event stopped
@@ -115,7 +115,7 @@ comes_to_stop b n n' c c' c'' first m m' all ls l None s is comes does = absurd 
 comes_to_stop b n n' c c' c'' first m m' all ls l (Some r) s is comes does =
     subst (λ t. Stopped b n' c c'' t s) (ap (λ t. comes.done ++ t) (sym (front_some m l ls r is)) ∙ comes.text)
     (stopped_then b n n' c c' c'' comes.done (record_text r ++ front_text (with_record m r) ls) s comes.printed
-      (stopped_longer n n' c' c'' (record_text r) (front_text (with_record m r) ls) s does))
+    (stopped_longer n n' c' c'' (record_text r) (front_text (with_record m r) ls) s does))
 
 -- the list ends, whole or within a line
 pub comes_to_end : (b n : Option (List ℕ)) (c c' : ℕ) (first m : Seen) (all ls : List Line) (empty : Bool) → ls ≡ cond empty [] (None ∷ []) → Comes b n c c' first m all ls → PrintsEvents b n c c' first m all (Ok empty)
@@ -178,7 +178,7 @@ pub run_stopped_front : (m : Seen) (ls : List Line) (items : List ℕ) (cpus bud
 run_stopped_front m ls items cpus budget size b n n' c c' c'' s none is_cpus is_budget is_size is first stops =
     subst (λ t. Stopped b n' c c'' t s) (ap (λ t. t ++ (front_text m ls ++ (ending_of (replayed m ls).0 (replayed m ls).1).1)) (header_is m items cpus budget size is_cpus is_budget is_size is) ∙ sym (run_text m ls none))
     (stopped_then b n n' c c' c'' (with_feed items) (front_text m ls ++ (ending_of (replayed m ls).0 (replayed m ls).1).1) s first
-      (stopped_longer n n' c' c'' (front_text m ls) ((ending_of (replayed m ls).0 (replayed m ls).1).1) s stops))
+    (stopped_longer n n' c' c'' (front_text m ls) ((ending_of (replayed m ls).0 (replayed m ls).1).1) s stops))
 
 -- the machine and the answer of the front, as the definition has them
 pub run_prints : (m m' : Seen) (whole : Bool) (ls : List Line) (items : List ℕ) (cpus budget size : ℕ) (b n n' k : Option (List ℕ)) (c c' c'' d : ℕ) (r : Result Status Stop) → m.records ≡ [] → cpus ≡ m.cpus → budget ≡ m.budget → size ≡ m.image.size → items ≡ trace_header cpus budget size
@@ -187,7 +187,7 @@ run_prints m m' whole ls items cpus budget size b n n' k c c' c'' d r none is_cp
     let end : Prints n' k c'' d (ending_of (replayed m ls).0 (replayed m ls).1).1 r = subst (λ (e : Seen × Bool). Prints n' k c'' d (ending_of e.0 e.1).1 r) (sym front.1) ending in
     subst (λ t. Prints b k c d t r) (ap (λ t. t ++ (front_text m ls ++ (ending_of (replayed m ls).0 (replayed m ls).1).1)) (header_is m items cpus budget size is_cpus is_budget is_size is) ∙ sym (run_text m ls none))
     (prints_then b n k c c' d (with_feed items) (front_text m ls ++ (ending_of (replayed m ls).0 (replayed m ls).1).1) r first
-      (prints_then n n' k c' c'' d (front_text m ls) ((ending_of (replayed m ls).0 (replayed m ls).1).1) r front.0 end))
+    (prints_then n n' k c' c'' d (front_text m ls) ((ending_of (replayed m ls).0 (replayed m ls).1).1) r front.0 end))
 
 pub run_status : (m m' : Seen) (whole : Bool) (ls : List Line) (r : Result Status Stop) → replayed m ls ≡ (m', whole) → IfOk r (λ s. s ≡ (ending_of m' whole).0) → IfOk r (λ s. s ≡ (answer_of_replay m ls).0)
 run_status m m' whole ls r is h = subst (λ (e : Seen × Bool). IfOk r (λ s. s ≡ (ending_of e.0 e.1).0)) (sym is) h

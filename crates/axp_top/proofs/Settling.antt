@@ -1,21 +1,20 @@
 -- From the end of the work to the clauses of the top call.
-use Rattle.std.proofs.Common.{◌≡◌, ◌⊎◌, ℕ, ◌≤◌, ◌<◌, ◌&&◌, Bool, true, false, cond, List, [], ◌∷◌, ◌++◌, length, Option, Some, None, Result, Ok, Err, IfSome, refl, sym, ap, ◌∙◌, subst, inl, inr, append_assoc, append-nil, arith}
+use Rattle.std.proofs.Common.{◌≡◌, ℕ, ◌≤◌, ◌<◌, Bool, true, false, cond, List, [], ◌∷◌, ◌++◌, length, Option, Some, None, Result, Ok, Err, IfSome, refl, sym, ap, ◌∙◌, subst, inl, inr, append_assoc, append-nil, arith}
 use Rattle.std.proofs.lemmas.Bool.{lt-ltb, le-ltb}
 use Rattle.axp_image.specs.Contents.{Contents}
 use Rattle.axp_io.specs.declared.FetchFault.{FetchFault}
 use Rattle.axp_io.specs.declared.FetchFault.TheVariants as fetch
-use Rattle.axp_io.specs.Causes.{Ask, Appends, AppendsFront, FetchAsks, Rose}
+use Rattle.axp_io.specs.Causes.{Ask, FetchAsks, Rose}
 use Rattle.axp_io.proofs.Fronts.{front_none}
-use Rattle.axp_machine.specs.Runs.{Seen, is_complete}
 use Rattle.axp_trace.specs.declared.reading.Header.{Header}
 use Rattle.axp_trace.specs.Files.{lines_of}
 use Rattle.axp_trace.specs.Reading.{header_of}
-use Rattle.axp_top.specs.declared.limits.TheConstants.{MAX_IMAGE_BYTES, MAX_TRACE_BYTES}
+use Rattle.axp_top.specs.declared.limits.TheConstants.{MAX_TRACE_BYTES}
 use Rattle.axp_top.specs.declared.status.Status.{Status}
 use Rattle.axp_top.specs.declared.status.Status.TheVariants as status
-use Rattle.axp_top.specs.Answers.{answer_of_trace, answer_of_image, answer_of_files, image_in, read_fault_answer, read_fault_line, AsksFront, DeskCount, Settles, SinkCount}
+use Rattle.axp_top.specs.Answers.{answer_of_trace, read_fault_answer, AsksFront, DeskCount, Settles, SinkCount}
 use Rattle.axp_top.specs.Printing.{Ends}
-use Rattle.axp_top.specs.Replays.{Answer, not_built_at_all, answer_of_lines, answer_of_list, replayed, ending_of}
+use Rattle.axp_top.specs.Replays.{Answer, not_built_at_all, answer_of_lines, answer_of_list}
 
 -- the answer is no read fault
 pub record IsNoReadFault (a : Answer) : Type 0 where

@@ -1,5 +1,5 @@
 -- A command in the code stands for one without where its words lie.
-use Rattle.std.specs.Prelude.{ℕ, List, Option, Some, None}
+use Rattle.std.specs.Prelude.{Option, Some, None}
 use Rattle.axp_top.specs.declared.words.Command.{Command}
 use Rattle.axp_top.specs.declared.words.Command.TheVariants as code
 use Rattle.axp_top.specs.Words.{Order, Replay}

@@ -12,7 +12,10 @@ use crate::tail::print_tail;
 use axp_image::Image;
 use axp_io::Sink;
 use axp_machine::Machine;
-use axp_trace::{LineText, first_line, push_all, push_decimal, read_event, read_header, write_event, write_header};
+use axp_trace::{
+    LineText, first_line, push_all, push_decimal, read_event, read_header, write_event,
+    write_header,
+};
 use std::alloc::Global;
 
 /// The line of a status that says what is not built.
@@ -29,7 +32,12 @@ pub fn write_not_built(event: u32) -> LineText
 
 /// Does the event of a line and prints its line. The answer is whether the line is an event that is
 /// built; else nothing is done or printed.
-fn print_event<K: Sink>(alloc: Global, sink: &mut K, machine: &mut Machine, line: &[u8]) -> Result<bool, Stop>
+fn print_event<K: Sink>(
+    alloc: Global,
+    sink: &mut K,
+    machine: &mut Machine,
+    line: &[u8],
+) -> Result<bool, Stop>
     ensures { PrintsEvent (K.taken sink.old) (K.taken sink.new) (K.faults sink.old) (K.faults sink.new) machine.old machine.new
         (record_of machine.old (event_of machine.old.cpus line.now)) result }
 {
@@ -45,7 +53,12 @@ fn print_event<K: Sink>(alloc: Global, sink: &mut K, machine: &mut Machine, line
 
 /// Does the events of a list's lines, up to the first line that is no event or whose event is not
 /// built, and prints a line for each. The answer is whether these are all lines.
-fn print_events<K: Sink>(alloc: Global, sink: &mut K, machine: &mut Machine, events: &[u8]) -> Result<bool, Stop>
+fn print_events<K: Sink>(
+    alloc: Global,
+    sink: &mut K,
+    machine: &mut Machine,
+    events: &[u8],
+) -> Result<bool, Stop>
     ensures { PrintsEvents (K.taken sink.old) (K.taken sink.new) (K.faults sink.old) (K.faults sink.new) machine.old machine.new
         (lines_of events.now) result }
 {
@@ -60,7 +73,12 @@ fn print_events<K: Sink>(alloc: Global, sink: &mut K, machine: &mut Machine, eve
 }
 
 /// Prints how a run ends, by whether all lines of its list were done.
-fn print_ending<K: Sink>(alloc: Global, sink: &mut K, machine: &Machine, whole: bool) -> Result<Status, Stop>
+fn print_ending<K: Sink>(
+    alloc: Global,
+    sink: &mut K,
+    machine: &Machine,
+    whole: bool,
+) -> Result<Status, Stop>
     ensures text { Prints (K.taken sink.old) (K.taken sink.new) (K.faults sink.old) (K.faults sink.new)
         (ending_of machine.now whole).1 result }
     ensures status { IfOk result (λ s. s ≡ (ending_of machine.now whole).0) }
@@ -76,7 +94,12 @@ fn print_ending<K: Sink>(alloc: Global, sink: &mut K, machine: &Machine, whole: 
 }
 
 /// Prints the run of a list's lines over a machine at the start, and answers how it ended.
-fn print_run<K: Sink>(alloc: Global, sink: &mut K, machine: &mut Machine, events: &[u8]) -> Result<Status, Stop>
+fn print_run<K: Sink>(
+    alloc: Global,
+    sink: &mut K,
+    machine: &mut Machine,
+    events: &[u8],
+) -> Result<Status, Stop>
     requires { machine.old.records ≡ [] }
     ensures text { Prints (K.taken sink.old) (K.taken sink.new) (K.faults sink.old) (K.faults sink.new)
         (answer_of_replay machine.old (lines_of events.now)).1 result }
@@ -92,7 +115,12 @@ fn print_run<K: Sink>(alloc: Global, sink: &mut K, machine: &mut Machine, events
 pub fn refuse_all<K: Sink>(alloc: Global, sink: &mut K) -> Status
     ensures { Ends (K.taken sink.old) (K.taken sink.new) (K.faults sink.old) (K.faults sink.new) not_built_at_all result }
 {
-    refuse(alloc, sink, write_not_built(0), Status::NotBuilt { event: 0 })
+    refuse(
+        alloc,
+        sink,
+        write_not_built(0),
+        Status::NotBuilt { event: 0 },
+    )
 }
 
 /// Prints the run of an event list over an image.

@@ -13,7 +13,13 @@ use axp_trace::{write_console, write_end, write_memory, write_processor, write_r
 use std::alloc::Global;
 
 /// Prints what a register of a processor holds at the end, unless it is 0.
-fn print_register<K: Sink>(alloc: Global, sink: &mut K, machine: &Machine, cpu: Cpu, n: u8) -> Result<(), Stop>
+fn print_register<K: Sink>(
+    alloc: Global,
+    sink: &mut K,
+    machine: &Machine,
+    cpu: Cpu,
+    n: u8,
+) -> Result<(), Stop>
     requires cpu { cpu_number cpu < machine.now.cpus }
     requires register { n < ZERO_REGISTER }
     ensures { Prints (K.taken sink.old) (K.taken sink.new) (K.faults sink.old) (K.faults sink.new)
@@ -27,7 +33,12 @@ fn print_register<K: Sink>(alloc: Global, sink: &mut K, machine: &Machine, cpu: 
 }
 
 /// Prints what the registers of a processor hold at the end.
-fn print_registers<K: Sink>(alloc: Global, sink: &mut K, machine: &Machine, cpu: Cpu) -> Result<(), Stop>
+fn print_registers<K: Sink>(
+    alloc: Global,
+    sink: &mut K,
+    machine: &Machine,
+    cpu: Cpu,
+) -> Result<(), Stop>
     requires { cpu_number cpu < machine.now.cpus }
     ensures { Prints (K.taken sink.old) (K.taken sink.new) (K.faults sink.old) (K.faults sink.new)
         (registers_text machine.now (cpu_number cpu) ZERO_REGISTER) result }
@@ -39,18 +50,33 @@ fn print_registers<K: Sink>(alloc: Global, sink: &mut K, machine: &Machine, cpu:
 }
 
 /// Prints a processor at the end: how it ended, and its registers.
-fn print_processor<K: Sink>(alloc: Global, sink: &mut K, machine: &Machine, cpu: Cpu) -> Result<(), Stop>
+fn print_processor<K: Sink>(
+    alloc: Global,
+    sink: &mut K,
+    machine: &Machine,
+    cpu: Cpu,
+) -> Result<(), Stop>
     requires { cpu_number cpu < machine.now.cpus }
     ensures { Prints (K.taken sink.old) (K.taken sink.new) (K.faults sink.old) (K.faults sink.new)
         (processor_text machine.now (cpu_number cpu)) result }
 {
-    let line = write_processor(cpu, machine.halted(cpu), machine.steps(cpu), machine.pc(cpu));
+    let line = write_processor(
+        cpu,
+        machine.halted(cpu),
+        machine.steps(cpu),
+        machine.pc(cpu),
+    );
     print_line(alloc, sink, line)?;
     print_registers(alloc, sink, machine, cpu)
 }
 
 /// Prints an aligned quadword of memory, where a write touched it.
-fn print_quadword<K: Sink>(alloc: Global, sink: &mut K, machine: &Machine, quadword: u64) -> Result<(), Stop>
+fn print_quadword<K: Sink>(
+    alloc: Global,
+    sink: &mut K,
+    machine: &Machine,
+    quadword: u64,
+) -> Result<(), Stop>
     requires inside { quadword * QUADWORD_BYTES < machine.now.image.size }
     requires small { machine.now.image.size < 2 ^ 32 }
     ensures { Prints (K.taken sink.old) (K.taken sink.new) (K.faults sink.old) (K.faults sink.new)

@@ -7,7 +7,7 @@ pub returns-in_err-print_event : goal.returns-in_err-print_event
 returns-in_err-print_event g c =
     exits_events _ _ _ _ _ _ _ c.from_residual.result c.in_err-print_event.field-0.0 c.from_residual.ensures.1
     (comes_to_stop _ _ _ _ _ _ c.args.machine.now c.loop-line.machine c.print_event.new.machine (lines_of c.args.events.now) (lines_of c.in-Some.more.now) (Some c.in-Some.line.now) _ c.in_err-print_event.field-0.0 refl
-      (comes_at _ _ _ _ _ _ _ _ _ c.in-Some.ensures.lines c.loop-line.invariant) c.in_err-print_event.ensures)
+    (comes_at _ _ _ _ _ _ _ _ _ c.in-Some.ensures.lines c.loop-line.invariant) c.in_err-print_event.ensures)
 
 pub returns-then-not-branch : goal.returns-then-not-branch
 returns-then-not-branch g c =

@@ -7,13 +7,13 @@ pub returns-in_err-print_line-clause-text : goal.returns-in_err-print_line-claus
 returns-in_err-print_line-clause-text g c =
     exits _ _ _ _ _ c.from_residual.result c.in_err-print_line.field-0.0 c.from_residual.ensures.1
     (run_stopped_first c.args.machine.now (lines_of c.args.events.now) c.write_header-header.result.items c.cpus.result c.budget.result c.memory_size.result _ _ _ _ c.in_err-print_line.field-0.0
-      c.requires c.cpus.ensures.value c.budget.ensures c.memory_size.ensures.value c.write_header-header.ensures.text c.in_err-print_line.ensures)
+    c.requires c.cpus.ensures.value c.budget.ensures c.memory_size.ensures.value c.write_header-header.ensures.text c.in_err-print_line.ensures)
 
 pub returns-in_err-whole-clause-text : goal.returns-in_err-whole-clause-text
 returns-in_err-whole-clause-text g c =
     exits _ _ _ _ _ c.from_residual-in_err-whole.result c.in_err-whole.field-0.0 c.from_residual-in_err-whole.ensures.1
     (run_stopped_front c.args.machine.now (lines_of c.args.events.now) c.write_header-header.result.items c.cpus.result c.budget.result c.memory_size.result _ _ _ _ _ _ c.in_err-whole.field-0.0
-      c.requires c.cpus.ensures.value c.budget.ensures c.memory_size.ensures.value c.write_header-header.ensures.text c.in_ok-print_line.ensures c.in_err-whole.ensures)
+    c.requires c.cpus.ensures.value c.budget.ensures c.memory_size.ensures.value c.write_header-header.ensures.text c.in_ok-print_line.ensures c.in_err-whole.ensures)
 
 pub returns-clause-text : goal.returns-clause-text
 returns-clause-text g c =

@@ -16,4 +16,4 @@ returns-in_err-print_quadword g c =
     let below = rw c.memory_size-quadwords.ensures.value at c.loop-quadword-test.true in
     exits _ _ _ _ _ c.from_residual.result c.in_err-print_quadword.field-0.0 c.from_residual.ensures.1
     (stopped_at (quadword_text c.args.machine.now) (memory_text c.args.machine.now) c.loop-quadword.quadword (c.args.machine.now.image.size / QUADWORD_BYTES)
-      _ _ _ _ _ _ c.in_err-print_quadword.field-0.0 (memory_more c.args.machine.now) below c.loop-quadword.invariant c.in_err-print_quadword.ensures)
+    _ _ _ _ _ _ c.in_err-print_quadword.field-0.0 (memory_more c.args.machine.now) below c.loop-quadword.invariant c.in_err-print_quadword.ensures)

@@ -1,5 +1,3 @@
-use Rattle.std.proofs.Common.{◌≡◌}
-use Rattle.axp_base.specs.Cpus.{cpu_number}
 use Rattle.axp_top.specs.Texts.{processors_text, processor_text}
 use Rattle.axp_top.proofs.Printings.{exits, printed_none, printed_more, stopped_at, processors_more, processors_none}
 use Rattle.axp_top.proofs.tail.print_processors.Goals as goal
@@ -14,7 +12,7 @@ returns-in_err-print_processor g c =
     let below = rw c.cpus-n-end.ensures.value at c.loop-n-test.true in
     exits _ _ _ _ _ c.from_residual.result c.in_err-print_processor.field-0.0 c.from_residual.ensures.1
     (stopped_at (processor_text c.args.machine.now) (processors_text c.args.machine.now) c.loop-n.n c.args.machine.now.cpus
-      _ _ _ _ _ _ c.in_err-print_processor.field-0.0 (processors_more c.args.machine.now) below c.loop-n.invariant stops)
+    _ _ _ _ _ _ c.in_err-print_processor.field-0.0 (processors_more c.args.machine.now) below c.loop-n.invariant stops)
 
 pub loop-n-preserved : goal.loop-n-preserved
 loop-n-preserved g c =

@@ -11,7 +11,7 @@ pub returns-in_err-print_register : goal.returns-in_err-print_register
 returns-in_err-print_register g c =
     exits _ _ _ _ _ c.from_residual.result c.in_err-print_register.field-0.0 c.from_residual.ensures.1
     (stopped_at (register_text c.args.machine.now (cpu_number c.args.cpu)) (registers_text c.args.machine.now (cpu_number c.args.cpu)) c.loop-n.n ZERO_REGISTER
-      _ _ _ _ _ _ c.in_err-print_register.field-0.0 (registers_more c.args.machine.now (cpu_number c.args.cpu)) c.loop-n-test.true c.loop-n.invariant c.in_err-print_register.ensures)
+    _ _ _ _ _ _ c.in_err-print_register.field-0.0 (registers_more c.args.machine.now (cpu_number c.args.cpu)) c.loop-n-test.true c.loop-n.invariant c.in_err-print_register.ensures)
 
 pub loop-n-preserved : goal.loop-n-preserved
 loop-n-preserved g c =
