@@ -8,6 +8,8 @@ mod replay;
 mod serve;
 mod status;
 mod tail;
+#[cfg(test)]
+mod tests;
 mod words;
 
 pub use limits::{MAX_IMAGE_BYTES, MAX_TRACE_BYTES};
