@@ -9,10 +9,13 @@ use Rattle.axp_io.proofs.Fronts.{front_none}
 use Rattle.axp_trace.specs.declared.reading.Header.{Header}
 use Rattle.axp_trace.specs.Files.{lines_of}
 use Rattle.axp_trace.specs.Reading.{header_of}
-use Rattle.axp_top.specs.declared.limits.TheConstants.{MAX_TRACE_BYTES}
+use Rattle.axp_top.specs.declared.limits.TheConstants.{MAX_IMAGE_BYTES, MAX_TRACE_BYTES}
 use Rattle.axp_top.specs.declared.status.Status.{Status}
 use Rattle.axp_top.specs.declared.status.Status.TheVariants as status
-use Rattle.axp_top.specs.Answers.{answer_of_trace, read_fault_answer, AsksFront, DeskCount, Settles, SinkCount}
+use Rattle.axp_image.specs.Grammar as grammar
+use Rattle.axp_image.specs.Grammar.{image_of}
+use Rattle.axp_top.specs.Words.{Order}
+use Rattle.axp_top.specs.Answers.{SettlesSome, SettlesSomeTrace, answer_of_files, answer_of_trace, read_fault_answer, AsksFront, DeskCount, Settles, SinkCount}
 use Rattle.axp_top.specs.Printing.{Ends}
 use Rattle.axp_top.specs.Replays.{Answer, not_built_at_all, answer_of_lines, answer_of_list}
 
@@ -126,3 +129,44 @@ asks_then before between now ask more is next = (ask ∷ next.0, next.1, ap (λ 
 pub nothing_settles : (b : Option (List ℕ)) (answer : Option Answer) → IfSome answer (λ a. Settles b b a status.Memory)
 nothing_settles b None = tt
 nothing_settles b (Some a) = settles_nothing b a
+
+-- ---- where the desk tells nothing
+
+pub some_trace : (b n : Option (List ℕ)) (c c' : ℕ) (image : Contents) (list : List ℕ) (s : Status) → length list ≤ MAX_TRACE_BYTES → Ends b n c c' (answer_of_lines image (lines_of list)) s → SettlesSomeTrace b n image s
+some_trace b n c c' image list s short h = (list, rw (le-ltb MAX_TRACE_BYTES (length list) short) (ends_settles b n c c' (answer_of_lines image (lines_of list)) s (lines_are image (lines_of list)) h))
+
+-- the empty list has the answer of a list that is too long
+pub some_long : (b n : Option (List ℕ)) (c c' : ℕ) (image : Contents) (s : Status) → Ends b n c c' not_built_at_all s → SettlesSomeTrace b n image s
+some_long b n c c' image s h = ([], ends_settles b n c c' not_built_at_all s not_built_is h)
+
+pub some_fault : (b n : Option (List ℕ)) (c c' : ℕ) (image : Contents) (s : Status) → Ends b n c c' read_fault_answer s → SettlesSomeTrace b n image s
+some_fault b n c c' image s h = ([], fault_settles b n c c' not_built_at_all s h)
+
+pub some_memory : (b : Option (List ℕ)) (image : Contents) → SettlesSomeTrace b b image status.Memory
+some_memory b image = ([], settles_nothing b not_built_at_all)
+
+abbrev pub SettlesSomeFiles : Option (List ℕ) → Option (List ℕ) → Status → Type 0
+SettlesSomeFiles b n s = (image trace : List ℕ) × IfSome (answer_of_files (Some image) (Some trace)) (λ a. Settles b n a s)
+
+pub files_of_image : (b n : Option (List ℕ)) (bytes : List ℕ) (image : Contents) (s : Status) → length bytes ≤ MAX_IMAGE_BYTES → Some image ≡ image_of bytes → SettlesSomeTrace b n image s → SettlesSomeFiles b n s
+files_of_image b n bytes image s short is h = (bytes, h.0, rw (le-ltb MAX_IMAGE_BYTES (length bytes) short) (rw (sym is) h.1))
+
+no_image : image_of [] ≡ None
+unfolding image_of grammar.header_of grammar.number_at grammar.piece_at
+no_image = refl
+
+-- the empty list is no image
+pub files_refused : (b n : Option (List ℕ)) (c c' : ℕ) (s : Status) → Ends b n c c' not_built_at_all s → SettlesSomeFiles b n s
+files_refused b n c c' s h = ([], [], rw no_image (ends_settles b n c c' not_built_at_all s not_built_is h))
+
+pub files_fault : (b n : Option (List ℕ)) (c c' : ℕ) (s : Status) → Ends b n c c' read_fault_answer s → SettlesSomeFiles b n s
+files_fault b n c c' s h = ([], [], rw no_image (fault_settles b n c c' not_built_at_all s h))
+
+pub files_memory : (b : Option (List ℕ)) → SettlesSomeFiles b b status.Memory
+files_memory b = ([], [], rw no_image (settles_nothing b not_built_at_all))
+
+pub over_refused : (b n : Option (List ℕ)) (c c' : ℕ) (order : Option Order) (s : Status) → None ≡ order → Ends b n c c' not_built_at_all s → SettlesSome b n order s
+over_refused b n c c' order s is h = subst (λ o. SettlesSome b n o s) is ([], [], ends_settles b n c c' not_built_at_all s not_built_is h)
+
+pub over_files : (b n : Option (List ℕ)) (o : Order) (order : Option Order) (s : Status) → Some o ≡ order → SettlesSomeFiles b n s → SettlesSome b n order s
+over_files b n o order s is h = subst (λ x. SettlesSome b n x s) is h

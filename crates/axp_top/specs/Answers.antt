@@ -1,5 +1,5 @@
 -- What the program answers, by its words and the lists that the desk tells.
-use Rattle.std.specs.Prelude.{◌≡◌, ◌⊎◌, ℕ, ◌≤◌, nat_lt, List, [], ◌∷◌, ◌++◌, length, codes, Option, Some, None, if◌then◌else◌}
+use Rattle.std.specs.Prelude.{◌≡◌, ◌⊎◌, ℕ, ◌≤◌, nat_lt, List, [], ◌∷◌, ◌++◌, length, codes, Option, Some, None, IfSome, if◌then◌else◌}
 use Rattle.axp_image.specs.Contents.{Contents}
 use Rattle.axp_image.specs.Grammar.{image_of}
 use Rattle.axp_io.specs.Causes.{Ask, Appends, AppendsFront, Rose}
@@ -47,6 +47,11 @@ abbrev pub answer_of : Option Order → (List ℕ → Option (List ℕ)) → Opt
 answer_of None told = Some not_built_at_all
 answer_of (Some (Replay image trace)) told = answer_of_files (told image) (told trace)
 
+-- the answer by the lists that the desk hands over
+abbrev pub answer_over : Option Order → List ℕ → List ℕ → Option Answer
+answer_over None image trace = Some not_built_at_all
+answer_over (Some order) image trace = answer_of_files (Some image) (Some trace)
+
 -- ---- what each status says
 
 -- a front of the answer's text was printed, or of the line of a read fault
@@ -60,6 +65,15 @@ Settles before now answer (status.NotBuilt n) = (status.NotBuilt n ≡ answer.0)
 Settles before now answer status.ReadFault = Appends before now read_fault_line
 Settles before now answer status.WriteFault = PrintsFront before now answer
 Settles before now answer status.Memory = PrintsFront before now answer
+
+-- Where the desk tells no lists: there are two, one for the image and one for the event list, by which
+-- this is the text and the status.
+abbrev pub SettlesSome : Option (List ℕ) → Option (List ℕ) → Option Order → Status → Type 0
+SettlesSome before now order s = (image trace : List ℕ) × IfSome (answer_over order image trace) (λ a. Settles before now a s)
+
+-- the same of an event list over an image
+abbrev pub SettlesSomeTrace : Option (List ℕ) → Option (List ℕ) → Contents → Status → Type 0
+SettlesSomeTrace before now image s = (trace : List ℕ) × Settles before now (answer_of_trace image trace) s
 
 -- the sink's count of faults
 abbrev pub SinkCount : ℕ → ℕ → Status → Type 0

@@ -1,8 +1,8 @@
-ghost use Rattle.std.specs.Prelude.{◌≡◌, ◌∷◌, ◌<◌, [], IfSome};
+ghost use Rattle.std.specs.Prelude.{◌≡◌, ◌∷◌, ◌<◌, ℕ, List, [], Some, IfSome};
 ghost use Rattle.arrayvec.specs.ArrayVec.{array_vec_len};
 ghost use Rattle.axp_trace.specs.declared.lines.TheConstants.{LINE_ROOM};
 ghost use Rattle.axp_top.specs.declared.limits.TheConstants.{MAX_IMAGE_BYTES, MAX_TRACE_BYTES};
-ghost use Rattle.axp_top.specs.Answers.{answer_of, answer_of_files, answer_of_trace, asks_of, read_fault_answer, read_fault_text, AsksFront, DeskCount, Settles, SinkCount};
+ghost use Rattle.axp_top.specs.Answers.{answer_of, answer_of_files, answer_of_trace, asks_of, read_fault_answer, read_fault_text, AsksFront, DeskCount, Settles, SettlesSome, SettlesSomeTrace, SinkCount};
 ghost use Rattle.axp_top.specs.Printing.{Ends};
 ghost use Rattle.axp_top.specs.Words.{order_of};
 
@@ -30,6 +30,8 @@ pub fn serve_plain<D: Desk, K: Sink>(
     // a front of the text was printed before the sink failed or memory was not found.
     ensures answer { IfSome (answer_of (order_of words.now) (D.told desk.old))
         (λ a. Settles (K.taken sink.old) (K.taken sink.new) a result) }
+    // Where the desk tells nothing, they are still those of two lists that it may have handed over.
+    ensures some_files { SettlesSome (K.taken sink.old) (K.taken sink.new) (order_of words.now) result }
     // A fault is answered only where one came in this call, and then at once.
     ensures sink_count { SinkCount (K.faults sink.old) (K.faults sink.new) result }
     ensures desk_count { DeskCount (D.faults desk.old) (D.faults desk.new) result }
@@ -51,6 +53,8 @@ fn serve_replay<D: Desk, K: Sink>(
     trace: &str,
 ) -> Status
     ensures answer { IfSome (answer_of_files (D.told desk.old image.now) (D.told desk.old trace.now))
+        (λ a. Settles (K.taken sink.old) (K.taken sink.new) a result) }
+    ensures some_files { (image trace : List ℕ) × IfSome (answer_of_files (Some image) (Some trace))
         (λ a. Settles (K.taken sink.old) (K.taken sink.new) a result) }
     ensures sink_count { SinkCount (K.faults sink.old) (K.faults sink.new) result }
     ensures desk_count { DeskCount (D.faults desk.old) (D.faults desk.new) result }
@@ -79,6 +83,7 @@ fn replay_file<D: Desk, K: Sink>(
 ) -> Status
     ensures answer { IfSome (D.told desk.old trace.now)
         (λ list. Settles (K.taken sink.old) (K.taken sink.new) (answer_of_trace image.now list) result) }
+    ensures some_file { SettlesSomeTrace (K.taken sink.old) (K.taken sink.new) image.now result }
     ensures sink_count { SinkCount (K.faults sink.old) (K.faults sink.new) result }
     ensures desk_count { DeskCount (D.faults desk.old) (D.faults desk.new) result }
     ensures asks { AsksFront (D.asks desk.old) (D.asks desk.new) ((trace.now, MAX_TRACE_BYTES) ∷ []) }

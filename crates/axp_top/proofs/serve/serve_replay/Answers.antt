@@ -1,4 +1,4 @@
-use Rattle.axp_top.proofs.Settling.{asks_first}
+use Rattle.axp_top.proofs.Settling.{asks_first, files_refused}
 use Rattle.axp_top.proofs.serve.serve_replay.Goals as goal
 
 pub returns-in-Ok-None-clause-asks : goal.returns-in-Ok-None-clause-asks
@@ -15,3 +15,6 @@ returns-in-Err-TooLong-clause-asks g c = asks_first _ _ _ _ _ c.fetch.ensures.as
 
 pub returns-clause-asks : goal.returns-clause-asks
 returns-clause-asks g c = asks_first _ _ _ _ _ c.fetch.ensures.asks
+
+pub returns-in-Err-TooLong-clause-some_files : goal.returns-in-Err-TooLong-clause-some_files
+returns-in-Err-TooLong-clause-some_files g c = files_refused _ _ _ _ c.refuse_all-in-Err-TooLong.result c.refuse_all-in-Err-TooLong.ensures
