@@ -1,4 +1,4 @@
-//! `axp`: an emulator of Alpha AXP processors that share weakly ordered memory.
+//! `axp`: an emulator of Alpha AXP processors that share memory.
 #![tactic(auto)]
 
 use axp_base::NoMemory;

@@ -18,8 +18,9 @@ use std::alloc::Global;
 
 /// Does what the words say, and answers how it ended.
 ///
-/// The words must be `replay IMAGE TRACE`. The image is fetched and read before the event list; each
-/// line with its line feed is one put. What each status means is [`Status`]'s to say.
+/// The words must be `replay IMAGE TRACE`, where TRACE names an event list. The image is fetched and
+/// read before the event list; each line with its line feed is one put. What each status means is
+/// [`Status`]'s to say, and `docs/FORMATS.md` has the forms of both files and of the text.
 pub fn serve_plain<D: Desk, K: Sink>(
     alloc: Global,
     words: &[Word],

@@ -5,11 +5,11 @@ ghost use Rattle.std.specs.Prelude.{◌≡◌};
 pub enum Status {
     /// The work was done, and all of its text was taken.
     Done,
-    /// The desk failed.
+    /// The desk failed; the line `axp: read fault` was taken, and nothing before it.
     ReadFault,
-    /// The sink failed; what it took is a front of the text.
+    /// The sink failed; what it took is a front of the text, or of the line of a read fault.
     WriteFault,
-    /// Memory was not found; what was taken is a front of the text.
+    /// Memory was not found; what was taken is a front of the text, or of the line of a read fault.
     Memory,
     /// The words, the image or the list's first line is of no form that is built (0); or the event
     /// line of this number, from 1, is the first that is not, or whose event is not; or the list ends,
