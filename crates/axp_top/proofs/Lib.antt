@@ -2,3 +2,4 @@ pub mod Printings
 pub mod Replaying
 pub mod Ending
 pub mod Settling
+pub mod Wholes

@@ -2,6 +2,7 @@
 //! and answers with a status.
 #![tactic(auto)]
 
+mod laws;
 mod limits;
 mod printing;
 mod replay;
@@ -12,6 +13,7 @@ mod tail;
 mod tests;
 mod words;
 
+pub use laws::no_fault_gives_the_whole_text;
 pub use limits::{MAX_IMAGE_BYTES, MAX_TRACE_BYTES};
 pub use serve::serve_plain;
 pub use status::Status;
