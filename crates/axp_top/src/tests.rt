@@ -273,6 +273,24 @@ fn tells_who_failed(rt: HostRuntime) -> Result<(), Fail> {
         failing(0, 1, "", Status::WriteFault, 2),
         failing(0, 2, HALT_HEADER, Status::WriteFault, 2),
         Row {
+            failing_fetch: 2,
+            ..replayed(
+                &STORE_AND_LOAD,
+                STORE_AND_LOAD_EVENTS,
+                READ_FAULT,
+                Status::ReadFault,
+            )
+        },
+        Row {
+            failing_put: 2,
+            ..replayed(
+                &STORE_AND_LOAD,
+                STORE_AND_LOAD_EVENTS,
+                "axp-trace 1 cpus 2 budget 7 memory 32768\n",
+                Status::WriteFault,
+            )
+        },
+        Row {
             words: ["replay", "image", "absent"],
             ..failing(0, 0, READ_FAULT, Status::ReadFault, 2)
         },
