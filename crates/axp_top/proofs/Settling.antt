@@ -14,8 +14,7 @@ use Rattle.axp_top.specs.declared.status.Status.{Status}
 use Rattle.axp_top.specs.declared.status.Status.TheVariants as status
 use Rattle.axp_image.specs.Grammar as grammar
 use Rattle.axp_image.specs.Grammar.{image_of}
-use Rattle.axp_top.specs.Words.{Order}
-use Rattle.axp_top.specs.Answers.{SettlesSome, SettlesSomeTrace, answer_of_files, answer_of_trace, read_fault_answer, AsksFront, DeskCount, Settles, SinkCount}
+use Rattle.axp_top.specs.Answers.{SettlesSomeTrace, answer_of_files, answer_of_trace, read_fault_answer, AsksFront, DeskCount, Settles, SinkCount}
 use Rattle.axp_top.specs.Printing.{Ends}
 use Rattle.axp_top.specs.Replays.{Answer, not_built_at_all, answer_of_lines, answer_of_list}
 
@@ -39,12 +38,12 @@ lines_are image [] = not_built_is
 lines_are image (None ∷ ls) = not_built_is
 lines_are image (Some first ∷ ls) = list_is image (header_of first) ls
 
-pub ends_settles : (b n : Option (List ℕ)) (c c' : ℕ) (a : Answer) (s : Status) → IsNoReadFault a → Ends b n c c' a s → Settles b n a s
-ends_settles b n c c' a status.Done is h = (h.0, h.1)
-ends_settles b n c c' a status.ReadFault is h = absurd (is.differs h.0)
-ends_settles b n c c' a status.WriteFault is h = inl h.0
-ends_settles b n c c' a status.Memory is h = inl h.0
-ends_settles b n c c' a (status.NotBuilt k) is h = (h.0, h.1)
+pub ends_settles : (b n : Option (List ℕ)) (c c' d d' : ℕ) (a : Answer) (s : Status) → IsNoReadFault a → Ends b n c c' a s → Settles b n d d' a s
+ends_settles b n c c' d d' a status.Done is h = (h.0, h.1)
+ends_settles b n c c' d d' a status.ReadFault is h = absurd (is.differs h.0)
+ends_settles b n c c' d d' a status.WriteFault is h = inl h.0
+ends_settles b n c c' d d' a status.Memory is h = inl h.0
+ends_settles b n c c' d d' a (status.NotBuilt k) is h = (h.0, h.1)
 
 pub ends_count : (b n : Option (List ℕ)) (c c' : ℕ) (a : Answer) (s : Status) → Ends b n c c' a s → SinkCount c c' s
 ends_count b n c c' a status.Done h = h.2
@@ -54,12 +53,12 @@ ends_count b n c c' a status.Memory h = h.1
 ends_count b n c c' a (status.NotBuilt k) h = h.2
 
 -- a read fault was printed, whatever the answer would be
-pub fault_settles : (b n : Option (List ℕ)) (c c' : ℕ) (a : Answer) (s : Status) → Ends b n c c' read_fault_answer s → Settles b n a s
-fault_settles b n c c' a status.Done h = cc
-fault_settles b n c c' a status.ReadFault h = h.1
-fault_settles b n c c' a status.WriteFault h = inr h.0
-fault_settles b n c c' a status.Memory h = inr h.0
-fault_settles b n c c' a (status.NotBuilt k) h = cc
+pub fault_settles : (b n : Option (List ℕ)) (c c' d d' : ℕ) (a : Answer) (s : Status) → Rose d d' → Ends b n c c' read_fault_answer s → Settles b n d d' a s
+fault_settles b n c c' d d' a status.Done rose h = cc
+fault_settles b n c c' d d' a status.ReadFault rose h = h.1
+fault_settles b n c c' d d' a status.WriteFault rose h = inr (h.0, rose)
+fault_settles b n c c' d d' a status.Memory rose h = inr (h.0, rose)
+fault_settles b n c c' d d' a (status.NotBuilt k) rose h = cc
 
 pub desk_kept : (b n : Option (List ℕ)) (c c' : ℕ) (a : Answer) (s : Status) (d d' : ℕ) → IsNoReadFault a → Ends b n c c' a s → d' ≡ d → DeskCount d d' s
 desk_kept b n c c' a status.Done d d' is h e = e
@@ -79,29 +78,33 @@ desk_rose b n c c' (status.NotBuilt k) d d' h rose more = cc
 pub desk_before : (s : Status) (d d' d'' : ℕ) → d' ≡ d → DeskCount d' d'' s → DeskCount d d'' s
 desk_before s d d' d'' e h = subst (λ x. DeskCount x d'' s) e h
 
-pub settles_nothing : (b : Option (List ℕ)) (a : Answer) → Settles b b a status.Memory
-settles_nothing b a = inl (front_none b a.1)
+pub settles_nothing : (b : Option (List ℕ)) (d d' : ℕ) (a : Answer) → Settles b b d d' a status.Memory
+settles_nothing b d d' a = inl (front_none b a.1)
+
+-- a fetch that counted no fault before
+pub settles_before : (b n : Option (List ℕ)) (d d' d'' : ℕ) (a : Answer) (s : Status) → d' ≡ d → Settles b n d' d'' a s → Settles b n d d'' a s
+settles_before b n d d' d'' a s e h = subst (λ x. Settles b n x d'' a s) e h
 
 -- ---- where the event list is told
 
-pub trace_told : (b n : Option (List ℕ)) (c c' : ℕ) (image : Contents) (list : List ℕ) (told : Option (List ℕ)) (s : Status) → IfSome told (λ t. (list ≡ t) × (length t ≤ MAX_TRACE_BYTES)) → Ends b n c c' (answer_of_lines image (lines_of list)) s
-    → IfSome told (λ t. Settles b n (answer_of_trace image t) s)
-trace_told b n c c' image list None s told h = tt
-trace_told b n c c' image list (Some t) s told h =
+pub trace_told : (b n : Option (List ℕ)) (c c' d d' : ℕ) (image : Contents) (list : List ℕ) (told : Option (List ℕ)) (s : Status) → IfSome told (λ t. (list ≡ t) × (length t ≤ MAX_TRACE_BYTES)) → Ends b n c c' (answer_of_lines image (lines_of list)) s
+    → IfSome told (λ t. Settles b n d d' (answer_of_trace image t) s)
+trace_told b n c c' d d' image list None s told h = tt
+trace_told b n c c' d d' image list (Some t) s told h =
     rw (le-ltb MAX_TRACE_BYTES (length t) told.1)
-    (ends_settles b n c c' (answer_of_lines image (lines_of t)) s (lines_are image (lines_of t)) (subst (λ x. Ends b n c c' (answer_of_lines image (lines_of x)) s) told.0 h))
+    (ends_settles b n c c' d d' (answer_of_lines image (lines_of t)) s (lines_are image (lines_of t)) (subst (λ x. Ends b n c c' (answer_of_lines image (lines_of x)) s) told.0 h))
 
-pub trace_long : (b n : Option (List ℕ)) (c c' : ℕ) (image : Contents) (told : Option (List ℕ)) (s : Status) → IfSome told (λ t. MAX_TRACE_BYTES < length t) → Ends b n c c' not_built_at_all s → IfSome told (λ t. Settles b n (answer_of_trace image t) s)
-trace_long b n c c' image None s long h = tt
-trace_long b n c c' image (Some t) s long h = rw (lt-ltb MAX_TRACE_BYTES (length t) long) (ends_settles b n c c' not_built_at_all s not_built_is h)
+pub trace_long : (b n : Option (List ℕ)) (c c' d d' : ℕ) (image : Contents) (told : Option (List ℕ)) (s : Status) → IfSome told (λ t. MAX_TRACE_BYTES < length t) → Ends b n c c' not_built_at_all s → IfSome told (λ t. Settles b n d d' (answer_of_trace image t) s)
+trace_long b n c c' d d' image None s long h = tt
+trace_long b n c c' d d' image (Some t) s long h = rw (lt-ltb MAX_TRACE_BYTES (length t) long) (ends_settles b n c c' d d' not_built_at_all s not_built_is h)
 
-pub trace_fault : (b n : Option (List ℕ)) (c c' : ℕ) (image : Contents) (told : Option (List ℕ)) (s : Status) → Ends b n c c' read_fault_answer s → IfSome told (λ t. Settles b n (answer_of_trace image t) s)
-trace_fault b n c c' image None s h = tt
-trace_fault b n c c' image (Some t) s h = fault_settles b n c c' (answer_of_trace image t) s h
+pub trace_fault : (b n : Option (List ℕ)) (c c' d d' : ℕ) (image : Contents) (told : Option (List ℕ)) (s : Status) → Rose d d' → Ends b n c c' read_fault_answer s → IfSome told (λ t. Settles b n d d' (answer_of_trace image t) s)
+trace_fault b n c c' d d' image None s rose h = tt
+trace_fault b n c c' d d' image (Some t) s rose h = fault_settles b n c c' d d' (answer_of_trace image t) s rose h
 
-pub trace_memory : (b : Option (List ℕ)) (image : Contents) (told : Option (List ℕ)) → IfSome told (λ t. Settles b b (answer_of_trace image t) status.Memory)
-trace_memory b image None = tt
-trace_memory b image (Some t) = settles_nothing b (answer_of_trace image t)
+pub trace_memory : (b : Option (List ℕ)) (d d' : ℕ) (image : Contents) (told : Option (List ℕ)) → IfSome told (λ t. Settles b b d d' (answer_of_trace image t) status.Memory)
+trace_memory b d d' image None = tt
+trace_memory b d d' image (Some t) = settles_nothing b d d' (answer_of_trace image t)
 
 pub lines_count : (b n : Option (List ℕ)) (c c' : ℕ) (image : Contents) (ls : List (Option (List ℕ))) (s : Status) (d d' : ℕ) → Ends b n c c' (answer_of_lines image ls) s → d' ≡ d → DeskCount d d' s
 lines_count b n c c' image ls s d d' h e = desk_kept b n c c' (answer_of_lines image ls) s d d' (lines_are image ls) h e
@@ -126,47 +129,42 @@ pub asks_then : (before between now : List Ask) (ask : Ask) (more : List Ask) �
 asks_then before between now ask more is next = (ask ∷ next.0, next.1, ap (λ (xs : List Ask). ask ∷ xs) next.2, next.3 ∙ ap (λ (xs : List Ask). xs ++ next.0) is ∙ append_assoc before (ask ∷ []) next.0)
 
 -- want of memory, with nothing printed
-pub nothing_settles : (b : Option (List ℕ)) (answer : Option Answer) → IfSome answer (λ a. Settles b b a status.Memory)
-nothing_settles b None = tt
-nothing_settles b (Some a) = settles_nothing b a
+pub nothing_settles : (b : Option (List ℕ)) (d d' : ℕ) (answer : Option Answer) → IfSome answer (λ a. Settles b b d d' a status.Memory)
+nothing_settles b d d' None = tt
+nothing_settles b d d' (Some a) = settles_nothing b d d' a
 
 -- ---- where the desk tells nothing
 
-pub some_trace : (b n : Option (List ℕ)) (c c' : ℕ) (image : Contents) (list : List ℕ) (s : Status) → length list ≤ MAX_TRACE_BYTES → Ends b n c c' (answer_of_lines image (lines_of list)) s → SettlesSomeTrace b n image s
-some_trace b n c c' image list s short h = (list, rw (le-ltb MAX_TRACE_BYTES (length list) short) (ends_settles b n c c' (answer_of_lines image (lines_of list)) s (lines_are image (lines_of list)) h))
+pub some_trace : (b n : Option (List ℕ)) (c c' d d' : ℕ) (image : Contents) (list : List ℕ) (s : Status) → length list ≤ MAX_TRACE_BYTES → Ends b n c c' (answer_of_lines image (lines_of list)) s → SettlesSomeTrace b n d d' image s
+some_trace b n c c' d d' image list s short h = (list, rw (le-ltb MAX_TRACE_BYTES (length list) short) (ends_settles b n c c' d d' (answer_of_lines image (lines_of list)) s (lines_are image (lines_of list)) h))
 
 -- the empty list has the answer of a list that is too long
-pub some_long : (b n : Option (List ℕ)) (c c' : ℕ) (image : Contents) (s : Status) → Ends b n c c' not_built_at_all s → SettlesSomeTrace b n image s
-some_long b n c c' image s h = ([], ends_settles b n c c' not_built_at_all s not_built_is h)
+pub some_long : (b n : Option (List ℕ)) (c c' d d' : ℕ) (image : Contents) (s : Status) → Ends b n c c' not_built_at_all s → SettlesSomeTrace b n d d' image s
+some_long b n c c' d d' image s h = ([], ends_settles b n c c' d d' not_built_at_all s not_built_is h)
 
-pub some_fault : (b n : Option (List ℕ)) (c c' : ℕ) (image : Contents) (s : Status) → Ends b n c c' read_fault_answer s → SettlesSomeTrace b n image s
-some_fault b n c c' image s h = ([], fault_settles b n c c' not_built_at_all s h)
+pub some_fault : (b n : Option (List ℕ)) (c c' d d' : ℕ) (image : Contents) (s : Status) → Rose d d' → Ends b n c c' read_fault_answer s → SettlesSomeTrace b n d d' image s
+some_fault b n c c' d d' image s rose h = ([], fault_settles b n c c' d d' not_built_at_all s rose h)
 
-pub some_memory : (b : Option (List ℕ)) (image : Contents) → SettlesSomeTrace b b image status.Memory
-some_memory b image = ([], settles_nothing b not_built_at_all)
+pub some_memory : (b : Option (List ℕ)) (d d' : ℕ) (image : Contents) → SettlesSomeTrace b b d d' image status.Memory
+some_memory b d d' image = ([], settles_nothing b d d' not_built_at_all)
 
-abbrev pub SettlesSomeFiles : Option (List ℕ) → Option (List ℕ) → Status → Type 0
-SettlesSomeFiles b n s = (image trace : List ℕ) × IfSome (answer_of_files (Some image) (Some trace)) (λ a. Settles b n a s)
+abbrev pub SettlesSomeFiles : Option (List ℕ) → Option (List ℕ) → ℕ → ℕ → Status → Type 0
+SettlesSomeFiles b n d d' s = (image trace : List ℕ) × IfSome (answer_of_files (Some image) (Some trace)) (λ a. Settles b n d d' a s)
 
-pub files_of_image : (b n : Option (List ℕ)) (bytes : List ℕ) (image : Contents) (s : Status) → length bytes ≤ MAX_IMAGE_BYTES → Some image ≡ image_of bytes → SettlesSomeTrace b n image s → SettlesSomeFiles b n s
-files_of_image b n bytes image s short is h = (bytes, h.0, rw (le-ltb MAX_IMAGE_BYTES (length bytes) short) (rw (sym is) h.1))
+pub files_of_image : (b n : Option (List ℕ)) (d d' d'' : ℕ) (bytes : List ℕ) (image : Contents) (s : Status) → length bytes ≤ MAX_IMAGE_BYTES → Some image ≡ image_of bytes → d' ≡ d → SettlesSomeTrace b n d' d'' image s → SettlesSomeFiles b n d d'' s
+files_of_image b n d d' d'' bytes image s short is counted h =
+    (bytes, h.0, rw (le-ltb MAX_IMAGE_BYTES (length bytes) short) (rw (sym is) (settles_before b n d d' d'' (answer_of_trace image h.0) s counted h.1)))
 
 no_image : image_of [] ≡ None
 unfolding image_of grammar.header_of grammar.number_at grammar.piece_at
 no_image = refl
 
 -- the empty list is no image
-pub files_refused : (b n : Option (List ℕ)) (c c' : ℕ) (s : Status) → Ends b n c c' not_built_at_all s → SettlesSomeFiles b n s
-files_refused b n c c' s h = ([], [], rw no_image (ends_settles b n c c' not_built_at_all s not_built_is h))
+pub files_refused : (b n : Option (List ℕ)) (c c' d d' : ℕ) (s : Status) → Ends b n c c' not_built_at_all s → SettlesSomeFiles b n d d' s
+files_refused b n c c' d d' s h = ([], [], rw no_image (ends_settles b n c c' d d' not_built_at_all s not_built_is h))
 
-pub files_fault : (b n : Option (List ℕ)) (c c' : ℕ) (s : Status) → Ends b n c c' read_fault_answer s → SettlesSomeFiles b n s
-files_fault b n c c' s h = ([], [], rw no_image (fault_settles b n c c' not_built_at_all s h))
+pub files_fault : (b n : Option (List ℕ)) (c c' d d' : ℕ) (s : Status) → Rose d d' → Ends b n c c' read_fault_answer s → SettlesSomeFiles b n d d' s
+files_fault b n c c' d d' s rose h = ([], [], rw no_image (fault_settles b n c c' d d' not_built_at_all s rose h))
 
-pub files_memory : (b : Option (List ℕ)) → SettlesSomeFiles b b status.Memory
-files_memory b = ([], [], rw no_image (settles_nothing b not_built_at_all))
-
-pub over_refused : (b n : Option (List ℕ)) (c c' : ℕ) (order : Option Order) (s : Status) → None ≡ order → Ends b n c c' not_built_at_all s → SettlesSome b n order s
-over_refused b n c c' order s is h = subst (λ o. SettlesSome b n o s) is ([], [], ends_settles b n c c' not_built_at_all s not_built_is h)
-
-pub over_files : (b n : Option (List ℕ)) (o : Order) (order : Option Order) (s : Status) → Some o ≡ order → SettlesSomeFiles b n s → SettlesSome b n order s
-over_files b n o order s is h = subst (λ x. SettlesSome b n x s) is h
+pub files_memory : (b : Option (List ℕ)) (d d' : ℕ) → SettlesSomeFiles b b d d' status.Memory
+files_memory b d d' = ([], [], rw no_image (settles_nothing b d d' not_built_at_all))

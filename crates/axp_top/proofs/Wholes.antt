@@ -10,7 +10,7 @@ use Rattle.axp_top.specs.Replays.{Answer}
 not_risen : (n : ℕ) → n < 2 ^ 64 - 1 → Rose n n → ⊥
 not_risen n below rose = omega (arith, below, rose)
 
-pub whole : (before now : Option (List ℕ)) (answer : Answer) (d k : ℕ) (s : Status) → d < 2 ^ 64 - 1 → k < 2 ^ 64 - 1 → Settles before now answer s → DeskCount d d s → SinkCount k k s → ((s ≡ answer.0) × Appends before now answer.1) ⊎ (s ≡ status.Memory)
+pub whole : (before now : Option (List ℕ)) (answer : Answer) (d k : ℕ) (s : Status) → d < 2 ^ 64 - 1 → k < 2 ^ 64 - 1 → Settles before now d d answer s → DeskCount d d s → SinkCount k k s → ((s ≡ answer.0) × Appends before now answer.1) ⊎ (s ≡ status.Memory)
 whole before now answer d k status.Done hd hk h dc sc = inl h
 whole before now answer d k status.ReadFault hd hk h dc sc = absurd (not_risen d hd dc)
 whole before now answer d k status.WriteFault hd hk h dc sc = absurd (not_risen k hk sc)

@@ -54,26 +54,26 @@ answer_over (Some order) image trace = answer_of_files (Some image) (Some trace)
 
 -- ---- what each status says
 
--- a front of the answer's text was printed, or of the line of a read fault
-abbrev pub PrintsFront : Option (List ℕ) → Option (List ℕ) → Answer → Type 0
-PrintsFront before now answer = AppendsFront before now answer.1 ⊎ AppendsFront before now read_fault_line
+-- a front of the answer's text was printed; or, where the desk counted a fault, of a read fault's line
+abbrev pub PrintsFront : Option (List ℕ) → Option (List ℕ) → ℕ → ℕ → Answer → Type 0
+PrintsFront before now faults faults' answer = AppendsFront before now answer.1 ⊎ (AppendsFront before now read_fault_line × Rose faults faults')
 
--- the text printed
-abbrev pub Settles : Option (List ℕ) → Option (List ℕ) → Answer → Status → Type 0
-Settles before now answer status.Done = (status.Done ≡ answer.0) × Appends before now answer.1
-Settles before now answer (status.NotBuilt n) = (status.NotBuilt n ≡ answer.0) × Appends before now answer.1
-Settles before now answer status.ReadFault = Appends before now read_fault_line
-Settles before now answer status.WriteFault = PrintsFront before now answer
-Settles before now answer status.Memory = PrintsFront before now answer
+-- the text printed, by the answer, the desk's count of faults before and after, and the status
+abbrev pub Settles : Option (List ℕ) → Option (List ℕ) → ℕ → ℕ → Answer → Status → Type 0
+Settles before now faults faults' answer status.Done = (status.Done ≡ answer.0) × Appends before now answer.1
+Settles before now faults faults' answer (status.NotBuilt n) = (status.NotBuilt n ≡ answer.0) × Appends before now answer.1
+Settles before now faults faults' answer status.ReadFault = Appends before now read_fault_line
+Settles before now faults faults' answer status.WriteFault = PrintsFront before now faults faults' answer
+Settles before now faults faults' answer status.Memory = PrintsFront before now faults faults' answer
 
 -- Where the desk tells no lists: there are two, one for the image and one for the event list, by which
 -- this is the text and the status.
-abbrev pub SettlesSome : Option (List ℕ) → Option (List ℕ) → Option Order → Status → Type 0
-SettlesSome before now order s = (image trace : List ℕ) × IfSome (answer_over order image trace) (λ a. Settles before now a s)
+abbrev pub SettlesSome : Option (List ℕ) → Option (List ℕ) → ℕ → ℕ → Option Order → Status → Type 0
+SettlesSome before now faults faults' order s = (image trace : List ℕ) × IfSome (answer_over order image trace) (λ a. Settles before now faults faults' a s)
 
 -- the same of an event list over an image
-abbrev pub SettlesSomeTrace : Option (List ℕ) → Option (List ℕ) → Contents → Status → Type 0
-SettlesSomeTrace before now image s = (trace : List ℕ) × Settles before now (answer_of_trace image trace) s
+abbrev pub SettlesSomeTrace : Option (List ℕ) → Option (List ℕ) → ℕ → ℕ → Contents → Status → Type 0
+SettlesSomeTrace before now faults faults' image s = (trace : List ℕ) × Settles before now faults faults' (answer_of_trace image trace) s
 
 -- the sink's count of faults
 abbrev pub SinkCount : ℕ → ℕ → Status → Type 0

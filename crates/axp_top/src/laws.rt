@@ -11,6 +11,6 @@ ghost use Rattle.axp_top.specs.Replays.{Answer};
 pub fn no_fault_gives_the_whole_text()
     ensures { (before now : Option (List ℕ)) (answer : Answer) (desk_count sink_count : ℕ) (s : Status) →
         desk_count < 2 ^ 64 - 1 → sink_count < 2 ^ 64 - 1 →
-        Settles before now answer s → DeskCount desk_count desk_count s → SinkCount sink_count sink_count s →
+        Settles before now desk_count desk_count answer s → DeskCount desk_count desk_count s → SinkCount sink_count sink_count s →
         ((s ≡ answer.0) × Appends before now answer.1) ⊎ (s ≡ status.Memory) }
 {}

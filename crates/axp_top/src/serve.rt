@@ -30,9 +30,9 @@ pub fn serve_plain<D: Desk, K: Sink>(
     // Where the desk tells the files, the text and the status are those of the words and the files, or
     // a front of the text was printed before the sink failed or memory was not found.
     ensures answer { IfSome (answer_of (order_of words.now) (D.told desk.old))
-        (λ a. Settles (K.taken sink.old) (K.taken sink.new) a result) }
+        (λ a. Settles (K.taken sink.old) (K.taken sink.new) (D.faults desk.old) (D.faults desk.new) a result) }
     // Where the desk tells nothing, they are still those of two lists that it may have handed over.
-    ensures some_files { SettlesSome (K.taken sink.old) (K.taken sink.new) (order_of words.now) result }
+    ensures some_files { SettlesSome (K.taken sink.old) (K.taken sink.new) (D.faults desk.old) (D.faults desk.new) (order_of words.now) result }
     // A fault is answered only where one came in this call, and then at once.
     ensures sink_count { SinkCount (K.faults sink.old) (K.faults sink.new) result }
     ensures desk_count { DeskCount (D.faults desk.old) (D.faults desk.new) result }
@@ -54,9 +54,9 @@ fn serve_replay<D: Desk, K: Sink>(
     trace: &str,
 ) -> Status
     ensures answer { IfSome (answer_of_files (D.told desk.old image.now) (D.told desk.old trace.now))
-        (λ a. Settles (K.taken sink.old) (K.taken sink.new) a result) }
+        (λ a. Settles (K.taken sink.old) (K.taken sink.new) (D.faults desk.old) (D.faults desk.new) a result) }
     ensures some_files { (image trace : List ℕ) × IfSome (answer_of_files (Some image) (Some trace))
-        (λ a. Settles (K.taken sink.old) (K.taken sink.new) a result) }
+        (λ a. Settles (K.taken sink.old) (K.taken sink.new) (D.faults desk.old) (D.faults desk.new) a result) }
     ensures sink_count { SinkCount (K.faults sink.old) (K.faults sink.new) result }
     ensures desk_count { DeskCount (D.faults desk.old) (D.faults desk.new) result }
     ensures asks { AsksFront (D.asks desk.old) (D.asks desk.new)
@@ -83,8 +83,8 @@ fn replay_file<D: Desk, K: Sink>(
     trace: &str,
 ) -> Status
     ensures answer { IfSome (D.told desk.old trace.now)
-        (λ list. Settles (K.taken sink.old) (K.taken sink.new) (answer_of_trace image.now list) result) }
-    ensures some_file { SettlesSomeTrace (K.taken sink.old) (K.taken sink.new) image.now result }
+        (λ list. Settles (K.taken sink.old) (K.taken sink.new) (D.faults desk.old) (D.faults desk.new) (answer_of_trace image.now list) result) }
+    ensures some_file { SettlesSomeTrace (K.taken sink.old) (K.taken sink.new) (D.faults desk.old) (D.faults desk.new) image.now result }
     ensures sink_count { SinkCount (K.faults sink.old) (K.faults sink.new) result }
     ensures desk_count { DeskCount (D.faults desk.old) (D.faults desk.new) result }
     ensures asks { AsksFront (D.asks desk.old) (D.asks desk.new) ((trace.now, MAX_TRACE_BYTES) ∷ []) }

@@ -7,9 +7,11 @@ pub enum Status {
     Done,
     /// The desk failed; the line `axp: read fault` was taken, and nothing before it.
     ReadFault,
-    /// The sink failed; what it took is a front of the text, or of the line of a read fault.
+    /// The sink failed; what it took is a front of the text or, where the desk had failed, of the line
+    /// of a read fault.
     WriteFault,
-    /// Memory was not found; what was taken is a front of the text, or of the line of a read fault.
+    /// Memory was not found; what was taken is a front of the text or, where the desk had failed, of
+    /// the line of a read fault.
     Memory,
     /// The words, the image or the list's first line is of no form that is built (0); or the event
     /// line of this number, from 1, is the first that is not, or whose event is not; or the list ends,

@@ -1,4 +1,6 @@
-use Rattle.axp_top.proofs.Settling.{asks_first, files_refused}
+use Rattle.std.proofs.Common.{◌≡◌, ◌∙◌, Some, sym, subst}
+use Rattle.axp_image.specs.Grammar.{image_of}
+use Rattle.axp_top.proofs.Settling.{asks_first, files_of_image, files_refused}
 use Rattle.axp_top.proofs.serve.serve_replay.Goals as goal
 
 pub returns-in-Ok-None-clause-asks : goal.returns-in-Ok-None-clause-asks
@@ -17,4 +19,11 @@ pub returns-clause-asks : goal.returns-clause-asks
 returns-clause-asks g c = asks_first _ _ _ _ _ c.fetch.ensures.asks
 
 pub returns-in-Err-TooLong-clause-some_files : goal.returns-in-Err-TooLong-clause-some_files
-returns-in-Err-TooLong-clause-some_files g c = files_refused _ _ _ _ c.refuse_all-in-Err-TooLong.result c.refuse_all-in-Err-TooLong.ensures
+returns-in-Err-TooLong-clause-some_files g c = files_refused _ _ _ _ _ _ c.refuse_all-in-Err-TooLong.result c.refuse_all-in-Err-TooLong.ensures
+
+pub returns-in-Ok-Some-clause-some_files : goal.returns-in-Ok-Some-clause-some_files
+returns-in-Ok-Some-clause-some_files g c =
+    files_of_image _ _ _ _ _ c.in-Ok.bytes c.in-Ok-Some.image c.replay_file.result
+    c.in-Ok.ensures.most
+    (subst (λ x. Some c.in-Ok-Some.image ≡ image_of x) c.as_slice.ensures (sym c.in-Ok-Some.field-0-is ∙ c.in-Ok-Some.ensures.read))
+    c.in-Ok.ensures.count c.replay_file.ensures.some_file
