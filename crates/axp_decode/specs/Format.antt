@@ -1,0 +1,61 @@
+-- the formats of a word of 32 bits
+use Rattle.std.specs.Prelude.{ℕ, ◌+◌, ◌*◌, ◌/◌, ◌%◌, ◌^◌, Option, Some, None, Bool, ◌==◌, nat_le, ◌||◌, ◌&&◌, if◌then◌else◌}
+use Rattle.axp_decode.specs.Table.{memory_number, memory_of, branch_number, branch_of, misc_number, misc_of, pal_number, pal_of, operate_opcode, operate_function, operate_of}
+use Rattle.axp_decode.specs.declared.instructions.Operand.{Operand}
+use Rattle.axp_decode.specs.declared.instructions.Operand.TheVariants.{Reg, Literal}
+use Rattle.axp_decode.specs.declared.instructions.Instr.{Instr}
+use Rattle.axp_decode.specs.declared.instructions.Instr.TheVariants.{Memory, Branch, Jump, Operate, Misc, Pal, Floating, Reserved}
+
+abbrev pub opcode_of : ℕ → ℕ
+opcode_of w = w / 2 ^ 26
+
+abbrev pub ra_of : ℕ → ℕ
+ra_of w = w / 2 ^ 21 % 2 ^ 5
+
+abbrev pub rb_of : ℕ → ℕ
+rb_of w = w / 2 ^ 16 % 2 ^ 5
+
+abbrev pub rc_of : ℕ → ℕ
+rc_of w = w % 2 ^ 5
+
+abbrev pub function_of : ℕ → ℕ
+function_of w = w / 2 ^ 5 % 2 ^ 7
+
+-- Rb with the bits that are kept and ignored, or the literal where bit 12 is 1
+unfoldable pub operand_of : ℕ → Operand
+operand_of w =
+    if w / 2 ^ 12 % 2 == 1 then Literal (w / 2 ^ 13 % 2 ^ 8) else Reg (rb_of w) (w / 2 ^ 13 % 2 ^ 3)
+
+-- its place in a word
+unfoldable pub operand_bits : Operand → ℕ
+operand_bits (Reg n pad) = n % 2 ^ 5 * 2 ^ 16 + pad % 2 ^ 3 * 2 ^ 13
+operand_bits (Literal value) = value % 2 ^ 8 * 2 ^ 13 + 2 ^ 12
+
+unfoldable pub is_floating : ℕ → Bool
+is_floating n = (nat_le 21 n && nat_le n 23) || (nat_le 32 n && nat_le n 39) || (nat_le 49 n && nat_le n 51) || (nat_le 53 n && nat_le n 55)
+
+abbrev pub named : {A : Type 0} → Option A → (A → Instr) → Instr → Instr
+named None f i = i
+named (Some x) f i = f x
+
+-- the instruction of a word
+unfoldable pub instr_of : ℕ → Instr
+instr_of w =
+    named (memory_of (opcode_of w)) (λ op. Memory op (ra_of w) (rb_of w) (w % 2 ^ 16)) (
+    named (branch_of (opcode_of w)) (λ op. Branch op (ra_of w) (w % 2 ^ 21)) (
+    named (operate_of (opcode_of w) (function_of w)) (λ op. Operate op (ra_of w) (operand_of w) (rc_of w)) (
+    if opcode_of w == 26 then Jump (w / 2 ^ 14 % 4) (ra_of w) (rb_of w) (w % 2 ^ 14) else (
+    if opcode_of w == 24 then named (misc_of (w % 2 ^ 16)) (λ op. Misc op (ra_of w) (rb_of w)) (Reserved w) else (
+    if opcode_of w == 0 then named (pal_of (w % 2 ^ 26)) (λ op. Pal op) (Reserved w) else (
+    if is_floating (opcode_of w) then Floating w else Reserved w))))))
+
+-- the word of an instruction
+unfoldable pub word_of : Instr → ℕ
+word_of (Memory op a b disp) = memory_number op * 2 ^ 26 + a % 2 ^ 5 * 2 ^ 21 + b % 2 ^ 5 * 2 ^ 16 + disp
+word_of (Branch op a disp) = branch_number op * 2 ^ 26 + a % 2 ^ 5 * 2 ^ 21 + disp % 2 ^ 21
+word_of (Jump kind a b hint) = 26 * 2 ^ 26 + a % 2 ^ 5 * 2 ^ 21 + b % 2 ^ 5 * 2 ^ 16 + kind % 4 * 2 ^ 14 + hint % 2 ^ 14
+word_of (Operate op a b c) = operate_opcode op * 2 ^ 26 + a % 2 ^ 5 * 2 ^ 21 + operand_bits b + operate_function op * 2 ^ 5 + c % 2 ^ 5
+word_of (Misc op a b) = 24 * 2 ^ 26 + a % 2 ^ 5 * 2 ^ 21 + b % 2 ^ 5 * 2 ^ 16 + misc_number op
+word_of (Pal op) = pal_number op
+word_of (Floating word) = word
+word_of (Reserved word) = word

@@ -1,0 +1,97 @@
+//! From a word to its instruction.
+ghost use Rattle.std.specs.Prelude.{◌≡◌};
+ghost use Rattle.axp_decode.specs.Format.{instr_of, operand_of, ra_of, rb_of, is_floating};
+
+use crate::instructions::{Instr, Operand};
+use crate::numbers::{branch_op, memory_op, misc_op, operate_op, pal_op};
+
+/// Ra, bits 25:21.
+fn ra(word: u32) -> u8
+    ensures { result ≡ ra_of word }
+{
+    (word >> 21 & 31) as u8
+}
+
+/// Rb, bits 20:16.
+fn rb(word: u32) -> u8
+    ensures { result ≡ rb_of word }
+{
+    (word >> 16 & 31) as u8
+}
+
+/// Whether the opcode is one of floating point.
+#[tactic(auto, unfolding(crate::specs::Format::is_floating))]
+fn is_floating_opcode(opcode: u8) -> bool
+    ensures { result ≡ is_floating opcode }
+{
+    matches!(opcode, 0x15..=0x17 | 0x20..=0x27 | 0x31..=0x33 | 0x35..=0x37)
+}
+
+/// The second operand of the operate format: a literal where bit 12 is 1.
+#[tactic(auto, unfolding(crate::specs::Format::operand_of))]
+fn read_operand(word: u32) -> Operand
+    ensures { result ≡ operand_of word }
+{
+    if (word >> 12) & 1 == 1 {
+        Operand::Literal {
+            value: (word >> 13 & 0xff) as u8,
+        }
+    } else {
+        Operand::Reg {
+            n: rb(word),
+            pad: (word >> 13 & 7) as u8,
+        }
+    }
+}
+
+/// The instruction that a word is.
+#[tactic(auto, unfolding(crate::specs::Format::instr_of))]
+pub fn decode(word: u32) -> Instr
+    ensures { result ≡ instr_of word }
+{
+    let opcode = (word >> 26) as u8;
+    let b = rb(word);
+    let a = ra(word);
+    let disp = (word & 0xffff) as u16;
+    if let Some(op) = memory_op(opcode) {
+        return Instr::Memory { op, a, b, disp };
+    }
+    if let Some(op) = branch_op(opcode) {
+        return Instr::Branch {
+            op,
+            a,
+            disp: word & 0x1f_ffff,
+        };
+    }
+    if let Some(op) = operate_op(opcode, (word >> 5 & 127) as u8) {
+        return Instr::Operate {
+            op,
+            a,
+            b: read_operand(word),
+            c: (word & 31) as u8,
+        };
+    }
+    match opcode {
+        26 => Instr::Jump {
+            kind: (word >> 14 & 3) as u8,
+            a,
+            b,
+            hint: (word & 0x3fff) as u16,
+        },
+        24 => match misc_op(disp) {
+            Some(op) => Instr::Misc { op, a, b },
+            None => Instr::Reserved { word },
+        },
+        0 => match pal_op(word & 0x3ff_ffff) {
+            Some(op) => Instr::Pal { op },
+            None => Instr::Reserved { word },
+        },
+        _ => {
+            if is_floating_opcode(opcode) {
+                Instr::Floating { word }
+            } else {
+                Instr::Reserved { word }
+            }
+        }
+    }
+}

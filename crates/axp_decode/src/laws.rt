@@ -1,0 +1,45 @@
+//! Laws of the tables and formats, each proved as the contract of a function that does nothing.
+ghost use Rattle.std.specs.Prelude.{ℕ, ◌≡◌, ◌<◌, ◌^◌, Some};
+ghost use Rattle.axp_decode.specs.Table.{memory_number, memory_of, branch_number, branch_of, misc_number, misc_of, pal_number, pal_of, operate_opcode, operate_function, operate_of};
+ghost use Rattle.axp_decode.specs.Format.{instr_of, word_of};
+ghost use Rattle.axp_decode.specs.declared.names.MemOp.{MemOp};
+ghost use Rattle.axp_decode.specs.declared.names.BranchOp.{BranchOp};
+ghost use Rattle.axp_decode.specs.declared.names.MiscOp.{MiscOp};
+ghost use Rattle.axp_decode.specs.declared.names.PalOp.{PalOp};
+ghost use Rattle.axp_decode.specs.declared.names.Op.{Op};
+
+/// Encoding takes back decoding, and decoding takes back encoding of each instruction that a word is.
+pub fn words_and_instructions()
+    ensures word { (w : ℕ) → w < 2 ^ 32 → word_of (instr_of w) ≡ w }
+    ensures instruction { (w : ℕ) → w < 2 ^ 32 → instr_of (word_of (instr_of w)) ≡ instr_of w }
+{}
+
+/// Each instruction of the memory format is found by its opcode.
+#[tactic(auto, unfolding(crate::specs::Table::memory_of))]
+pub fn memory_rows()
+    ensures { (op : MemOp) → memory_of (memory_number op) ≡ Some op }
+{}
+
+/// Each instruction of the branch format is found by its opcode.
+#[tactic(auto, unfolding(crate::specs::Table::branch_of))]
+pub fn branch_rows()
+    ensures { (op : BranchOp) → branch_of (branch_number op) ≡ Some op }
+{}
+
+/// Each instruction of opcode 18 is found by its displacement.
+#[tactic(auto, unfolding(crate::specs::Table::misc_of))]
+pub fn misc_rows()
+    ensures { (op : MiscOp) → misc_of (misc_number op) ≡ Some op }
+{}
+
+/// Each call of PALcode is found by its function.
+#[tactic(auto, unfolding(crate::specs::Table::pal_of))]
+pub fn pal_rows()
+    ensures { (op : PalOp) → pal_of (pal_number op) ≡ Some op }
+{}
+
+/// Each instruction of the operate format is found by its opcode and function.
+#[tactic(auto, unfolding(crate::specs::Table::operate_of))]
+pub fn operate_rows()
+    ensures { (op : Op) → operate_of (operate_opcode op) (operate_function op) ≡ Some op }
+{}

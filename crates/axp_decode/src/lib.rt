@@ -1,0 +1,19 @@
+//! Instruction words and what they are, both ways: `decode` is total, and `encode` takes it back for
+//! every word. The table of names and numbers is `specs/Table.antt`, the formats are
+//! `specs/Format.antt`.
+#![tactic(auto)]
+
+mod decoding;
+mod encoding;
+mod instructions;
+mod laws;
+mod names;
+mod numbers;
+
+pub use decoding::decode;
+pub use encoding::encode;
+pub use instructions::{Instr, Operand};
+pub use laws::{
+    branch_rows, memory_rows, misc_rows, operate_rows, pal_rows, words_and_instructions,
+};
+pub use names::{BranchOp, MemOp, MiscOp, Op, PalOp};
