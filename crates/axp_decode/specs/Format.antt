@@ -1,5 +1,5 @@
--- the formats of a word of 32 bits
-use Rattle.std.specs.Prelude.{ℕ, ◌+◌, ◌*◌, ◌/◌, ◌%◌, ◌^◌, Option, Some, None, Bool, ◌==◌, nat_le, ◌||◌, ◌&&◌, if◌then◌else◌}
+-- The formats of an instruction word of 32 bits, both ways.
+use Rattle.std.specs.Prelude.{◌≡◌, ◌<◌, ℕ, ◌+◌, ◌*◌, ◌/◌, ◌%◌, ◌^◌, Option, Some, None, Bool, ◌==◌, nat_le, ◌||◌, ◌&&◌, if◌then◌else◌}
 use Rattle.axp_decode.specs.Table.{memory_number, memory_of, branch_number, branch_of, misc_number, misc_of, pal_number, pal_of, operate_opcode, operate_function, operate_of}
 use Rattle.axp_decode.specs.declared.instructions.Operand.{Operand}
 use Rattle.axp_decode.specs.declared.instructions.Operand.TheVariants.{Reg, Literal}
@@ -31,9 +31,11 @@ unfoldable pub operand_bits : Operand → ℕ
 operand_bits (Reg n pad) = n % 2 ^ 5 * 2 ^ 16 + pad % 2 ^ 3 * 2 ^ 13
 operand_bits (Literal value) = value % 2 ^ 8 * 2 ^ 13 + 2 ^ 12
 
+-- the floating opcodes: 15 to 17, 20 to 27, 31 to 33 and 35 to 37, hexadecimal
 unfoldable pub is_floating : ℕ → Bool
 is_floating n = (nat_le 21 n && nat_le n 23) || (nat_le 32 n && nat_le n 39) || (nat_le 49 n && nat_le n 51) || (nat_le 53 n && nat_le n 55)
 
+-- the instruction of a row that is found, else another
 abbrev pub named : {A : Type 0} → Option A → (A → Instr) → Instr → Instr
 named None f i = i
 named (Some x) f i = f x
@@ -59,3 +61,19 @@ word_of (Misc op a b) = 24 * 2 ^ 26 + a % 2 ^ 5 * 2 ^ 21 + b % 2 ^ 5 * 2 ^ 16 + 
 word_of (Pal op) = pal_number op
 word_of (Floating word) = word
 word_of (Reserved word) = word
+
+-- the fields of an operand fit in their places
+abbrev pub OperandFits : Operand → Type 0
+OperandFits (Reg n pad) = (n < 2 ^ 5) × (pad < 2 ^ 3)
+OperandFits (Literal value) = value < 2 ^ 8
+
+-- the fields of an instruction fit in their places; a word that is kept whole is decoded so
+abbrev pub FieldsFit : Instr → Type 0
+FieldsFit (Memory op a b disp) = (a < 2 ^ 5) × (b < 2 ^ 5) × (disp < 2 ^ 16)
+FieldsFit (Branch op a disp) = (a < 2 ^ 5) × (disp < 2 ^ 21)
+FieldsFit (Jump kind a b hint) = (kind < 4) × (a < 2 ^ 5) × (b < 2 ^ 5) × (hint < 2 ^ 14)
+FieldsFit (Operate op a b c) = (a < 2 ^ 5) × OperandFits b × (c < 2 ^ 5)
+FieldsFit (Misc op a b) = (a < 2 ^ 5) × (b < 2 ^ 5)
+FieldsFit (Pal op) = Unit {0}
+FieldsFit (Floating word) = instr_of word ≡ Floating word
+FieldsFit (Reserved word) = instr_of word ≡ Reserved word

@@ -1,7 +1,8 @@
 //! Laws of the tables and formats, each proved as the contract of a function that does nothing.
 ghost use Rattle.std.specs.Prelude.{ℕ, ◌≡◌, ◌<◌, ◌^◌, Some};
 ghost use Rattle.axp_decode.specs.Table.{memory_number, memory_of, branch_number, branch_of, misc_number, misc_of, pal_number, pal_of, operate_opcode, operate_function, operate_of};
-ghost use Rattle.axp_decode.specs.Format.{instr_of, word_of};
+ghost use Rattle.axp_decode.specs.Format.{instr_of, word_of, FieldsFit};
+ghost use Rattle.axp_decode.specs.declared.instructions.Instr.{Instr};
 ghost use Rattle.axp_decode.specs.declared.names.MemOp.{MemOp};
 ghost use Rattle.axp_decode.specs.declared.names.BranchOp.{BranchOp};
 ghost use Rattle.axp_decode.specs.declared.names.MiscOp.{MiscOp};
@@ -42,4 +43,9 @@ pub fn pal_rows()
 #[tactic(auto, unfolding(crate::specs::Table::operate_of))]
 pub fn operate_rows()
     ensures { (op : Op) → operate_of (operate_opcode op) (operate_function op) ≡ Some op }
+{}
+
+/// Decoding takes back encoding where the fields of the instruction fit in their places.
+pub fn fields_are_kept()
+    ensures { (i : Instr) → FieldsFit i → instr_of (word_of i) ≡ i }
 {}
