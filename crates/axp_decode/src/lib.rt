@@ -9,6 +9,8 @@ mod instructions;
 mod laws;
 mod names;
 mod numbers;
+#[cfg(test)]
+mod tests;
 
 pub use decoding::decode;
 pub use encoding::encode;
