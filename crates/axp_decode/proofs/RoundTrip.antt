@@ -16,11 +16,11 @@ found : {A : Type 0} (p : A → Bool) (xs : List A) (x : A) → find p xs ≡ So
 found p [] x h = cc
 found p (y ∷ ys) x h = found_at p y x (find p ys) (p y) refl h (found p ys x)
 
-memory_found : (n : ℕ) (op : _) → memory_of n ≡ Some op → memory_number op ≡ n
+pub memory_found : (n : ℕ) (op : _) → memory_of n ≡ Some op → memory_number op ≡ n
 unfolding memory_of
 memory_found n op h = eqb-true _ _ (found (λ op. memory_number op == n) all_memory op h)
 
-branch_found : (n : ℕ) (op : _) → branch_of n ≡ Some op → branch_number op ≡ n
+pub branch_found : (n : ℕ) (op : _) → branch_of n ≡ Some op → branch_number op ≡ n
 unfolding branch_of
 branch_found n op h = eqb-true _ _ (found (λ op. branch_number op == n) all_branch op h)
 
@@ -36,7 +36,7 @@ both : (a b : Bool) → (a && b) ≡ true → (a ≡ true) × (b ≡ true)
 both true b h = (refl, h)
 both false b h = cc
 
-operate_found : (m n : ℕ) (op : _) → operate_of m n ≡ Some op → (operate_opcode op ≡ m) × (operate_function op ≡ n)
+pub operate_found : (m n : ℕ) (op : _) → operate_of m n ≡ Some op → (operate_opcode op ≡ m) × (operate_function op ≡ n)
 unfolding operate_of
 operate_found m n op h =
     let t = both _ _ (found (λ op. (operate_opcode op == m) && (operate_function op == n)) all_operate op h) in

@@ -1,8 +1,9 @@
 //! Laws of the tables and formats, each proved as the contract of a function that does nothing.
-ghost use Rattle.std.specs.Prelude.{ℕ, ◌≡◌, ◌<◌, ◌^◌, Some};
+ghost use Rattle.std.specs.Prelude.{ℕ, ◌≡◌, ◌↔◌, ◌<◌, ◌^◌, Some, true};
 ghost use Rattle.axp_decode.specs.Table.{memory_number, memory_of, branch_number, branch_of, misc_number, misc_of, pal_number, pal_of, operate_opcode, operate_function, operate_of};
-ghost use Rattle.axp_decode.specs.Format.{instr_of, word_of, FieldsFit};
+ghost use Rattle.axp_decode.specs.Format.{instr_of, word_of, opcode_of, is_floating, FieldsFit};
 ghost use Rattle.axp_decode.specs.declared.instructions.Instr.{Instr};
+ghost use Rattle.axp_decode.specs.declared.instructions.Instr.TheVariants.{Floating};
 ghost use Rattle.axp_decode.specs.declared.names.MemOp.{MemOp};
 ghost use Rattle.axp_decode.specs.declared.names.BranchOp.{BranchOp};
 ghost use Rattle.axp_decode.specs.declared.names.MiscOp.{MiscOp};
@@ -48,4 +49,9 @@ pub fn operate_rows()
 /// Decoding takes back encoding where the fields of the instruction fit in their places.
 pub fn fields_are_kept()
     ensures { (i : Instr) → FieldsFit i → instr_of (word_of i) ≡ i }
+{}
+
+/// A word is Floating exactly where its opcode is a floating one.
+pub fn floating_words()
+    ensures { (w : ℕ) → (instr_of w ≡ Floating w) ↔ (is_floating (opcode_of w) ≡ true) }
 {}

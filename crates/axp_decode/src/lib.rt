@@ -16,7 +16,7 @@ pub use decoding::decode;
 pub use encoding::encode;
 pub use instructions::{Instr, Operand};
 pub use laws::{
-    branch_rows, fields_are_kept, memory_rows, misc_rows, operate_rows, pal_rows,
+    branch_rows, fields_are_kept, floating_words, memory_rows, misc_rows, operate_rows, pal_rows,
     words_and_instructions,
 };
 pub use names::{BranchOp, MemOp, MiscOp, Op, PalOp};
