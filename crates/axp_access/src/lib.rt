@@ -34,7 +34,8 @@ pub enum Kind {
 /// Where an access stands in the order of memory.
 #[derive(Clone, Copy, Debug, PartialEq, Eq)]
 pub enum Place {
-    /// At this turn: a write is the turn itself, every other access comes after the writes of it.
+    /// A write that is this turn, or another access that so many turns precede. Of the accesses at
+    /// one place the write comes first.
     At(u64),
 }
 

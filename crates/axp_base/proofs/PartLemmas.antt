@@ -15,13 +15,13 @@ pub number_at_more : (f : ℕ → ℕ) (a n : ℕ) → number_at f a (n + 1) ≡
 unfolding number_at
 number_at_more f a n = rw add-one refl
 
-pub number_at-lt : (f : ℕ → ℕ) (a n : ℕ) → ((k : ℕ) → f k < 256) → number_at f a n < 2 ^ (8 * n)
+pub number_at_small : (f : ℕ → ℕ) (a n : ℕ) → ((k : ℕ) → f k < 256) → number_at f a n < 2 ^ (8 * n)
 unfolding number_at
-number_at-lt f a zero h = omega arith
-number_at-lt f a (suc n) h =
+number_at_small f a zero h = omega arith
+number_at_small f a (suc n) h =
     let e : 8 * suc n ≡ 8 * n + 8 = omega arith in
     let le : f (a + n) ≤ 255 = omega (arith, h (a + n)) in
-    rw (e, pow-add 2 (8 * n) 8) (omega (arith, number_at-lt f a n h, mul-le-mul_right (2 ^ (8 * n)) le))
+    rw (e, pow-add 2 (8 * n) 8) (omega (arith, number_at_small f a n h, mul-le-mul_right (2 ^ (8 * n)) le))
 
 -- the number depends on its own bytes alone
 pub number_at-same : (f g : ℕ → ℕ) (a n : ℕ) → ((k : ℕ) → a ≤ k → k < a + n → f k ≡ g k) → number_at f a n ≡ number_at g a n
@@ -32,15 +32,17 @@ number_at-same f g a (suc n) h =
     let top : f (a + n) ≡ g (a + n) = h (a + n) (omega arith) (omega arith) in
     rw (low, top) refl
 
--- one more byte of a number, as code adds it up
-pub part_step : (f : ℕ → ℕ) (a n v x : ℕ) → ((k : ℕ) → f k < 256) → n < 8 → v ≡ number_at f a n → x ≡ f (a + n) → (v + x * 2 ^ (8 * n) % 2 ^ 64 ≡ number_at f a (n + 1)) × (v + x * 2 ^ (8 * n) % 2 ^ 64 < 2 ^ 64)
-part_step f a n v x bytes few so_far next =
-    let small : x < 2 ^ 8 = omega (arith, bytes (a + n)) in
-    let whole : x * 2 ^ (8 * n) % 2 ^ 64 ≡ x * 2 ^ (8 * n) = shl_whole x 8 (8 * n) 64 small (omega arith) in
-    let more : number_at f a (n + 1) ≡ v + x * 2 ^ (8 * n) = rw (so_far, next) (number_at_more f a n) in
-    let lt : number_at f a (n + 1) < 2 ^ (8 * (n + 1)) = number_at-lt f a (n + 1) bytes in
-    let up : 2 ^ (8 * (n + 1)) ≤ 2 ^ 64 = pow_mono {i = 8 * (n + 1)} {j = 64} (omega arith) in
-    (omega arith, omega arith)
+-- a byte moved up stays whole
+pub byte_whole : (x n : ℕ) → x < 2 ^ 8 → n < 8 → x * 2 ^ (8 * n) % 2 ^ 64 ≡ x * 2 ^ (8 * n)
+byte_whole x n small few = shl_whole x 8 (8 * n) 64 small (omega arith)
+
+-- a number of at most eight bytes stays below 2 ^ 64
+pub number_at_fits : (f : ℕ → ℕ) (a n : ℕ) → ((k : ℕ) → f k < 256) → n < 8 → number_at f a n + f (a + n) * 2 ^ (8 * n) < 2 ^ 64
+unfolding number_at
+number_at_fits f a n bytes few =
+    let lt : number_at f a (suc n) < 2 ^ (8 * suc n) = number_at_small f a (suc n) bytes in
+    let up : 2 ^ (8 * suc n) ≤ 2 ^ 64 = pow_mono {i = 8 * suc n} {j = 64} (omega arith) in
+    omega (arith, lt)
 
 pub with_part_none : (xs : List ℕ) (a v : ℕ) → with_part xs a 0 v ≡ xs
 unfolding with_part
@@ -54,10 +56,6 @@ pub length-with_part : (xs : List ℕ) (a n v : ℕ) → length (with_part xs a 
 unfolding with_part
 length-with_part xs a zero v = refl
 length-with_part xs a (suc n) v = length-set (with_part xs a n v) (a + n) (byte v n) ∙ length-with_part xs a n v
-
--- one more byte put, as code writes it
-pub put_step : (xs old : List ℕ) (a n v i x : ℕ) → xs ≡ with_part old a n v → i ≡ a + n → x ≡ byte v n → set xs i x ≡ with_part old a (n + 1) v
-put_step xs old a n v i x so_far at is = rw (with_part_more old a n v, so_far, at, is) refl
 
 -- a byte that was put, and one that stays
 put_one : (xs : List ℕ) (a n i x y : ℕ) → a + n < length xs → (i ≡ n → x ≡ y) → (i ≢ n → get_or xs (a + i) 0 ≡ y) → get_or (set xs (a + n) x) (a + i) 0 ≡ y

@@ -3,3 +3,4 @@ pub mod Lines
 pub mod Masks
 pub mod Numbers
 pub mod Parts
+pub mod Sizes

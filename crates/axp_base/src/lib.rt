@@ -9,14 +9,16 @@ mod masks;
 mod numbers;
 mod parts;
 mod processors;
+mod sizes;
 
 pub use byte_lists::{Bytes, NoMemory};
 pub use laws::{put_is_read_back, span_is_its_bytes};
 pub use lines::{Bank, LINE_BYTES, Line};
 pub use masks::{Mask, span};
 pub use numbers::sext;
-pub use parts::{QUADWORD_BYTES, number_in, put_number};
+pub use parts::{QUADWORD_BYTES, byte_moved_up, byte_of, number_in, put_number};
 pub use processors::{Cpu, MAX_BUDGET, MAX_CPUS, MIN_CPUS};
+pub use sizes::Size;
 
 #[cfg(test)]
 mod tests;

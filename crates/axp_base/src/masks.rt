@@ -9,6 +9,7 @@ use crate::LINE_BYTES;
 pub struct Mask(u64);
 
 /// The bytes that an access of 1, 2, 4 or 8 bytes at a multiple of its size takes of its line.
+#[tactic(auto, using(crate::proofs::MaskLemmas::span_whole))]
 pub fn span(address: u64, size: u8) -> Mask
     requires sized { IsSize size }
     requires aligned { address % size ≡ 0 }

@@ -53,18 +53,18 @@ none_by at o None e never = refl
 write_of-never : (at : ℕ) (o : Outcome) → ((a : Access) → IsWriteOf at o a → ⊥) → write_of at o ≡ None
 write_of-never at o never = none_by at o (write_of at o) refl never
 
-newest_on : (r : Record) (h : List Record) (at place : ℕ) → write_of at r.outcome ≡ None
-    → ((later : ℕ) (s : Record) (b : Access) → later < place → slice_get h later ≡ Some s → IsWriteOf at s.outcome b → ⊥)
-    → (later : ℕ) (s : Record) (b : Access) → later < suc place → slice_get (r ∷ h) later ≡ Some s → IsWriteOf at s.outcome b → ⊥
-newest_on r h at place none old zero s b below stands writes =
+newest_on : (r : Record) (h : List Record) (at position : ℕ) → write_of at r.outcome ≡ None
+    → ((later : ℕ) (s : Record) (b : Access) → later < position → slice_get h later ≡ Some s → IsWriteOf at s.outcome b → ⊥)
+    → (later : ℕ) (s : Record) (b : Access) → later < suc position → slice_get (r ∷ h) later ≡ Some s → IsWriteOf at s.outcome b → ⊥
+newest_on r h at position none old zero s b below stands writes =
     let same : r ≡ s = cc in
     write_of-none at r.outcome b none (subst (λ (x : Record). IsWriteOf at x.outcome b) (sym same) writes)
-newest_on r h at place none old (suc later) s b below stands writes = old later s b (omega (arith, below)) stands writes
+newest_on r h at position none old (suc later) s b below stands writes = old later s b (omega (arith, below)) stands writes
 
 newest_by : (r : Record) (h : List Record) (at : ℕ) (a : Access) (w : Option Access) → write_of at r.outcome ≡ w → (source h at ≡ Some a → IsNewestWrite h at a)
     → first_of_two w (source h at) ≡ Some a → IsNewestWrite (r ∷ h) at a
 newest_by r h at a (Some b) is before e = record {
-  place = 0;
+  position = 0;
   writer = r;
   stands = refl;
   writes = write_of-said at r.outcome a (is ∙ e);
@@ -72,11 +72,11 @@ newest_by r h at a (Some b) is before e = record {
 }
 newest_by r h at a None is before e =
     let old = before e in record {
-      place = suc old.place;
+      position = suc old.position;
       writer = old.writer;
       stands = old.stands;
       writes = old.writes;
-      newest = newest_on r h at old.place is old.newest;
+      newest = newest_on r h at old.position is old.newest;
     }
 
 -- the source is the newest write
@@ -84,37 +84,37 @@ pub source-newest : (h : List Record) (at : ℕ) (a : Access) → source h at �
 source-newest [] at a e = cc
 source-newest (r ∷ h) at a e = newest_by r h at a (write_of at r.outcome) refl (source-newest h at a) e
 
-newest_source : (h : List Record) (at : ℕ) (a : Access) (place : ℕ) (r : Record) → slice_get h place ≡ Some r → IsWriteOf at r.outcome a
-    → ((later : ℕ) (s : Record) (b : Access) → later < place → slice_get h later ≡ Some s → IsWriteOf at s.outcome b → ⊥) → source h at ≡ Some a
-newest_source [] at a place r stands writes newest = cc
+newest_source : (h : List Record) (at : ℕ) (a : Access) (position : ℕ) (r : Record) → slice_get h position ≡ Some r → IsWriteOf at r.outcome a
+    → ((later : ℕ) (s : Record) (b : Access) → later < position → slice_get h later ≡ Some s → IsWriteOf at s.outcome b → ⊥) → source h at ≡ Some a
+newest_source [] at a position r stands writes newest = cc
 newest_source (x ∷ h) at a zero r stands writes newest =
     let same : x ≡ r = cc in
     ap (λ (w : Option Access). first_of_two w (source h at)) (ap (λ (y : Record). write_of at y.outcome) same ∙ write_of-says at r.outcome a writes)
-newest_source (x ∷ h) at a (suc place) r stands writes newest =
+newest_source (x ∷ h) at a (suc position) r stands writes newest =
     ap (λ (w : Option Access). first_of_two w (source h at)) (write_of-never at x.outcome (λ b is. newest zero x b (omega arith) refl is))
-    ∙ newest_source h at a place r stands writes (λ later s b below at_later is. newest (suc later) s b (omega (arith, below)) at_later is)
+    ∙ newest_source h at a position r stands writes (λ later s b below at_later is. newest (suc later) s b (omega (arith, below)) at_later is)
 
 pub source-only : (h : List Record) (at : ℕ) (a : Access) → IsNewestWrite h at a → source h at ≡ Some a
-source-only h at a is = newest_source h at a is.place is.writer is.stands is.writes is.newest
+source-only h at a is = newest_source h at a is.position is.writer is.stands is.writes is.newest
 
 -- there is no source exactly where no record writes
 pub source-unwritten : (h : List Record) (at : ℕ) → IsUnwritten h at → source h at ≡ None
 source-unwritten [] at never = refl
 source-unwritten (r ∷ h) at never =
     ap (λ (w : Option Access). first_of_two w (source h at)) (write_of-never at r.outcome (λ a is. never zero r a refl is))
-    ∙ source-unwritten h at (λ place s a stands is. never (suc place) s a stands is)
+    ∙ source-unwritten h at (λ position s a stands is. never (suc position) s a stands is)
 
 first_none : (w o : Option Access) → first_of_two w o ≡ None → (w ≡ None) × (o ≡ None)
 first_none (Some a) o h = cc
 first_none None o h = (refl, h)
 
 pub source-none : (h : List Record) (at : ℕ) → source h at ≡ None → IsUnwritten h at
-source-none [] at none place r a stands is = cc
+source-none [] at none position r a stands is = cc
 source-none (x ∷ h) at none zero r a stands is =
     let same : x ≡ r = cc in
     write_of-none at x.outcome a (first_none (write_of at x.outcome) (source h at) none).0 (subst (λ (y : Record). IsWriteOf at y.outcome a) (sym same) is)
-source-none (x ∷ h) at none (suc place) r a stands is =
-    source-none h at (first_none (write_of at x.outcome) (source h at) none).1 place r a stands is
+source-none (x ∷ h) at none (suc position) r a stands is =
+    source-none h at (first_none (write_of at x.outcome) (source h at) none).1 position r a stands is
 
 byte_small : (image : List Segment) (s : Option Access) (at : ℕ) → byte_in image at < 256 → byte_of_source image s at < 256
 byte_small image None at small = small

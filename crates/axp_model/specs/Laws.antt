@@ -1,4 +1,4 @@
--- The newest write of a byte, by the places of a history's records: place 0 is the newest.
+-- The newest write of a byte, by the positions of a history's records: position 0 is the newest.
 use Rattle.std.specs.Prelude.{◌≡◌, ℕ, ◌+◌, ◌<◌, ◌≤◌, List, slice_get, Some}
 use Rattle.axp_access.specs.declared.Access.{Access}
 use Rattle.axp_access.specs.declared.Kind.TheVariants.{Write}
@@ -15,12 +15,12 @@ pub record IsWriteOf (at : ℕ) (o : Outcome) (a : Access) : Type 0 where
 
 -- a record of the history made this access, a write of the byte, and no later record writes the byte
 pub record IsNewestWrite (h : List Record) (at : ℕ) (a : Access) : Type 0 where
-  pub place : ℕ
+  pub position : ℕ
   pub writer : Record
-  pub stands : slice_get h place ≡ Some writer
+  pub stands : slice_get h position ≡ Some writer
   pub writes : IsWriteOf at writer.outcome a
-  pub newest : (later : ℕ) (r : Record) (b : Access) → later < place → slice_get h later ≡ Some r → IsWriteOf at r.outcome b → ⊥
+  pub newest : (later : ℕ) (r : Record) (b : Access) → later < position → slice_get h later ≡ Some r → IsWriteOf at r.outcome b → ⊥
 
 -- no record of the history writes the byte at an address
 abbrev pub IsUnwritten : List Record → ℕ → Type 0
-IsUnwritten h at = (place : ℕ) (r : Record) (a : Access) → slice_get h place ≡ Some r → IsWriteOf at r.outcome a → ⊥
+IsUnwritten h at = (position : ℕ) (r : Record) (a : Access) → slice_get h position ≡ Some r → IsWriteOf at r.outcome a → ⊥
