@@ -1,0 +1,2 @@
+pub mod ByteComparisons
+pub mod Flags
