@@ -3,3 +3,4 @@ pub mod MaskLemmas
 pub mod NumberLemmas
 pub mod PartLemmas
 pub mod SpanLemmas
+pub mod SignLemmas

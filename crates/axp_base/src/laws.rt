@@ -1,7 +1,9 @@
 //! Laws of parts of lists and of spans, each proved as the contract of a function that does nothing.
-ghost use Rattle.std.specs.Prelude.{ℕ, List, ◌≡◌, ◌+◌, ◌*◌, ◌/◌, ◌%◌, ◌^◌, ◌<◌, ◌≤◌, ◌⊎◌, IsTrue, length, slice_index};
+ghost use Rattle.std.specs.Prelude.{ℕ, pos, int_lt, List, ◌≡◌, ◌+◌, ◌-◌, ◌*◌, ◌/◌, ◌%◌, ◌^◌, ◌<◌, ◌≤◌, ◌⊎◌, IsTrue, length, slice_index};
+ghost use Rattle.std.specs.Int.{cast_signed, w8, w16, w32};
 ghost use Rattle.axp_base.specs.declared.lines.TheConstants.{LINE_BYTES};
 ghost use Rattle.axp_base.specs.Masks.{IsSize, span_of, has_bit};
+ghost use Rattle.axp_base.specs.Numbers.{is_negative, sign_extended, signed};
 ghost use Rattle.axp_base.specs.Parts.{byte, part, with_part};
 
 /// The low bytes of a number that are put into a list are read back as one number. Every byte
@@ -24,4 +26,20 @@ pub fn span_is_its_bytes()
         → IsTrue (has_bit (span_of address size) ((address + i) % LINE_BYTES)) }
     ensures only { (address size n : ℕ) → IsSize size → address % size ≡ 0 → IsTrue (has_bit (span_of address size) n)
         → (i : ℕ) × (i < size) × ((address + i) % LINE_BYTES ≡ n) }
+{}
+
+/// Sign extension keeps the low bits, repeats the highest of them in each bit above, and keeps the
+/// integer that a byte, a word or a longword is.
+pub fn sign_extension_keeps_the_integer()
+    ensures small { (k x : ℕ) → k ≤ 64 → sign_extended k x < 2 ^ 64 }
+    ensures low { (k x : ℕ) → k ≤ 64 → sign_extended k x % 2 ^ k ≡ x % 2 ^ k }
+    ensures above { (k x n : ℕ) → 1 ≤ k → k ≤ n → n < 64 → has_bit (sign_extended k x) n ≡ has_bit x (k - 1) }
+    ensures of_a_byte { (x : ℕ) → signed (sign_extended 8 x) ≡ cast_signed w8 (x % 2 ^ 8) }
+    ensures of_a_word { (x : ℕ) → signed (sign_extended 16 x) ≡ cast_signed w16 (x % 2 ^ 16) }
+    ensures of_a_longword { (x : ℕ) → signed (sign_extended 32 x) ≡ cast_signed w32 (x % 2 ^ 32) }
+{}
+
+/// A number has its sign bit exactly where the integer that it is lies below 0.
+pub fn sign_bit_is_below_zero()
+    ensures { (a : ℕ) → a < 2 ^ 64 → is_negative a ≡ int_lt (signed a) (pos 0) }
 {}

@@ -12,7 +12,9 @@ mod processors;
 mod sizes;
 
 pub use byte_lists::{Bytes, NoMemory};
-pub use laws::{put_is_read_back, span_is_its_bytes};
+pub use laws::{
+    put_is_read_back, sign_bit_is_below_zero, sign_extension_keeps_the_integer, span_is_its_bytes,
+};
 pub use lines::{Bank, LINE_BYTES, Line};
 pub use masks::{Mask, span};
 pub use numbers::sext;

@@ -35,6 +35,22 @@ fn values_are_those_worked_out_by_hand(rt: HostRuntime) {
 }
 
 #[test]
+fn sizes_are_those_of_the_manual(rt: HostRuntime) {
+    for (size, bytes, bits, low) in [
+        (Size::Byte, 1, 8, 0xEF),
+        (Size::Word, 2, 16, 0xCDEF),
+        (Size::Long, 4, 32, 0x89AB_CDEF),
+        (Size::Quad, 8, 64, 0x0123_4567_89AB_CDEF),
+    ] {
+        assert_eq!(rt; (size.bytes(), size.bits()), (bytes, bits), "{size:?}");
+        assert_eq!(rt; size.low(0x0123_4567_89AB_CDEF), low, "{size:?}");
+    }
+    assert_eq!(rt; byte_of(0x0123_4567_89AB_CDEF, 0), 0xEF);
+    assert_eq!(rt; byte_of(0x0123_4567_89AB_CDEF, 7), 0x01);
+    assert_eq!(rt; byte_moved_up(0xAB, 7), 0xAB00_0000_0000_0000);
+}
+
+#[test]
 fn bytes_hold_what_is_put(rt: HostRuntime) -> Result<(), Fail> {
     let alloc = rt.alloc();
     let mut list = Bytes::copy(alloc, b"one")?;
