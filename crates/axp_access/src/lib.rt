@@ -2,6 +2,7 @@
 #![tactic(auto)]
 
 pub use axp_base::Cpu;
+pub use axp_regs::{Ask, Kind};
 
 /// What a processor does in one event.
 #[derive(Clone, Copy, Debug, PartialEq, Eq)]
@@ -18,17 +19,6 @@ pub struct Event {
     pub cpu: Cpu,
     /// What it does.
     pub act: Act,
-}
-
-/// The kinds of access.
-#[derive(Clone, Copy, Debug, PartialEq, Eq)]
-pub enum Kind {
-    /// The fetch of an instruction's word.
-    Fetch,
-    /// A plain read of data.
-    Read,
-    /// A plain write of data.
-    Write,
 }
 
 /// Where an access stands in the order of memory.

@@ -1,8 +1,8 @@
 -- The instruction table: the group of accesses that an instruction is, from the table state at its
 -- start. Registers and program counter change at the group's end alone.
 use Rattle.std.specs.Prelude.{ℕ, ◌+◌, ◌/◌, ◌%◌, ◌^◌, ◌==◌, ◌&&◌, nat_lt, Bool, bit_or, Some, if◌then◌else◌}
-use Rattle.axp_access.specs.declared.Kind.{Kind}
-use Rattle.axp_access.specs.declared.Kind.TheVariants.{Fetch, Read, Write}
+use Rattle.axp_regs.specs.declared.asks.Kind.{Kind}
+use Rattle.axp_regs.specs.declared.asks.Kind.TheVariants.{Fetch, Read, Write}
 use Rattle.axp_base.specs.Numbers.{sign_extended}
 use Rattle.axp_base.specs.declared.parts.TheConstants.{QUADWORD_BYTES}
 use Rattle.axp_image.specs.declared.limits.TheConstants.{KSEG, INSTRUCTION_BYTES}

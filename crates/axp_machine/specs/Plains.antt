@@ -1,8 +1,8 @@
 -- One plain memory.
 use Rattle.std.specs.Prelude.{◌≡◌, ℕ, ◌+◌, ◌-◌, ◌/◌, ◌<◌, Bool, true, false, ◌&&◌, nat_lt, nat_le, List, length, replicate, slice_index, slice_set, if◌then◌else◌}
 use Rattle.axp_access.specs.declared.Access.{Access}
-use Rattle.axp_access.specs.declared.Kind.{Kind}
-use Rattle.axp_access.specs.declared.Kind.TheVariants.{Fetch, Read, Write}
+use Rattle.axp_regs.specs.declared.asks.Kind.{Kind}
+use Rattle.axp_regs.specs.declared.asks.Kind.TheVariants.{Fetch, Read, Write}
 use Rattle.axp_base.specs.Parts.{with_part}
 use Rattle.axp_base.specs.declared.parts.TheConstants.{QUADWORD_BYTES}
 use Rattle.axp_image.specs.Contents.{Contents, byte_in}

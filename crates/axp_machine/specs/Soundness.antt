@@ -1,6 +1,6 @@
 -- What every plan of the instruction table keeps, in a memory of this size.
 use Rattle.std.specs.Prelude.{◌≡◌, ℕ, ◌+◌, ◌%◌, ◌≤◌}
-use Rattle.axp_access.specs.declared.Kind.{Kind}
+use Rattle.axp_regs.specs.declared.asks.Kind.{Kind}
 use Rattle.axp_access.specs.Spelling.{IsSizeOf}
 use Rattle.axp_image.specs.declared.limits.TheConstants.{INSTRUCTION_BYTES}
 use Rattle.axp_machine.specs.Plans.{Plan, End, Want, Unbuilt}

@@ -1,5 +1,5 @@
 ghost use Rattle.std.specs.Prelude.{◌≡◌, ◌<◌, ◌^◌, ℕ};
-ghost use Rattle.axp_access.specs.declared.Kind.TheVariants.{Write};
+ghost use Rattle.axp_regs.specs.declared.asks.Kind.TheVariants.{Write};
 ghost use Rattle.axp_base.specs.declared.parts.TheConstants.{QUADWORD_BYTES};
 ghost use Rattle.axp_machine.specs.declared.registers.TheConstants.{REGISTERS};
 ghost use Rattle.axp_machine.specs.Instructions.{group, reached, aligned, row, effective, loaded, ended, wrote, stopped};

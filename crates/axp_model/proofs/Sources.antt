@@ -2,8 +2,8 @@
 use Rattle.std.proofs.Common.{◌≡◌, ℕ, zero, suc, ◌+◌, ◌<◌, ◌≤◌, ◌&&◌, Bool, true, false, cond, ltb, leb, List, [], ◌∷◌, slice_get, Option, Some, None, arith, refl, sym, ap, ◌∙◌, subst}
 use Rattle.std.proofs.lemmas.Bool.{ltb-true, leb-true, lt-ltb, le-leb}
 use Rattle.axp_access.specs.declared.Access.{Access}
-use Rattle.axp_access.specs.declared.Kind.{Kind}
-use Rattle.axp_access.specs.declared.Kind.TheVariants.{Fetch, Read, Write}
+use Rattle.axp_regs.specs.declared.asks.Kind.{Kind}
+use Rattle.axp_regs.specs.declared.asks.Kind.TheVariants.{Fetch, Read, Write}
 use Rattle.axp_access.specs.declared.Outcome.{Outcome}
 use Rattle.axp_access.specs.declared.Outcome.TheVariants as outcome
 use Rattle.axp_access.specs.declared.Record.{Record}

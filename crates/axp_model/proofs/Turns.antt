@@ -1,7 +1,7 @@
 -- Each record is one turn at most.
 use Rattle.std.proofs.Common.{◌≤◌, List, [], ◌∷◌, length, arith}
-use Rattle.axp_access.specs.declared.Kind.{Kind}
-use Rattle.axp_access.specs.declared.Kind.TheVariants.{Fetch, Read, Write}
+use Rattle.axp_regs.specs.declared.asks.Kind.{Kind}
+use Rattle.axp_regs.specs.declared.asks.Kind.TheVariants.{Fetch, Read, Write}
 use Rattle.axp_access.specs.declared.Outcome.{Outcome}
 use Rattle.axp_access.specs.declared.Outcome.TheVariants as outcome
 use Rattle.axp_access.specs.declared.Record.{Record}

@@ -1,7 +1,7 @@
 -- What a history's records wrote, by their positions: position 0 is the newest.
 use Rattle.std.specs.Prelude.{◌≡◌, ℕ, ◌+◌, ◌/◌, ◌<◌, ◌≤◌, List, slice_get, Some}
 use Rattle.axp_access.specs.declared.Access.{Access}
-use Rattle.axp_access.specs.declared.Kind.TheVariants.{Write}
+use Rattle.axp_regs.specs.declared.asks.Kind.TheVariants.{Write}
 use Rattle.axp_access.specs.declared.Outcome.{Outcome}
 use Rattle.axp_access.specs.declared.Outcome.TheVariants as outcome
 use Rattle.axp_access.specs.declared.Record.{Record}

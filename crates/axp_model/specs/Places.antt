@@ -1,6 +1,6 @@
 -- The place of an access in the order of memory.
 use Rattle.std.specs.Prelude.{ℕ, ◌+◌}
-use Rattle.axp_access.specs.declared.Kind.{Kind}
+use Rattle.axp_regs.specs.declared.asks.Kind.{Kind}
 use Rattle.axp_access.specs.declared.Place.{Place}
 use Rattle.axp_access.specs.declared.Place.TheVariants.{At}
 use Rattle.axp_model.specs.Turns.{turns_of_kind}

@@ -1,0 +1,25 @@
+/// The kinds of access.
+#[derive(Clone, Copy, Debug, PartialEq, Eq)]
+pub enum Kind {
+    /// The fetch of an instruction's word.
+    Fetch,
+    /// A plain read of data.
+    Read,
+    /// A plain write of data.
+    Write,
+}
+
+/// An access as an instruction asks for it, before its address is translated.
+#[derive(Clone, Copy, Debug, PartialEq, Eq)]
+pub struct Ask {
+    /// What it does.
+    pub kind: Kind,
+    /// The virtual address, or the physical one where `direct` says so.
+    pub address: u64,
+    /// Whether the address is physical.
+    pub direct: bool,
+    /// The number of bytes, 1, 2, 4 or 8.
+    pub size: u8,
+    /// The bytes to be stored as a little-endian number; 0 where nothing is stored.
+    pub value: u64,
+}
