@@ -20,3 +20,4 @@ pub use laws::{
     words_and_instructions,
 };
 pub use names::{BranchOp, MemOp, MiscOp, Op, PalOp};
+pub use numbers::opcode_number;

@@ -284,7 +284,7 @@ pub(crate) fn operate_op(opcode: u8, n: u8) -> Option<Op>
 }
 
 /// The opcode of an instruction of the operate format.
-pub(crate) fn opcode_number(op: Op) -> u8
+pub fn opcode_number(op: Op) -> u8
     ensures value { result ≡ operate_opcode op }
     ensures small { result < 2 ^ 6 }
 {

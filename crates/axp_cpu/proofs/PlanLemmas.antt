@@ -1,0 +1,198 @@
+-- Every plan of the instruction table is sound.
+use Rattle.std.proofs.Common.{◌≡◌, ℕ, ◌+◌, ◌*◌, ◌/◌, ◌%◌, ◌^◌, ◌<◌, ◌≤◌, ◌&&◌, Bool, true, false, cond, eqb, ltb, List, [], ◌∷◌, arith, rules, refl, inl, inr}
+use Rattle.std.proofs.lemmas.Bool.{ltb-true, eqb-true}
+use Rattle.axp_access.specs.Spelling.{IsSizeOf}
+use Rattle.axp_base.specs.Masks.{IsSize}
+use Rattle.axp_base.specs.Numbers.{add, mul, sign_extended}
+use Rattle.axp_base.specs.Sizes.{bytes_of, low_datum}
+use Rattle.axp_base.specs.declared.sizes.Size.{Size}
+use Rattle.axp_base.specs.declared.sizes.Size.TheVariants.{Byte, Word, Long, Quad}
+use Rattle.axp_branch.specs.Branches.{is_taken, target_of}
+use Rattle.axp_bytes.specs.Rows as bytes
+use Rattle.axp_decode.specs.Format.{instr_of}
+use Rattle.axp_decode.specs.Table.{operate_opcode}
+use Rattle.axp_decode.specs.declared.instructions.Instr.{Instr}
+use Rattle.axp_decode.specs.declared.instructions.Instr.TheVariants as instr
+use Rattle.axp_decode.specs.declared.names.BranchOp.{BranchOp}
+use Rattle.axp_decode.specs.declared.names.BranchOp.TheVariants as branch
+use Rattle.axp_decode.specs.declared.names.MemOp.{MemOp}
+use Rattle.axp_decode.specs.declared.names.MemOp.TheVariants as memory
+use Rattle.axp_decode.specs.declared.names.MiscOp.{MiscOp}
+use Rattle.axp_decode.specs.declared.names.MiscOp.TheVariants as misc
+use Rattle.axp_decode.specs.declared.names.Op.{Op}
+use Rattle.axp_decode.specs.declared.names.PalOp.{PalOp}
+use Rattle.axp_decode.specs.declared.names.PalOp.TheVariants as pal
+use Rattle.axp_image.specs.declared.limits.TheConstants.{PAGE_BYTES, INSTRUCTION_BYTES}
+use Rattle.axp_integer.specs.Rows as integer
+use Rattle.axp_regs.specs.States.{register, pc_of}
+use Rattle.axp_regs.specs.declared.asks.Kind.{Kind}
+use Rattle.axp_regs.specs.declared.asks.Kind.TheVariants.{Fetch, Read, Write}
+use Rattle.axp_regs.specs.declared.states.TheConstants.{ZERO_REGISTER}
+use Rattle.axp_cpu.specs.declared.tables.Table.{Table}
+use Rattle.axp_cpu.specs.Addresses.{in_kseg, physical, reached, aligned}
+use Rattle.axp_cpu.specs.Plans.{Plan, End, Want, Unbuilt, given, along}
+use Rattle.axp_cpu.specs.Rows.{group, fetched, row, memory_row, branch_row, branch_goal, operate_row, misc_row, pal_row, ended, wrote, loaded, stored, as_read, as_longword, address_of, quadword_at, operand}
+use Rattle.axp_cpu.specs.Soundness.{IsSound, IsInside}
+use Rattle.axp_cpu.specs.Tables.{counted, next_pc}
+
+-- the end of an aligned part of whole pages lies in them
+part_within : (n a size : ℕ) → IsSize n → a % n ≡ 0 → a < size → size % PAGE_BYTES ≡ 0 → a + n ≤ size
+part_within n a size (inl e) h below pages = omega arith
+part_within n a size (inr (inl e)) h below pages = let k = rw e at h in omega arith
+part_within n a size (inr (inr (inl e))) h below pages = let k = rw e at h in omega arith
+part_within n a size (inr (inr (inr e))) h below pages = let k = rw e at h in omega arith
+
+-- a physical address is as aligned as its virtual one
+low_aligned : (n a : ℕ) → IsSize n → a % n ≡ 0 → physical a % n ≡ 0
+low_aligned n a (inl e) h = rw e (omega arith)
+low_aligned n a (inr (inl e)) h = let k = rw e at h in rw e (omega arith)
+low_aligned n a (inr (inr (inl e))) h = let k = rw e at h in rw e (omega arith)
+low_aligned n a (inr (inr (inr e))) h = let k = rw e at h in rw e (omega arith)
+
+pub size_some : (n : ℕ) → IsSize n → 1 ≤ n
+size_some n (inl e) = omega arith
+size_some n (inr (inl e)) = omega arith
+size_some n (inr (inr (inl e))) = omega arith
+size_some n (inr (inr (inr e))) = omega arith
+
+pub size_of_kind : (kind : Kind) (n : ℕ) → IsSizeOf kind n → IsSize n
+size_of_kind Fetch n e = inr (inr (inl e))
+size_of_kind Read n s = s
+size_of_kind Write n s = s
+
+sized : (what : Size) → IsSize (bytes_of what)
+sized Byte = inl refl
+sized Word = inr (inl refl)
+sized Long = inr (inr (inl refl))
+sized Quad = inr (inr (inr refl))
+
+reached_by : (tested : Bool) (size : ℕ) (kind : Kind) (a n v : ℕ) (k : ℕ → Plan) → (tested ≡ true → IsInside size kind a n) → ((x : ℕ) → IsSound size (k x))
+    → IsSound size (cond tested (Want (record { kind = kind; address = a; size = n; value = v }) k) Unbuilt)
+reached_by true size kind a n v k inside follows = (inside refl, follows)
+reached_by false size kind a n v k inside follows = tt
+
+both-true : (a b : Bool) → a && b ≡ true → b ≡ true
+both-true true b h = h
+both-true false b h = cc
+
+reached_sound : (size : ℕ) (kind : Kind) (a n v : ℕ) (k : ℕ → Plan) → size % PAGE_BYTES ≡ 0 → IsSizeOf kind n → a % n ≡ 0 → ((x : ℕ) → IsSound size (k x)) → IsSound size (reached size kind a n v k)
+reached_sound size kind a n v k pages is h follows =
+    let one = size_of_kind kind n is in
+    reached_by (in_kseg a && ltb (physical a) size) size kind (physical a) n v k
+    (λ passed. record {
+      sized = is;
+      aligned = low_aligned n a one h;
+      within = part_within n (physical a) size one (low_aligned n a one h) (ltb-true (physical a) size (both-true (in_kseg a) (ltb (physical a) size) passed)) pages;
+    })
+    follows
+
+-- a plan is sound where both ways of a test are
+either : (tested : Bool) (size : ℕ) (p q : Plan) → (tested ≡ true → IsSound size p) → (tested ≡ false → IsSound size q) → IsSound size (cond tested p q)
+either true size p q left right = left refl
+either false size p q left right = right refl
+
+aligned_sound : (size : ℕ) (kind : Kind) (a n v : ℕ) (k : ℕ → Plan) → size % PAGE_BYTES ≡ 0 → IsSizeOf kind n → ((x : ℕ) → IsSound size (k x)) → IsSound size (aligned size kind a n v k)
+aligned_sound size kind a n v k pages is follows =
+    either (eqb (a % n) 0) size (reached size kind a n v k) Unbuilt (λ passed. reached_sound size kind a n v k pages is (eqb-true (a % n) 0 passed) follows) (λ _. tt)
+
+-- the program counter stays a multiple of an instruction's size
+abbrev IsAligned : Table → Type 0
+IsAligned t = pc_of t.state % INSTRUCTION_BYTES ≡ 0
+
+next_aligned : (t : Table) → IsAligned t → next_pc t % INSTRUCTION_BYTES ≡ 0
+next_aligned t h = omega arith
+
+target_aligned : (next disp : ℕ) → next % INSTRUCTION_BYTES ≡ 0 → target_of next disp % INSTRUCTION_BYTES ≡ 0
+target_aligned next disp h = let x = sign_extended 21 disp in omega arith
+
+goal_by : (taken : Bool) (target next : ℕ) → target % INSTRUCTION_BYTES ≡ 0 → next % INSTRUCTION_BYTES ≡ 0 → cond taken target next % INSTRUCTION_BYTES ≡ 0
+goal_by true target next h k = h
+goal_by false target next h k = k
+
+goal_aligned : (t : Table) (op : BranchOp) (a disp : ℕ) → IsAligned t → branch_goal t op a disp % INSTRUCTION_BYTES ≡ 0
+goal_aligned t op a disp h =
+    goal_by (is_taken op (register t.state a)) (target_of (next_pc t) disp) (next_pc t) (target_aligned (next_pc t) disp (next_aligned t h)) (next_aligned t h)
+
+loaded_sound : (size : ℕ) (t : Table) (what : Size) (a address : ℕ) (extended : ℕ → ℕ) → size % PAGE_BYTES ≡ 0 → IsAligned t → IsSound size (loaded size t what a address extended)
+loaded_sound size t what a address extended pages h =
+    either (eqb a ZERO_REGISTER) size (ended t) _ (λ _. next_aligned t h)
+    (λ _. aligned_sound size Read address (bytes_of what) 0 (λ v. wrote t a (extended v)) pages (sized what) (λ v. next_aligned t h))
+
+stored_sound : (size : ℕ) (t : Table) (what : Size) (a address : ℕ) → size % PAGE_BYTES ≡ 0 → IsAligned t → IsSound size (stored size t what a address)
+stored_sound size t what a address pages h =
+    aligned_sound size Write address (bytes_of what) (low_datum what (register t.state a)) (λ _. ended t) pages (sized what) (λ v. next_aligned t h)
+
+memory_sound : (size : ℕ) (t : Table) (op : MemOp) (a base disp : ℕ) → size % PAGE_BYTES ≡ 0 → IsAligned t → IsSound size (memory_row size t op a base disp)
+memory_sound size t memory.LDA a base disp pages h = next_aligned t h
+memory_sound size t memory.LDAH a base disp pages h = next_aligned t h
+memory_sound size t memory.LDBU a base disp pages h = loaded_sound size t Byte a (address_of base disp) as_read pages h
+memory_sound size t memory.LDWU a base disp pages h = loaded_sound size t Word a (address_of base disp) as_read pages h
+memory_sound size t memory.LDL a base disp pages h = loaded_sound size t Long a (address_of base disp) as_longword pages h
+memory_sound size t memory.LDQ a base disp pages h = loaded_sound size t Quad a (address_of base disp) as_read pages h
+memory_sound size t memory.LDQ_U a base disp pages h = loaded_sound size t Quad a (quadword_at (address_of base disp)) as_read pages h
+memory_sound size t memory.LDL_L a base disp pages h = tt
+memory_sound size t memory.LDQ_L a base disp pages h = tt
+memory_sound size t memory.STB a base disp pages h = stored_sound size t Byte a (address_of base disp) pages h
+memory_sound size t memory.STW a base disp pages h = stored_sound size t Word a (address_of base disp) pages h
+memory_sound size t memory.STL a base disp pages h = stored_sound size t Long a (address_of base disp) pages h
+memory_sound size t memory.STQ a base disp pages h = stored_sound size t Quad a (address_of base disp) pages h
+memory_sound size t memory.STQ_U a base disp pages h = stored_sound size t Quad a (quadword_at (address_of base disp)) pages h
+memory_sound size t memory.STL_C a base disp pages h = tt
+memory_sound size t memory.STQ_C a base disp pages h = tt
+
+branch_sound : (size : ℕ) (t : Table) (op : BranchOp) (a disp : ℕ) → IsAligned t → IsSound size (branch_row t op a disp)
+branch_sound size t branch.BR a disp h = goal_aligned t branch.BR a disp h
+branch_sound size t branch.BSR a disp h = goal_aligned t branch.BSR a disp h
+branch_sound size t branch.BLBC a disp h = goal_aligned t branch.BLBC a disp h
+branch_sound size t branch.BLBS a disp h = goal_aligned t branch.BLBS a disp h
+branch_sound size t branch.BEQ a disp h = goal_aligned t branch.BEQ a disp h
+branch_sound size t branch.BNE a disp h = goal_aligned t branch.BNE a disp h
+branch_sound size t branch.BLT a disp h = goal_aligned t branch.BLT a disp h
+branch_sound size t branch.BLE a disp h = goal_aligned t branch.BLE a disp h
+branch_sound size t branch.BGE a disp h = goal_aligned t branch.BGE a disp h
+branch_sound size t branch.BGT a disp h = goal_aligned t branch.BGT a disp h
+
+operate_sound : (size : ℕ) (t : Table) (op : Op) (a b c : ℕ) → IsAligned t → IsSound size (operate_row t op a b c)
+operate_sound size t op a b c h =
+    either (eqb (operate_opcode op) 0x12) size (wrote t c (bytes.value_of op a b)) _ (λ _. next_aligned t h)
+    (λ _. either (integer.overflow_of op a b) size Unbuilt (wrote t c (integer.value_of op a b (register t.state c))) (λ _. tt) (λ _. next_aligned t h))
+
+misc_sound : (size : ℕ) (t : Table) (op : MiscOp) (a : ℕ) → IsAligned t → IsSound size (misc_row t op a)
+misc_sound size t misc.TRAPB a h = next_aligned t h
+misc_sound size t misc.EXCB a h = next_aligned t h
+misc_sound size t misc.FETCH a h = next_aligned t h
+misc_sound size t misc.FETCH_M a h = next_aligned t h
+misc_sound size t misc.ECB a h = next_aligned t h
+misc_sound size t misc.WH64 a h = next_aligned t h
+misc_sound size t misc.MB a h = tt
+misc_sound size t misc.WMB a h = tt
+misc_sound size t misc.RPCC a h = next_aligned t h
+
+pal_sound : (size : ℕ) (t : Table) (op : PalOp) → IsAligned t → IsSound size (pal_row t op)
+pal_sound size t pal.HALT h = next_aligned t h
+pal_sound size t op h = search rules
+
+row_sound : (size : ℕ) (t : Table) (i : Instr) → size % PAGE_BYTES ≡ 0 → IsAligned t → IsSound size (row size t i)
+unfolding row
+row_sound size t (instr.Memory op a b disp) pages h = memory_sound size t op a (register t.state b) disp pages h
+row_sound size t (instr.Branch op a disp) pages h = branch_sound size t op a disp h
+row_sound size t (instr.Jump kind a b hint) pages h = let r = register t.state b in omega arith
+row_sound size t (instr.Operate op a b c) pages h = operate_sound size t op (register t.state a) (operand t b) c h
+row_sound size t (instr.Misc op a b) pages h = misc_sound size t op a h
+row_sound size t (instr.Pal op) pages h = pal_sound size t op h
+row_sound size t (instr.Floating word) pages h = tt
+row_sound size t (instr.Reserved word) pages h = tt
+
+pub group_sound : (size : ℕ) (t : Table) → size % PAGE_BYTES ≡ 0 → IsAligned t → IsSound size (group size t)
+unfolding group
+group_sound size t pages h =
+    reached_sound size Fetch (pc_of t.state) INSTRUCTION_BYTES 0 (fetched size t) pages refl h (λ v. row_sound size (counted t) (instr_of (v % 2 ^ 32)) pages h)
+
+given_sound : (size v : ℕ) (p : Plan) → IsSound size p → IsSound size (given v p)
+given_sound size v (End t) sound = sound
+given_sound size v (Want w k) sound = sound.1 v
+given_sound size v Unbuilt sound = tt
+
+pub along_sound : (size : ℕ) (vs : List ℕ) (p : Plan) → IsSound size p → IsSound size (along vs p)
+along_sound size [] p sound = sound
+along_sound size (v ∷ vs) p sound = along_sound size vs (given v p) (given_sound size v p sound)

@@ -1,0 +1,40 @@
+-- What a phase of the code still has to do, as a plan.
+use Rattle.std.specs.Prelude.{ℕ, ◌*◌, ◌<◌, ◌^◌}
+use Rattle.axp_regs.specs.declared.states.TheConstants.{REGISTERS}
+use Rattle.axp_cpu.specs.declared.phases.Phase.{Phase}
+use Rattle.axp_cpu.specs.declared.phases.Phase.TheVariants as phase
+use Rattle.axp_cpu.specs.declared.phases.Then.{Then}
+use Rattle.axp_cpu.specs.declared.phases.Then.TheVariants as next
+use Rattle.axp_cpu.specs.declared.tables.Table.{Table}
+use Rattle.axp_cpu.specs.declared.tables.Wanted.{Wanted}
+use Rattle.axp_cpu.specs.Plans.{Plan, End, Want, Unbuilt}
+use Rattle.axp_cpu.specs.Rows.{as_longword, as_read, ended, fetched, wrote}
+
+-- what follows an access, by the value that it gave
+abbrev pub after : ℕ → Table → Then → ℕ → Plan
+after size t next.Instruct v = fetched size t v
+after size t (next.Load a) v = wrote t a (as_read v)
+after size t (next.LoadLong a) v = wrote t a (as_longword v)
+after size t next.Store v = ended t
+
+abbrev pub plan_of : ℕ → Table → Phase → Plan
+plan_of size t (phase.Makes w next) = Want w (after size t next)
+plan_of size t (phase.Ends u) = End u
+plan_of size t phase.NotBuilt = Unbuilt
+
+-- a register that is written is one of the processor's
+abbrev pub FollowFits : Then → Type 0
+FollowFits next.Instruct = Unit {0}
+FollowFits (next.Load a) = a < REGISTERS
+FollowFits (next.LoadLong a) = a < REGISTERS
+FollowFits next.Store = Unit {0}
+
+-- and what is stored has the access's size
+pub record Fits (w : Wanted) (next : Then) : Type 0 where
+  pub value : w.value < 2 ^ (8 * w.size)
+  pub follow : FollowFits next
+
+abbrev pub PhaseFits : Phase → Type 0
+PhaseFits (phase.Makes w next) = Fits w next
+PhaseFits (phase.Ends u) = Unit {0}
+PhaseFits phase.NotBuilt = Unit {0}

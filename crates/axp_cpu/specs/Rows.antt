@@ -1,0 +1,174 @@
+-- The instruction table: the group of accesses that an instruction is, from the table state at its
+-- start. Registers and program counter change at the group's end alone, the count of fetched
+-- instructions with the fetch. What is not built comes to Unbuilt.
+use Rattle.std.specs.Prelude.{ℕ, ◌+◌, ◌*◌, ◌/◌, ◌%◌, ◌^◌, ◌==◌, Bool, true, false, Some, if◌then◌else◌}
+use Rattle.axp_base.specs.Numbers.{add, mul, sign_extended}
+use Rattle.axp_base.specs.Sizes.{bytes_of, low_datum}
+use Rattle.axp_base.specs.declared.sizes.Size.{Size}
+use Rattle.axp_base.specs.declared.sizes.Size.TheVariants.{Byte, Word, Long, Quad}
+use Rattle.axp_branch.specs.Branches.{is_taken, target_of}
+use Rattle.axp_bytes.specs.Rows as bytes
+use Rattle.axp_decode.specs.Format.{instr_of}
+use Rattle.axp_decode.specs.Table.{operate_opcode}
+use Rattle.axp_decode.specs.declared.instructions.Instr.{Instr}
+use Rattle.axp_decode.specs.declared.instructions.Instr.TheVariants.{Memory, Branch, Jump, Operate, Misc, Pal, Floating, Reserved}
+use Rattle.axp_decode.specs.declared.instructions.Operand.{Operand}
+use Rattle.axp_decode.specs.declared.instructions.Operand.TheVariants.{Reg, Literal}
+use Rattle.axp_decode.specs.declared.names.BranchOp.{BranchOp}
+use Rattle.axp_decode.specs.declared.names.BranchOp.TheVariants.{BR, BSR, BLBC, BLBS, BEQ, BNE, BLT, BLE, BGE, BGT}
+use Rattle.axp_decode.specs.declared.names.MemOp.{MemOp}
+use Rattle.axp_decode.specs.declared.names.MemOp.TheVariants.{LDA, LDAH, LDBU, LDWU, LDL, LDQ, LDQ_U, LDL_L, LDQ_L, STB, STW, STL, STQ, STQ_U, STL_C, STQ_C}
+use Rattle.axp_decode.specs.declared.names.MiscOp.{MiscOp}
+use Rattle.axp_decode.specs.declared.names.MiscOp.TheVariants.{TRAPB, EXCB, FETCH, FETCH_M, ECB, WH64, MB, WMB, RPCC}
+use Rattle.axp_decode.specs.declared.names.Op.{Op}
+use Rattle.axp_decode.specs.declared.names.PalOp.{PalOp}
+use Rattle.axp_decode.specs.declared.names.PalOp.TheVariants.{HALT}
+use Rattle.axp_image.specs.declared.limits.TheConstants.{INSTRUCTION_BYTES}
+use Rattle.axp_integer.specs.Rows as integer
+use Rattle.axp_regs.specs.States.{register, pc_of, fetched_of, offset_of}
+use Rattle.axp_regs.specs.declared.asks.Kind.TheVariants.{Fetch, Read, Write}
+use Rattle.axp_regs.specs.declared.states.TheConstants.{ZERO_REGISTER}
+use Rattle.axp_cpu.specs.declared.tables.Table.{Table}
+use Rattle.axp_cpu.specs.declared.tables.Wanted.{Wanted}
+use Rattle.axp_cpu.specs.Addresses.{aligned, reached}
+use Rattle.axp_cpu.specs.Plans.{Plan, End, Unbuilt}
+use Rattle.axp_cpu.specs.Tables.{next_pc, at_pc, with_value, counted}
+
+-- the instruction ends
+abbrev pub ended : Table → Plan
+ended t = End (at_pc t (next_pc t))
+
+-- it writes a register, and goes on here
+abbrev pub wrote_at : Table → ℕ → ℕ → ℕ → Plan
+wrote_at t n v pc = End (at_pc (with_value t n v) pc)
+
+-- it writes a register and ends
+abbrev pub wrote : Table → ℕ → ℕ → Plan
+wrote t n v = wrote_at t n v (next_pc t)
+
+-- it goes on elsewhere, and its register holds the updated program counter
+abbrev pub linked : Table → ℕ → ℕ → Plan
+linked t n target = wrote_at t n (next_pc t) target
+
+-- the processor halts behind the instruction
+abbrev pub stopped : Table → ℕ → Plan
+stopped t code = End (record { state = (at_pc t (next_pc t)).state; halted = Some code })
+
+-- the read of a datum at an address
+abbrev pub read_at : Size → ℕ → Wanted
+read_at what address = record { kind = Read; address = address; size = bytes_of what; value = 0 }
+
+-- a load: into R31 it does nothing
+abbrev pub loaded : ℕ → Table → Size → ℕ → ℕ → (ℕ → ℕ) → Plan
+loaded size t what a address extended =
+    if a == ZERO_REGISTER then ended t else aligned size Read address (bytes_of what) 0 (λ v. wrote t a (extended v))
+
+-- the value as it was read, and a longword sign-extended
+abbrev pub as_read : ℕ → ℕ
+as_read v = v
+
+abbrev pub as_longword : ℕ → ℕ
+as_longword v = sign_extended 32 v
+
+-- a store of the low datum of Ra
+abbrev pub stored : ℕ → Table → Size → ℕ → ℕ → Plan
+stored size t what a address = aligned size Write address (bytes_of what) (low_datum what (register t.state a)) (λ _. ended t)
+
+-- the quadword that has the byte at an address
+abbrev pub quadword_at : ℕ → ℕ
+quadword_at address = address / 8 * 8
+
+-- the address of the memory format
+abbrev pub address_of : ℕ → ℕ → ℕ
+address_of base disp = add base (sign_extended 16 disp)
+
+-- the memory format; base is the value of Rb
+abbrev pub memory_row : ℕ → Table → MemOp → ℕ → ℕ → ℕ → Plan
+memory_row size t LDA a base disp = wrote t a (address_of base disp)
+memory_row size t LDAH a base disp = wrote t a (add base (mul (sign_extended 16 disp) 65536))
+memory_row size t LDBU a base disp = loaded size t Byte a (address_of base disp) as_read
+memory_row size t LDWU a base disp = loaded size t Word a (address_of base disp) as_read
+memory_row size t LDL a base disp = loaded size t Long a (address_of base disp) as_longword
+memory_row size t LDQ a base disp = loaded size t Quad a (address_of base disp) as_read
+memory_row size t LDQ_U a base disp = loaded size t Quad a (quadword_at (address_of base disp)) as_read
+memory_row size t LDL_L a base disp = Unbuilt
+memory_row size t LDQ_L a base disp = Unbuilt
+memory_row size t STB a base disp = stored size t Byte a (address_of base disp)
+memory_row size t STW a base disp = stored size t Word a (address_of base disp)
+memory_row size t STL a base disp = stored size t Long a (address_of base disp)
+memory_row size t STQ a base disp = stored size t Quad a (address_of base disp)
+memory_row size t STQ_U a base disp = stored size t Quad a (quadword_at (address_of base disp))
+memory_row size t STL_C a base disp = Unbuilt
+memory_row size t STQ_C a base disp = Unbuilt
+
+-- where a branch goes on, and whether it links
+abbrev pub branch_goal : Table → BranchOp → ℕ → ℕ → ℕ
+branch_goal t op a disp = if is_taken op (register t.state a) then target_of (next_pc t) disp else next_pc t
+
+abbrev pub branch_row : Table → BranchOp → ℕ → ℕ → Plan
+branch_row t BR a disp = linked t a (branch_goal t BR a disp)
+branch_row t BSR a disp = linked t a (branch_goal t BSR a disp)
+branch_row t BLBC a disp = End (at_pc t (branch_goal t BLBC a disp))
+branch_row t BLBS a disp = End (at_pc t (branch_goal t BLBS a disp))
+branch_row t BEQ a disp = End (at_pc t (branch_goal t BEQ a disp))
+branch_row t BNE a disp = End (at_pc t (branch_goal t BNE a disp))
+branch_row t BLT a disp = End (at_pc t (branch_goal t BLT a disp))
+branch_row t BLE a disp = End (at_pc t (branch_goal t BLE a disp))
+branch_row t BGE a disp = End (at_pc t (branch_goal t BGE a disp))
+branch_row t BGT a disp = End (at_pc t (branch_goal t BGT a disp))
+
+-- a jump goes to Rb with its two low bits cleared, whatever its hint
+abbrev pub jump_row : Table → ℕ → ℕ → Plan
+jump_row t a b = linked t a (register t.state b / 4 * 4)
+
+-- the second operand of the operate format
+abbrev pub operand : Table → Operand → ℕ
+operand t (Reg n pad) = register t.state n
+operand t (Literal value) = value
+
+-- the operate format: an overflow is not built
+abbrev pub operate_row : Table → Op → ℕ → ℕ → ℕ → Plan
+operate_row t op a b c =
+    if operate_opcode op == 0x12 then wrote t c (bytes.value_of op a b) else
+    if integer.overflow_of op a b then Unbuilt else
+    wrote t c (integer.value_of op a b (register t.state c))
+
+-- the counter of fetched instructions, below the offset
+abbrev pub cycle_counter : Table → ℕ
+cycle_counter t = offset_of t.state * 2 ^ 32 + fetched_of t.state
+
+-- opcode 18
+abbrev pub misc_row : Table → MiscOp → ℕ → Plan
+misc_row t TRAPB a = ended t
+misc_row t EXCB a = ended t
+misc_row t FETCH a = ended t
+misc_row t FETCH_M a = ended t
+misc_row t ECB a = ended t
+misc_row t WH64 a = ended t
+misc_row t MB a = Unbuilt
+misc_row t WMB a = Unbuilt
+misc_row t RPCC a = wrote t a (cycle_counter t)
+
+-- the PAL calls
+abbrev pub pal_row : Table → PalOp → Plan
+pal_row t HALT = stopped t 1
+pal_row t _ = Unbuilt
+
+-- what an instruction does once its word is fetched
+unfoldable pub row : ℕ → Table → Instr → Plan
+row size t (Memory op a b disp) = memory_row size t op a (register t.state b) disp
+row size t (Branch op a disp) = branch_row t op a disp
+row size t (Jump kind a b hint) = jump_row t a b
+row size t (Operate op a b c) = operate_row t op (register t.state a) (operand t b) c
+row size t (Misc op a b) = misc_row t op a
+row size t (Pal op) = pal_row t op
+row size t (Floating word) = Unbuilt
+row size t (Reserved word) = Unbuilt
+
+-- what follows the fetch of a word
+abbrev pub fetched : ℕ → Table → ℕ → Plan
+fetched size t v = row size (counted t) (instr_of (v % 2 ^ 32))
+
+-- the group that begins at a table state: the fetch of the instruction at the program counter, and its row
+unfoldable pub group : ℕ → Table → Plan
+group size t = reached size Fetch (pc_of t.state) INSTRUCTION_BYTES 0 (fetched size t)

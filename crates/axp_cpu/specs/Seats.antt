@@ -1,0 +1,64 @@
+-- One processor by itself, led by the values that its accesses gave.
+use Rattle.std.specs.Prelude.{ℕ, ◌+◌, Bool, false, ◌||◌, nat_le, List, [], ◌∷◌, ◌++◌, Option, Some, None, is_some, if◌then◌else◌}
+use Rattle.axp_image.specs.Contents.{Contents}
+use Rattle.axp_regs.specs.States.{first_state, with_pc, with_ptbr, with_register}
+use Rattle.axp_cpu.specs.declared.tables.Table.{Table}
+use Rattle.axp_cpu.specs.declared.tables.Wanted.{Wanted}
+use Rattle.axp_cpu.specs.Plans.{Plan, End, Want, Unbuilt, along, is_built}
+use Rattle.axp_cpu.specs.Rows.{group}
+
+-- where a processor stands: the size of memory, the budget of steps, the table state at the start of its
+-- group, the values that the group's accesses gave so far, and the steps made
+pub record Seat : Type 0 where
+  pub size : ℕ
+  pub budget : ℕ
+  pub start : Table
+  pub values : List ℕ
+  pub steps : ℕ
+
+-- the table state at the start: R16 is the processor's number, R30 the image's stack word
+abbrev pub first_table : Contents → ℕ → Table
+first_table image p = record {
+  state = with_ptbr (with_pc (with_register (with_register (first_state p) 16 p) 30 image.stack) image.entry) image.table;
+  halted = None;
+}
+
+abbrev pub first_seat : Contents → ℕ → ℕ → Seat
+first_seat image budget p = record { size = image.size; budget = budget; start = first_table image p; values = []; steps = 0 }
+
+-- what the group still has to do
+abbrev pub plan_now : Seat → Plan
+plan_now s = along s.values (group s.size s.start)
+
+-- halted, or with its budget of steps made
+abbrev pub is_finished : Seat → Bool
+is_finished s = is_some s.start.halted || nat_le s.budget s.steps
+
+-- the access that a plan wants
+abbrev pub wanted_by : Plan → Option Wanted
+wanted_by (End t) = None
+wanted_by (Want w k) = Some w
+wanted_by Unbuilt = None
+
+-- the access that the processor wants; None: it is finished, or comes to what is not built
+abbrev pub wanted : Seat → Option Wanted
+wanted s = if is_finished s then None else wanted_by (plan_now s)
+
+-- all is built that a value of the wanted access leads to
+abbrev pub leads_by : ℕ → Plan → Bool
+leads_by v (End t) = false
+leads_by v (Want w k) = is_built (k v)
+leads_by v Unbuilt = false
+
+abbrev pub leads : Seat → ℕ → Bool
+leads s v = leads_by v (plan_now s)
+
+-- after a step that gave the group its values and left this plan
+abbrev pub moved : Seat → List ℕ → Plan → Seat
+moved s values (End t) = record { size = s.size; budget = s.budget; start = t; values = []; steps = s.steps + 1 }
+moved s values (Want w k) = record { size = s.size; budget = s.budget; start = s.start; values = values; steps = s.steps + 1 }
+moved s values Unbuilt = record { size = s.size; budget = s.budget; start = s.start; values = values; steps = s.steps + 1 }
+
+-- after a step whose access gave this value
+abbrev pub stepped : Seat → ℕ → Seat
+stepped s v = moved s (s.values ++ v ∷ []) (along (s.values ++ v ∷ []) (group s.size s.start))

@@ -1,0 +1,30 @@
+-- What a group of accesses makes of the table state.
+use Rattle.std.specs.Prelude.{ℕ, ◌+◌, ◌%◌, ◌^◌}
+use Rattle.axp_base.specs.Numbers.{add}
+use Rattle.axp_image.specs.declared.limits.TheConstants.{INSTRUCTION_BYTES}
+use Rattle.axp_regs.specs.States.{pc_of, with_pc, with_register, fetched_of, with_fetched}
+use Rattle.axp_regs.specs.declared.states.State.{State}
+use Rattle.axp_cpu.specs.declared.tables.Table.{Table}
+
+-- the address of the next instruction
+abbrev pub next_pc : Table → ℕ
+next_pc t = add (pc_of t.state) INSTRUCTION_BYTES
+
+-- with the program counter at an address
+abbrev pub at_pc : Table → ℕ → Table
+at_pc t pc = record t { state = with_pc t.state pc }
+
+-- with a register written
+abbrev pub with_value : Table → ℕ → ℕ → Table
+with_value t n v = record t { state = with_register t.state n v }
+
+-- what changes with a group's end alone: all but the count of fetched instructions
+abbrev pub uncounted : State → State
+uncounted s = with_fetched s 0
+
+abbrev pub core : Table → Table
+core t = record t { state = uncounted t.state }
+
+-- with one instruction more fetched
+abbrev pub counted : Table → Table
+counted t = record t { state = with_fetched t.state ((fetched_of t.state + 1) % 2 ^ 32) }

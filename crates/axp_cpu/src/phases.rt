@@ -1,0 +1,160 @@
+//! How far a group of accesses has come.
+ghost use Rattle.std.specs.Prelude.{◌≡◌, ◌<◌, ℕ};
+ghost use Rattle.axp_cpu.specs.declared.tables.Table.{Table};
+ghost use Rattle.axp_cpu.specs.Addresses.{aligned, reached};
+ghost use Rattle.axp_cpu.specs.Phases.{after, plan_of, Fits, FollowFits, PhaseFits};
+ghost use Rattle.axp_cpu.specs.Plans.{End, is_built};
+ghost use Rattle.axp_cpu.specs.Rows.{ended, group, stopped, wrote, wrote_at};
+ghost use Rattle.axp_cpu.specs.Tables.{at_pc, core};
+ghost use Rattle.axp_regs.specs.declared.states.TheConstants.{REGISTERS};
+
+use crate::rows::instruct;
+use crate::tables::{Table, Wanted};
+use axp_base::sext;
+use axp_decode::decode;
+use axp_image::{INSTRUCTION_BYTES, KSEG};
+use axp_regs::Kind;
+
+/// The bytes of the kernel segment, whose virtual addresses have their physical address in the low
+/// bits.
+const KSEG_BYTES: u64 = 1 << 41;
+
+/// What a group does with the value that its access gives.
+#[derive(Clone, Copy, Debug, PartialEq, Eq)]
+pub enum Then {
+    /// Does the instruction that was fetched.
+    Instruct,
+    /// Writes it to a register.
+    Load { a: u8 },
+    /// Writes the longword to a register, sign-extended.
+    LoadLong { a: u8 },
+    /// Ends.
+    Store,
+}
+
+/// How far a group has come.
+#[derive(Clone, Copy, Debug)]
+pub enum Phase {
+    /// It wants an access, and does this with its value.
+    Makes(Wanted, Then),
+    /// It ends in this table state.
+    Ends(Table),
+    /// It comes to what is not built.
+    NotBuilt,
+}
+
+/// The group that begins at a table state.
+#[tactic(auto, unfolding(crate::specs::Rows::group))]
+pub fn begin(size: u64, table: &Table) -> Phase
+    ensures plan { plan_of size table.now result ≡ group size table.now }
+    ensures fits { PhaseFits result }
+{
+    let fetch = Wanted {
+        kind: Kind::Fetch,
+        address: table.state.pc(),
+        size: INSTRUCTION_BYTES as u8,
+        value: 0,
+    };
+    reach(size, table, fetch, Then::Instruct)
+}
+
+/// What is left of a group once its wanted access gave this value. A fetch counts in the table state,
+/// which else changes with the group's end alone.
+pub fn resume(size: u64, table: &mut Table, then: Then, value: u64) -> Phase
+    requires { FollowFits then }
+    ensures plan { plan_of size table.new result ≡ after size table.old then value }
+    ensures fits { PhaseFits result }
+    ensures core { core table.new ≡ core table.old }
+{
+    match then {
+        Then::Instruct => {
+            table.count_fetch();
+            instruct(size, table, decode((value & 0xFFFF_FFFF) as u32))
+        }
+        Then::Load { a } => write(table, a, value),
+        Then::LoadLong { a } => write(table, a, sext(value, 32)),
+        Then::Store => end(table),
+    }
+}
+
+/// An access whose virtual address must be a multiple of its size.
+pub fn align(size: u64, table: &Table, far: Wanted, then: Then) -> Phase
+    requires sized { 0 < far.size }
+    requires fits { Fits far then }
+    ensures plan { plan_of size table.now result
+        ≡ aligned size far.kind far.address far.size far.value (after size table.now then) }
+    ensures fits { PhaseFits result }
+{
+    if far.address % u64::from(far.size) == 0 {
+        reach(size, table, far, then)
+    } else {
+        Phase::NotBuilt
+    }
+}
+
+/// An access to a virtual address, which must lie in the kernel segment and in memory.
+fn reach(size: u64, table: &Table, far: Wanted, then: Then) -> Phase
+    requires { Fits far then }
+    ensures plan { plan_of size table.now result
+        ≡ reached size far.kind far.address far.size far.value (after size table.now then) }
+    ensures fits { PhaseFits result }
+{
+    let address = far.address % KSEG_BYTES;
+    if far.address / KSEG_BYTES == KSEG / KSEG_BYTES && address < size {
+        Phase::Makes(Wanted { address, ..far }, then)
+    } else {
+        Phase::NotBuilt
+    }
+}
+
+/// Goes on at an address.
+pub fn go_to(table: &Table, pc: u64) -> Phase
+    ensures plan { (size : ℕ) → plan_of size table.now result ≡ End (at_pc table.now pc) }
+    ensures fits { PhaseFits result }
+{
+    let mut state = table.state;
+    state.set_pc(pc);
+    Phase::Ends(Table { state, ..*table })
+}
+
+/// Ends.
+pub fn end(table: &Table) -> Phase
+    ensures plan { (size : ℕ) → plan_of size table.now result ≡ ended table.now }
+    ensures fits { PhaseFits result }
+{
+    go_to(table, table.next_pc())
+}
+
+/// Writes a register and goes on at an address.
+pub fn write_and_go(table: &Table, n: u8, value: u64, pc: u64) -> Phase
+    requires { n < REGISTERS }
+    ensures plan { (size : ℕ) → plan_of size table.now result ≡ wrote_at table.now n value pc }
+    ensures fits { PhaseFits result }
+{
+    let mut state = table.state;
+    state.set(n, value);
+    state.set_pc(pc);
+    Phase::Ends(Table { state, ..*table })
+}
+
+/// Writes a register and ends.
+pub fn write(table: &Table, n: u8, value: u64) -> Phase
+    requires { n < REGISTERS }
+    ensures plan { (size : ℕ) → plan_of size table.now result ≡ wrote table.now n value }
+    ensures fits { PhaseFits result }
+{
+    write_and_go(table, n, value, table.next_pc())
+}
+
+/// Halts with a code behind the instruction.
+pub fn halt(table: &Table, code: u8) -> Phase
+    ensures plan { (size : ℕ) → plan_of size table.now result ≡ stopped table.now code }
+    ensures fits { PhaseFits result }
+{
+    let mut state = table.state;
+    state.set_pc(table.next_pc());
+    Phase::Ends(Table {
+        state,
+        halted: Some(code),
+    })
+}

@@ -1,0 +1,132 @@
+ghost use Rattle.std.specs.Prelude.{◌≡◌, IfSome};
+ghost use Rattle.axp_base.specs.Cpus.{cpu_number};
+ghost use Rattle.axp_cpu.specs.Phases.{plan_of, PhaseFits};
+ghost use Rattle.axp_cpu.specs.Seats.{Seat, first_seat, is_finished, wanted};
+ghost use Rattle.axp_cpu.specs.Tables.{uncounted};
+ghost use Rattle.axp_cpu.specs.Stands.{Going, GoesOn, IsMakeable, MakesFit, Standing, Stands, plan_left};
+
+use crate::phases::{Phase, Then, begin, resume};
+use crate::tables::{Table, Wanted};
+use axp_base::Cpu;
+use axp_image::Image;
+use axp_regs::State;
+
+/// One processor: its table state, the access that it wants inside of a group, and the number of steps
+/// that it made.
+#[derive(Clone, Copy, Debug)]
+pub struct Processor {
+    size: u64,
+    budget: u32,
+    table: Table,
+    making: Option<(Wanted, Then)>,
+    steps: u32,
+}
+
+impl Processor {
+    /// A processor of a machine at the start, with a budget of steps: R16 is its number, R30 the
+    /// image's stack word, the program counter the image's entry.
+    pub fn start(cpu: Cpu, image: &Image, budget: u32) -> Processor
+        ensures { Stands result (first_seat image.now budget (cpu_number cpu)) }
+    {
+        let number = cpu.number();
+        let mut state = State::new(number);
+        state.set(16, u64::from(number));
+        state.set(30, image.stack());
+        state.set_pc(image.entry());
+        state.set_ptbr(image.table());
+        Processor {
+            size: image.size(),
+            budget,
+            table: Table {
+                state,
+                halted: None,
+            },
+            making: None,
+            steps: 0,
+        }
+    }
+
+    /// The registers: those at the start of the group of accesses, but for the count of fetched
+    /// instructions, which changes with the fetch.
+    pub fn state(&self) -> &State
+        ensures { (s : Seat) → Stands self.now s → uncounted result.now ≡ uncounted s.start.state }
+    {
+        &self.table.state
+    }
+
+    /// The halt code, 1 to 4, once it is halted.
+    pub fn halted(&self) -> Option<u8>
+        ensures { (s : Seat) → Stands self.now s → result ≡ s.start.halted }
+    {
+        self.table.halted
+    }
+
+    /// The number of steps that it made.
+    pub fn steps(&self) -> u32
+        ensures { (s : Seat) → Stands self.now s → result ≡ s.steps }
+    {
+        self.steps
+    }
+
+    /// Whether it is halted or has made its budget of steps.
+    pub fn finished(&self) -> bool
+        ensures { (s : Seat) → Stands self.now s → result ≡ is_finished s }
+    {
+        self.table.halted.is_some() || self.budget <= self.steps
+    }
+
+    /// The access that it wants; `None` where it is finished or comes to what is not built.
+    pub fn wanted(&self) -> Option<Wanted>
+        requires { Standing self.now }
+        ensures wanted { (s : Seat) → Stands self.now s → result ≡ wanted s }
+        ensures makeable { (s : Seat) → Stands self.now s → IfSome result (IsMakeable s.size) }
+    {
+        if self.finished() {
+            return None;
+        }
+        match self.next() {
+            Phase::Makes(wanted, _) => Some(wanted),
+            Phase::Ends(_) | Phase::NotBuilt => None,
+        }
+    }
+
+    /// The processor after a step whose access gave this value (0 where it stores); `None` where not
+    /// all is built that the value leads to.
+    pub fn advanced(&self, value: u64) -> Option<Processor>
+        requires { Going self.now }
+        ensures { (s : Seat) → Stands self.now s → GoesOn s value result }
+    {
+        let Phase::Makes(_, then) = self.next() else {
+            return None;
+        };
+        let mut table = self.table;
+        let phase = resume(self.size, &mut table, then, value);
+        match phase {
+            Phase::Makes(wanted, then) => Some(Processor {
+                table,
+                making: Some((wanted, then)),
+                steps: self.steps + 1,
+                ..*self
+            }),
+            Phase::Ends(table) => Some(Processor {
+                table,
+                making: None,
+                steps: self.steps + 1,
+                ..*self
+            }),
+            Phase::NotBuilt => None,
+        }
+    }
+
+    /// What its group still has to do.
+    fn next(&self) -> Phase
+        requires { MakesFit self.now.making }
+        ensures plan { plan_of self.now.size self.now.table result ≡ plan_left self.now }
+        ensures fits { PhaseFits result }
+    {
+        match self.making {
+            None => begin(self.size, &self.table),
+            Some((wanted, then)) => Phase::Makes(wanted, then),
+        }
+    }
+}

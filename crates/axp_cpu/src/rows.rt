@@ -1,0 +1,235 @@
+//! The rows of the instruction table.
+ghost use Rattle.std.specs.Prelude.{◌≡◌, ◌<◌, ℕ};
+ghost use Rattle.axp_base.specs.declared.sizes.Size.TheVariants.{Long};
+ghost use Rattle.axp_cpu.specs.Phases.{plan_of, PhaseFits};
+ghost use Rattle.axp_cpu.specs.Rows.{address_of, as_longword, as_read, branch_goal, branch_row, cycle_counter, jump_row, loaded, memory_row, misc_row, operand, operate_row, pal_row, read_at, row, stored};
+ghost use Rattle.axp_decode.specs.Format.{FieldsFit, OperandFits};
+ghost use Rattle.axp_regs.specs.declared.states.TheConstants.{REGISTERS};
+
+use crate::phases::{Phase, Then, align, end, go_to, halt, write, write_and_go};
+use crate::tables::{Table, Wanted};
+use axp_base::{Size, sext};
+use axp_branch::{taken, target};
+use axp_bytes::bytes;
+use axp_decode::{BranchOp, Instr, MemOp, MiscOp, Op, Operand, PalOp, opcode_number};
+use axp_integer::operate;
+use axp_regs::{Kind, ZERO_REGISTER};
+
+/// The row of an instruction.
+#[tactic(auto, unfolding(crate::specs::Rows::row))]
+pub fn instruct(size: u64, table: &Table, instr: Instr) -> Phase
+    requires { FieldsFit instr }
+    ensures plan { plan_of size table.now result ≡ row size table.now instr }
+    ensures fits { PhaseFits result }
+{
+    match instr {
+        Instr::Memory { op, a, b, disp } => access(size, table, op, a, table.state.get(b), disp),
+        Instr::Branch { op, a, disp } => branch(table, op, a, disp),
+        Instr::Jump { a, b, .. } => jump(table, a, b),
+        Instr::Operate { op, a, b, c } => {
+            compute(table, op, table.state.get(a), read_operand(table, b), c)
+        }
+        Instr::Misc { op, a, .. } => misc(table, op, a),
+        Instr::Pal { op } => call_pal(table, op),
+        Instr::Floating { .. } | Instr::Reserved { .. } => Phase::NotBuilt,
+    }
+}
+
+/// The memory format.
+fn access(size: u64, table: &Table, op: MemOp, a: u8, base: u64, disp: u16) -> Phase
+    requires { a < REGISTERS }
+    ensures plan { plan_of size table.now result ≡ memory_row size table.now op a base disp }
+    ensures fits { PhaseFits result }
+{
+    let address = displaced(base, disp);
+    match op {
+        MemOp::LDA => write(table, a, address),
+        MemOp::LDAH => write(
+            table,
+            a,
+            base.wrapping_add(sext(u64::from(disp), 16).wrapping_mul(65536)),
+        ),
+        MemOp::LDBU => load(size, table, Size::Byte, a, address),
+        MemOp::LDWU => load(size, table, Size::Word, a, address),
+        MemOp::LDL => load_long(size, table, a, address),
+        MemOp::LDQ => load(size, table, Size::Quad, a, address),
+        MemOp::LDQ_U => load(size, table, Size::Quad, a, address & !7),
+        MemOp::STB => store(size, table, Size::Byte, a, address),
+        MemOp::STW => store(size, table, Size::Word, a, address),
+        MemOp::STL => store(size, table, Size::Long, a, address),
+        MemOp::STQ => store(size, table, Size::Quad, a, address),
+        MemOp::STQ_U => store(size, table, Size::Quad, a, address & !7),
+        MemOp::LDL_L | MemOp::LDQ_L | MemOp::STL_C | MemOp::STQ_C => Phase::NotBuilt,
+    }
+}
+
+/// The base plus the sign-extended displacement.
+fn displaced(base: u64, disp: u16) -> u64
+    ensures { result ≡ address_of base disp }
+{
+    base.wrapping_add(sext(u64::from(disp), 16))
+}
+
+/// A load; into R31 it does nothing.
+fn load(size: u64, table: &Table, what: Size, a: u8, address: u64) -> Phase
+    requires { a < REGISTERS }
+    ensures plan { plan_of size table.now result ≡ loaded size table.now what a address as_read }
+    ensures fits { PhaseFits result }
+{
+    if a == ZERO_REGISTER {
+        return end(table);
+    }
+    align(size, table, read_of(what, address), Then::Load { a })
+}
+
+/// A load of a longword; into R31 it does nothing.
+fn load_long(size: u64, table: &Table, a: u8, address: u64) -> Phase
+    requires { a < REGISTERS }
+    ensures plan { plan_of size table.now result ≡ loaded size table.now Long a address as_longword }
+    ensures fits { PhaseFits result }
+{
+    if a == ZERO_REGISTER {
+        return end(table);
+    }
+    align(
+        size,
+        table,
+        read_of(Size::Long, address),
+        Then::LoadLong { a },
+    )
+}
+
+/// The read of a datum at a virtual address.
+fn read_of(what: Size, address: u64) -> Wanted
+    ensures { result ≡ read_at what address }
+{
+    Wanted {
+        kind: Kind::Read,
+        address,
+        size: what.bytes(),
+        value: 0,
+    }
+}
+
+/// A store of the low datum of Ra.
+fn store(size: u64, table: &Table, what: Size, a: u8, address: u64) -> Phase
+    requires { a < REGISTERS }
+    ensures plan { plan_of size table.now result ≡ stored size table.now what a address }
+    ensures fits { PhaseFits result }
+{
+    let write = Wanted {
+        kind: Kind::Write,
+        address,
+        size: what.bytes(),
+        value: what.low(table.state.get(a)),
+    };
+    align(size, table, write, Then::Store)
+}
+
+/// The branch format.
+fn branch(table: &Table, op: BranchOp, a: u8, disp: u32) -> Phase
+    requires { a < REGISTERS }
+    ensures plan { (size : ℕ) → plan_of size table.now result ≡ branch_row table.now op a disp }
+    ensures fits { PhaseFits result }
+{
+    let goal = goal_of(table, op, a, disp);
+    match op {
+        BranchOp::BR | BranchOp::BSR => write_and_go(table, a, table.next_pc(), goal),
+        BranchOp::BLBC
+        | BranchOp::BLBS
+        | BranchOp::BEQ
+        | BranchOp::BNE
+        | BranchOp::BLT
+        | BranchOp::BLE
+        | BranchOp::BGE
+        | BranchOp::BGT => go_to(table, goal),
+    }
+}
+
+/// Where a branch goes on.
+fn goal_of(table: &Table, op: BranchOp, a: u8, disp: u32) -> u64
+    requires { a < REGISTERS }
+    ensures { result ≡ branch_goal table.now op a disp }
+{
+    let next = table.next_pc();
+    if taken(op, table.state.get(a)) {
+        target(next, disp)
+    } else {
+        next
+    }
+}
+
+/// A jump: Rb is read before Ra is written.
+fn jump(table: &Table, a: u8, b: u8) -> Phase
+    requires a { a < REGISTERS }
+    requires b { b < REGISTERS }
+    ensures plan { (size : ℕ) → plan_of size table.now result ≡ jump_row table.now a b }
+    ensures fits { PhaseFits result }
+{
+    let goal = table.state.get(b) & !3;
+    write_and_go(table, a, table.next_pc(), goal)
+}
+
+/// The second operand of the operate format.
+fn read_operand(table: &Table, b: Operand) -> u64
+    requires { OperandFits b }
+    ensures { result ≡ operand table.now b }
+{
+    match b {
+        Operand::Reg { n, .. } => table.state.get(n),
+        Operand::Literal { value } => u64::from(value),
+    }
+}
+
+/// The operate format.
+fn compute(table: &Table, op: Op, a: u64, b: u64, c: u8) -> Phase
+    requires { c < REGISTERS }
+    ensures plan { (size : ℕ) → plan_of size table.now result ≡ operate_row table.now op a b c }
+    ensures fits { PhaseFits result }
+{
+    if opcode_number(op) == 0x12 {
+        return write(table, c, bytes(op, a, b));
+    }
+    let (value, overflows) = operate(op, a, b, table.state.get(c));
+    if overflows {
+        Phase::NotBuilt
+    } else {
+        write(table, c, value)
+    }
+}
+
+/// The instructions of opcode 18.
+fn misc(table: &Table, op: MiscOp, a: u8) -> Phase
+    requires { a < REGISTERS }
+    ensures plan { (size : ℕ) → plan_of size table.now result ≡ misc_row table.now op a }
+    ensures fits { PhaseFits result }
+{
+    match op {
+        MiscOp::TRAPB
+        | MiscOp::EXCB
+        | MiscOp::FETCH
+        | MiscOp::FETCH_M
+        | MiscOp::ECB
+        | MiscOp::WH64 => end(table),
+        MiscOp::RPCC => write(table, a, count(table)),
+        MiscOp::MB | MiscOp::WMB => Phase::NotBuilt,
+    }
+}
+
+/// The cycle counter: the number of fetched instructions, below the offset.
+fn count(table: &Table) -> u64
+    ensures { result ≡ cycle_counter table.now }
+{
+    (u64::from(table.state.offset()) << 32) + u64::from(table.state.fetched())
+}
+
+/// The PAL calls.
+fn call_pal(table: &Table, op: PalOp) -> Phase
+    ensures plan { (size : ℕ) → plan_of size table.now result ≡ pal_row table.now op }
+    ensures fits { PhaseFits result }
+{
+    match op {
+        PalOp::HALT => halt(table, 1),
+        _ => Phase::NotBuilt,
+    }
+}

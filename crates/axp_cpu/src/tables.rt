@@ -1,0 +1,44 @@
+ghost use Rattle.std.specs.Prelude.{◌≡◌};
+ghost use Rattle.axp_cpu.specs.Tables.{counted, next_pc};
+
+use axp_image::INSTRUCTION_BYTES;
+use axp_regs::{Kind, State};
+
+/// What the instruction table speaks of: a processor's registers, and its halt code once it is halted.
+#[derive(Clone, Copy, Debug)]
+pub struct Table {
+    /// The registers.
+    pub state: State,
+    /// The halt code, 1 to 4.
+    pub halted: Option<u8>,
+}
+
+/// An access that a processor wants.
+#[derive(Clone, Copy, Debug, PartialEq, Eq)]
+pub struct Wanted {
+    /// What it does.
+    pub kind: Kind,
+    /// The physical address, a multiple of the size.
+    pub address: u64,
+    /// The number of bytes, 1, 2, 4 or 8.
+    pub size: u8,
+    /// The bytes to be stored as a little-endian number; 0 where nothing is stored.
+    pub value: u64,
+}
+
+impl Table {
+    /// The address of the next instruction.
+    pub fn next_pc(&self) -> u64
+        ensures { result ≡ next_pc self.now }
+    {
+        self.state.pc().wrapping_add(INSTRUCTION_BYTES as u64)
+    }
+
+    /// Counts the instruction that was fetched.
+    pub fn count_fetch(&mut self)
+        ensures { self.new ≡ counted self.old }
+    {
+        let fetched = self.state.fetched().wrapping_add(1);
+        self.state.set_fetched(fetched);
+    }
+}
