@@ -3,6 +3,7 @@ use Rattle.std.proofs.Common.{◌≡◌, ℕ, ◌/◌, ◌%◌, ◌^◌, ◌<◌
 use Rattle.std.specs.Prelude.{◌==◌}
 use Rattle.axp_decode.specs.Table.{memory_number, memory_of, branch_number, branch_of, misc_number, misc_of, pal_number, pal_of, operate_opcode, operate_function, operate_of}
 use Rattle.axp_decode.specs.Format.{instr_of, word_of, named, operand_of, operand_bits, opcode_of, function_of, ra_of, rb_of, rc_of, FieldsFit}
+use Rattle.axp_decode.specs.declared.numbers.TheConstants.{JUMP_OPCODE, MISC_OPCODE, PAL_OPCODE}
 use Rattle.axp_decode.specs.declared.instructions.Instr.{Instr}
 use Rattle.axp_decode.specs.declared.instructions.Instr.TheVariants.{Memory, Branch, Jump, Operate, Misc, Pal, Floating, Reserved}
 use Rattle.axp_decode.specs.declared.instructions.Operand.{Operand}
@@ -36,15 +37,15 @@ unfolding pal_of
 pal_row op = (search rules, search rules)
 
 -- the opcodes of the other formats are in none of the three tables
-other_row : (n : ℕ) → (memory_of 26 ≡ None) × (branch_of 26 ≡ None) × (operate_of 26 n ≡ None)
+other_row : (n : ℕ) → (memory_of JUMP_OPCODE ≡ None) × (branch_of JUMP_OPCODE ≡ None) × (operate_of JUMP_OPCODE n ≡ None)
 unfolding memory_of branch_of operate_of
 other_row n = (refl, refl, refl)
 
-misc_opcode : (n : ℕ) → (memory_of 24 ≡ None) × (branch_of 24 ≡ None) × (operate_of 24 n ≡ None)
+misc_opcode : (n : ℕ) → (memory_of MISC_OPCODE ≡ None) × (branch_of MISC_OPCODE ≡ None) × (operate_of MISC_OPCODE n ≡ None)
 unfolding memory_of branch_of operate_of
 misc_opcode n = (refl, refl, refl)
 
-pal_opcode : (n : ℕ) → (memory_of 0 ≡ None) × (branch_of 0 ≡ None) × (operate_of 0 n ≡ None)
+pal_opcode : (n : ℕ) → (memory_of PAL_OPCODE ≡ None) × (branch_of PAL_OPCODE ≡ None) × (operate_of PAL_OPCODE n ≡ None)
 unfolding memory_of branch_of operate_of
 pal_opcode n = (refl, refl, refl)
 
@@ -89,7 +90,7 @@ pub instr_of-Jump : (kind a b hint : ℕ) → kind < 4 → a < 32 → b < 32 →
 unfolding instr_of word_of
 instr_of-Jump kind a b hint hk ha hb hh =
     let w = word_of (Jump kind a b hint) in
-    let n : opcode_of w ≡ 26 = omega arith in
+    let n : opcode_of w ≡ JUMP_OPCODE = omega arith in
     let k' : w / 2 ^ 14 % 4 ≡ kind = omega arith in
     let a' : ra_of w ≡ a = omega arith in
     let b' : rb_of w ≡ b = omega arith in
@@ -98,7 +99,7 @@ instr_of-Jump kind a b hint hk ha hb hh =
     named-None (memory_of (opcode_of w)) _ _ (ap memory_of n ∙ row.0)
     ∙ named-None (branch_of (opcode_of w)) _ _ (ap branch_of n ∙ row.1)
     ∙ named-None (operate_of (opcode_of w) (function_of w)) _ _ (ap (λ m. operate_of m (function_of w)) n ∙ row.2)
-    ∙ cond-true (opcode_of w == 26) _ _ (ap (λ m. m == 26) n)
+    ∙ cond-true (opcode_of w == JUMP_OPCODE) _ _ (ap (λ m. m == JUMP_OPCODE) n)
     ∙ (rw (k', a', b', h') refl)
 
 pub instr_of-Misc : (op : MiscOp) (a b : ℕ) → a < 32 → b < 32 → instr_of (word_of (Misc op a b)) ≡ Misc op a b
@@ -106,7 +107,7 @@ unfolding instr_of word_of
 instr_of-Misc op a b ha hb =
     let found = misc_row op in
     let w = word_of (Misc op a b) in
-    let n : opcode_of w ≡ 24 = omega (arith, found.1) in
+    let n : opcode_of w ≡ MISC_OPCODE = omega (arith, found.1) in
     let d' : w % 2 ^ 16 ≡ misc_number op = omega (arith, found.1) in
     let a' : ra_of w ≡ a = omega (arith, found.1) in
     let b' : rb_of w ≡ b = omega (arith, found.1) in
@@ -114,8 +115,8 @@ instr_of-Misc op a b ha hb =
     named-None (memory_of (opcode_of w)) _ _ (ap memory_of n ∙ row.0)
     ∙ named-None (branch_of (opcode_of w)) _ _ (ap branch_of n ∙ row.1)
     ∙ named-None (operate_of (opcode_of w) (function_of w)) _ _ (ap (λ m. operate_of m (function_of w)) n ∙ row.2)
-    ∙ cond-false (opcode_of w == 26) _ _ (ap (λ m. m == 26) n)
-    ∙ cond-true (opcode_of w == 24) _ _ (ap (λ m. m == 24) n)
+    ∙ cond-false (opcode_of w == JUMP_OPCODE) _ _ (ap (λ m. m == JUMP_OPCODE) n)
+    ∙ cond-true (opcode_of w == MISC_OPCODE) _ _ (ap (λ m. m == MISC_OPCODE) n)
     ∙ named-Some (misc_of (w % 2 ^ 16)) op _ _ (ap misc_of d' ∙ found.0)
     ∙ (rw (a', b') refl)
 
@@ -124,15 +125,15 @@ unfolding instr_of word_of
 instr_of-Pal op =
     let found = pal_row op in
     let w = word_of (Pal op) in
-    let n : opcode_of w ≡ 0 = omega (arith, found.1) in
+    let n : opcode_of w ≡ PAL_OPCODE = omega (arith, found.1) in
     let d' : w % 2 ^ 26 ≡ pal_number op = omega (arith, found.1) in
     let row = pal_opcode (function_of w) in
     named-None (memory_of (opcode_of w)) _ _ (ap memory_of n ∙ row.0)
     ∙ named-None (branch_of (opcode_of w)) _ _ (ap branch_of n ∙ row.1)
     ∙ named-None (operate_of (opcode_of w) (function_of w)) _ _ (ap (λ m. operate_of m (function_of w)) n ∙ row.2)
-    ∙ cond-false (opcode_of w == 26) _ _ (ap (λ m. m == 26) n)
-    ∙ cond-false (opcode_of w == 24) _ _ (ap (λ m. m == 24) n)
-    ∙ cond-true (opcode_of w == 0) _ _ (ap (λ m. m == 0) n)
+    ∙ cond-false (opcode_of w == JUMP_OPCODE) _ _ (ap (λ m. m == JUMP_OPCODE) n)
+    ∙ cond-false (opcode_of w == MISC_OPCODE) _ _ (ap (λ m. m == MISC_OPCODE) n)
+    ∙ cond-true (opcode_of w == PAL_OPCODE) _ _ (ap (λ m. m == PAL_OPCODE) n)
     ∙ named-Some (pal_of (w % 2 ^ 26)) op _ _ (ap pal_of d' ∙ found.0)
 
 operand_is-Reg : (w n pad : ℕ) → w / 2 ^ 12 % 2 ≡ 0 → rb_of w ≡ n → w / 2 ^ 13 % 2 ^ 3 ≡ pad → operand_of w ≡ Reg n pad

@@ -4,6 +4,7 @@ use Rattle.std.specs.Prelude.{◌==◌}
 use Rattle.std.proofs.lemmas.Bool.{eqb-true}
 use Rattle.axp_decode.specs.Table.{memory_number, memory_of, branch_number, branch_of, misc_of, pal_of, operate_opcode, operate_of}
 use Rattle.axp_decode.specs.Format.{instr_of, named, opcode_of, function_of, is_floating}
+use Rattle.axp_decode.specs.declared.numbers.TheConstants.{JUMP_OPCODE, MISC_OPCODE, PAL_OPCODE}
 use Rattle.axp_decode.specs.declared.instructions.Instr.{Instr}
 use Rattle.axp_decode.specs.declared.instructions.Instr.TheVariants.{Floating, Reserved}
 use Rattle.axp_decode.specs.declared.names.MemOp.{MemOp}
@@ -39,7 +40,7 @@ cond-skip false i j k none e = e
 plain : (n m : ℕ) → is_floating n ≡ true → m ≡ n → is_floating m ≡ false → ⊥
 plain n m held e not_held = differ (is_floating n) held (ap is_floating (sym e) ∙ not_held)
 
-jump_plain : (is_floating 26 ≡ false) × (is_floating 24 ≡ false) × (is_floating 0 ≡ false)
+jump_plain : (is_floating JUMP_OPCODE ≡ false) × (is_floating MISC_OPCODE ≡ false) × (is_floating PAL_OPCODE ≡ false)
 unfolding is_floating
 jump_plain = (refl, refl, refl)
 
@@ -49,9 +50,9 @@ floating_is w held =
     named-skip (memory_of (opcode_of w)) _ _ _ (λ op e. plain (opcode_of w) (memory_number op) held (memory_found (opcode_of w) op e) (memory_plain op)) (
     named-skip (branch_of (opcode_of w)) _ _ _ (λ op e. plain (opcode_of w) (branch_number op) held (branch_found (opcode_of w) op e) (branch_plain op)) (
     named-skip (operate_of (opcode_of w) (function_of w)) _ _ _ (λ op e. plain (opcode_of w) (operate_opcode op) held (operate_found (opcode_of w) (function_of w) op e).0 (operate_plain op)) (
-    cond-skip (opcode_of w == 26) _ _ _ (λ e. plain (opcode_of w) 26 held (sym (eqb-true _ _ e)) jump_plain.0) (
-    cond-skip (opcode_of w == 24) _ _ _ (λ e. plain (opcode_of w) 24 held (sym (eqb-true _ _ e)) jump_plain.1) (
-    cond-skip (opcode_of w == 0) _ _ _ (λ e. plain (opcode_of w) 0 held (sym (eqb-true _ _ e)) jump_plain.2) (
+    cond-skip (opcode_of w == JUMP_OPCODE) _ _ _ (λ e. plain (opcode_of w) JUMP_OPCODE held (sym (eqb-true _ _ e)) jump_plain.0) (
+    cond-skip (opcode_of w == MISC_OPCODE) _ _ _ (λ e. plain (opcode_of w) MISC_OPCODE held (sym (eqb-true _ _ e)) jump_plain.1) (
+    cond-skip (opcode_of w == PAL_OPCODE) _ _ _ (λ e. plain (opcode_of w) PAL_OPCODE held (sym (eqb-true _ _ e)) jump_plain.2) (
     (rw held refl)))))))
 
 -- a word is Floating only by its opcode
@@ -75,9 +76,9 @@ pub floating_only : (w : ℕ) → instr_of w ≡ Floating w → is_floating (opc
 unfolding instr_of
 floating_only w e =
     cond-is (is_floating (opcode_of w)) w (
-    cond-not (opcode_of w == 0) _ _ w (named-reserved (pal_of (w % 2 ^ 26)) _ w (λ x e. cc)) (
-    cond-not (opcode_of w == 24) _ _ w (named-reserved (misc_of (w % 2 ^ 16)) _ w (λ x e. cc)) (
-    cond-not (opcode_of w == 26) _ _ w (λ e. cc) (
+    cond-not (opcode_of w == PAL_OPCODE) _ _ w (named-reserved (pal_of (w % 2 ^ 26)) _ w (λ x e. cc)) (
+    cond-not (opcode_of w == MISC_OPCODE) _ _ w (named-reserved (misc_of (w % 2 ^ 16)) _ w (λ x e. cc)) (
+    cond-not (opcode_of w == JUMP_OPCODE) _ _ w (λ e. cc) (
     named-not (operate_of (opcode_of w) (function_of w)) _ _ w (λ x e. cc) (
     named-not (branch_of (opcode_of w)) _ _ w (λ x e. cc) (
     named-not (memory_of (opcode_of w)) _ _ w (λ x e. cc) e))))))

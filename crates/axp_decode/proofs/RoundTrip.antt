@@ -5,6 +5,7 @@ use Rattle.std.proofs.lemmas.Bool.{eqb-true, eqb-false}
 use Rattle.axp_decode.specs.declared.instructions.Operand.TheVariants.{Reg, Literal}
 use Rattle.axp_decode.specs.Table.{memory_number, memory_of, all_memory, branch_number, branch_of, all_branch, misc_number, misc_of, all_misc, pal_number, pal_of, all_pal, operate_opcode, operate_function, operate_of, all_operate}
 use Rattle.axp_decode.specs.Format.{instr_of, word_of, named, operand_of, operand_bits, opcode_of, function_of, rb_of, is_floating}
+use Rattle.axp_decode.specs.declared.numbers.TheConstants.{JUMP_OPCODE, MISC_OPCODE, PAL_OPCODE}
 use Rattle.axp_decode.specs.declared.instructions.Instr.{Instr}
 
 -- what is found passes the test
@@ -67,10 +68,10 @@ word_of-instr_of w small =
     word_of-named (branch_of (opcode_of w)) _ _ w (λ op e. let n = branch_found (opcode_of w) op e in omega arith) (
     word_of-named (operate_of (opcode_of w) (function_of w)) _ _ w
     (λ op e. let n = operate_found (opcode_of w) (function_of w) op e in let b = operand_again w in omega arith) (
-    word_of-cond (opcode_of w == 26) _ _ w (λ e. let n = eqb-true _ _ e in omega arith) (
-    word_of-cond (opcode_of w == 24) _ _ w
+    word_of-cond (opcode_of w == JUMP_OPCODE) _ _ w (λ e. let n = eqb-true _ _ e in omega arith) (
+    word_of-cond (opcode_of w == MISC_OPCODE) _ _ w
     (λ e. let n = eqb-true _ _ e in word_of-named (misc_of (w % 2 ^ 16)) _ _ w (λ op e. let m = misc_found _ op e in omega arith) refl) (
-    word_of-cond (opcode_of w == 0) _ _ w
+    word_of-cond (opcode_of w == PAL_OPCODE) _ _ w
     (λ e. let n = eqb-true _ _ e in word_of-named (pal_of (w % 2 ^ 26)) _ _ w (λ op e. let m = pal_found _ op e in omega arith) refl) (
     word_of-cond (is_floating (opcode_of w)) _ _ w (λ e. refl) refl
     ))))))

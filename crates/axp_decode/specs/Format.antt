@@ -1,6 +1,7 @@
 -- The formats of an instruction word of 32 bits, both ways.
 use Rattle.std.specs.Prelude.{◌≡◌, ◌<◌, ℕ, ◌+◌, ◌*◌, ◌/◌, ◌%◌, ◌^◌, Option, Some, None, Bool, ◌==◌, nat_le, ◌||◌, ◌&&◌, if◌then◌else◌}
 use Rattle.axp_decode.specs.Table.{memory_number, memory_of, branch_number, branch_of, misc_number, misc_of, pal_number, pal_of, operate_opcode, operate_function, operate_of}
+use Rattle.axp_decode.specs.declared.numbers.TheConstants.{JUMP_OPCODE, MISC_OPCODE, PAL_OPCODE}
 use Rattle.axp_decode.specs.declared.instructions.Operand.{Operand}
 use Rattle.axp_decode.specs.declared.instructions.Operand.TheVariants.{Reg, Literal}
 use Rattle.axp_decode.specs.declared.instructions.Instr.{Instr}
@@ -46,19 +47,19 @@ instr_of w =
     named (memory_of (opcode_of w)) (λ op. Memory op (ra_of w) (rb_of w) (w % 2 ^ 16)) (
     named (branch_of (opcode_of w)) (λ op. Branch op (ra_of w) (w % 2 ^ 21)) (
     named (operate_of (opcode_of w) (function_of w)) (λ op. Operate op (ra_of w) (operand_of w) (rc_of w)) (
-    if opcode_of w == 26 then Jump (w / 2 ^ 14 % 4) (ra_of w) (rb_of w) (w % 2 ^ 14) else (
-    if opcode_of w == 24 then named (misc_of (w % 2 ^ 16)) (λ op. Misc op (ra_of w) (rb_of w)) (Reserved w) else (
-    if opcode_of w == 0 then named (pal_of (w % 2 ^ 26)) (λ op. Pal op) (Reserved w) else (
+    if opcode_of w == JUMP_OPCODE then Jump (w / 2 ^ 14 % 4) (ra_of w) (rb_of w) (w % 2 ^ 14) else (
+    if opcode_of w == MISC_OPCODE then named (misc_of (w % 2 ^ 16)) (λ op. Misc op (ra_of w) (rb_of w)) (Reserved w) else (
+    if opcode_of w == PAL_OPCODE then named (pal_of (w % 2 ^ 26)) (λ op. Pal op) (Reserved w) else (
     if is_floating (opcode_of w) then Floating w else Reserved w))))))
 
 -- the word of an instruction
 unfoldable pub word_of : Instr → ℕ
 word_of (Memory op a b disp) = memory_number op * 2 ^ 26 + a % 2 ^ 5 * 2 ^ 21 + b % 2 ^ 5 * 2 ^ 16 + disp
 word_of (Branch op a disp) = branch_number op * 2 ^ 26 + a % 2 ^ 5 * 2 ^ 21 + disp % 2 ^ 21
-word_of (Jump kind a b hint) = 26 * 2 ^ 26 + a % 2 ^ 5 * 2 ^ 21 + b % 2 ^ 5 * 2 ^ 16 + kind % 4 * 2 ^ 14 + hint % 2 ^ 14
+word_of (Jump kind a b hint) = JUMP_OPCODE * 2 ^ 26 + a % 2 ^ 5 * 2 ^ 21 + b % 2 ^ 5 * 2 ^ 16 + kind % 4 * 2 ^ 14 + hint % 2 ^ 14
 word_of (Operate op a b c) = operate_opcode op * 2 ^ 26 + a % 2 ^ 5 * 2 ^ 21 + operand_bits b + operate_function op * 2 ^ 5 + c % 2 ^ 5
-word_of (Misc op a b) = 24 * 2 ^ 26 + a % 2 ^ 5 * 2 ^ 21 + b % 2 ^ 5 * 2 ^ 16 + misc_number op
-word_of (Pal op) = pal_number op
+word_of (Misc op a b) = MISC_OPCODE * 2 ^ 26 + a % 2 ^ 5 * 2 ^ 21 + b % 2 ^ 5 * 2 ^ 16 + misc_number op
+word_of (Pal op) = PAL_OPCODE * 2 ^ 26 + pal_number op
 word_of (Floating word) = word
 word_of (Reserved word) = word
 

@@ -3,7 +3,9 @@ ghost use Rattle.std.specs.Prelude.{◌≡◌};
 ghost use Rattle.axp_decode.specs.Format.{instr_of, operand_of, ra_of, rb_of, is_floating};
 
 use crate::instructions::{Instr, Operand};
-use crate::numbers::{branch_op, memory_op, misc_op, operate_op, pal_op};
+use crate::numbers::{
+    JUMP_OPCODE, MISC_OPCODE, PAL_OPCODE, branch_op, memory_op, misc_op, operate_op, pal_op,
+};
 
 /// Ra, bits 25:21.
 fn ra(word: u32) -> u8
@@ -72,17 +74,17 @@ pub fn decode(word: u32) -> Instr
         };
     }
     match opcode {
-        26 => Instr::Jump {
+        JUMP_OPCODE => Instr::Jump {
             kind: (word >> 14 & 3) as u8,
             a,
             b,
             hint: (word & 0x3fff) as u16,
         },
-        24 => match misc_op(disp) {
+        MISC_OPCODE => match misc_op(disp) {
             Some(op) => Instr::Misc { op, a, b },
             None => Instr::Reserved { word },
         },
-        0 => match pal_op(word & 0x3ff_ffff) {
+        PAL_OPCODE => match pal_op(word & 0x3ff_ffff) {
             Some(op) => Instr::Pal { op },
             None => Instr::Reserved { word },
         },

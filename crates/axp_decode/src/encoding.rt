@@ -4,7 +4,8 @@ ghost use Rattle.axp_decode.specs.Format.{word_of, operand_bits};
 
 use crate::instructions::{Instr, Operand};
 use crate::numbers::{
-    branch_code, function_number, memory_code, misc_code, opcode_number, pal_code,
+    JUMP_OPCODE, MISC_OPCODE, branch_code, function_number, memory_code, misc_code, opcode_number,
+    pal_code,
 };
 
 /// The opcode and Ra in their places.
@@ -45,7 +46,10 @@ pub fn encode(instr: &Instr) -> u32
             + u32::from(disp),
         Instr::Branch { op, a, disp } => with_ra(branch_code(op), a) + (disp & 0x1f_ffff),
         Instr::Jump { kind, a, b, hint } => {
-            with_ra(26, a) + rb_bits(b) + (u32::from(kind & 3) << 14) + u32::from(hint & 0x3fff)
+            with_ra(JUMP_OPCODE, a)
+                + rb_bits(b)
+                + (u32::from(kind & 3) << 14)
+                + u32::from(hint & 0x3fff)
         }
         Instr::Operate { op, a, b, c } => {
             with_ra(opcode_number(op), a)
@@ -53,7 +57,7 @@ pub fn encode(instr: &Instr) -> u32
                 + (u32::from(function_number(op)) << 5)
                 + u32::from(c & 31)
         }
-        Instr::Misc { op, a, b } => with_ra(24, a) + rb_bits(b) + u32::from(misc_code(op)),
+        Instr::Misc { op, a, b } => with_ra(MISC_OPCODE, a) + rb_bits(b) + u32::from(misc_code(op)),
         Instr::Pal { op } => pal_code(op),
         Instr::Floating { word } | Instr::Reserved { word } => word,
     }
