@@ -32,9 +32,9 @@ unfoldable pub operand_bits : Operand → ℕ
 operand_bits (Reg n pad) = n % 2 ^ 5 * 2 ^ 16 + pad % 2 ^ 3 * 2 ^ 13
 operand_bits (Literal value) = value % 2 ^ 8 * 2 ^ 13 + 2 ^ 12
 
--- the floating opcodes: 15 to 17, 20 to 27, 31 to 33 and 35 to 37, hexadecimal
+-- the opcodes of floating point
 unfoldable pub is_floating : ℕ → Bool
-is_floating n = (nat_le 21 n && nat_le n 23) || (nat_le 32 n && nat_le n 39) || (nat_le 49 n && nat_le n 51) || (nat_le 53 n && nat_le n 55)
+is_floating n = (nat_le 0x15 n && nat_le n 0x17) || (nat_le 0x20 n && nat_le n 0x27) || (nat_le 0x31 n && nat_le n 0x33) || (nat_le 0x35 n && nat_le n 0x37)
 
 -- the instruction of a row that is found, else another
 abbrev pub named : {A : Type 0} → Option A → (A → Instr) → Instr → Instr

@@ -2,8 +2,9 @@
 ghost use Rattle.std.specs.Prelude.{ℕ, ◌≡◌, ◌↔◌, ◌<◌, ◌^◌, Some, true};
 ghost use Rattle.axp_decode.specs.Table.{memory_number, memory_of, branch_number, branch_of, misc_number, misc_of, pal_number, pal_of, operate_opcode, operate_function, operate_of};
 ghost use Rattle.axp_decode.specs.Format.{instr_of, word_of, opcode_of, is_floating, FieldsFit};
+ghost use Rattle.axp_decode.specs.Words.{StandsFor, IsInNoTable};
 ghost use Rattle.axp_decode.specs.declared.instructions.Instr.{Instr};
-ghost use Rattle.axp_decode.specs.declared.instructions.Instr.TheVariants.{Floating};
+ghost use Rattle.axp_decode.specs.declared.instructions.Instr.TheVariants.{Floating, Reserved};
 ghost use Rattle.axp_decode.specs.declared.names.MemOp.{MemOp};
 ghost use Rattle.axp_decode.specs.declared.names.BranchOp.{BranchOp};
 ghost use Rattle.axp_decode.specs.declared.names.MiscOp.{MiscOp};
@@ -51,7 +52,20 @@ pub fn fields_are_kept()
     ensures { (i : Instr) → FieldsFit i → instr_of (word_of i) ≡ i }
 {}
 
-/// A word is Floating exactly where its opcode is a floating one.
+/// The instruction of a word is the one that the word stands for by the numbers of the tables,
+/// whatever the order in which they are searched.
+pub fn words_stand_for_instructions()
+    ensures { (w : ℕ) (i : Instr) → (instr_of w ≡ i) ↔ StandsFor w i }
+{}
+
+/// The words that are kept whole because of their opcodes of floating point.
 pub fn floating_words()
-    ensures { (w : ℕ) → (instr_of w ≡ Floating w) ↔ (is_floating (opcode_of w) ≡ true) }
+    ensures exactly { (w : ℕ) → (instr_of w ≡ Floating w) ↔ (is_floating (opcode_of w) ≡ true) }
+    ensures whole { (w word : ℕ) → instr_of w ≡ Floating word → word ≡ w }
+{}
+
+/// The words that are kept whole because they stand in no table.
+pub fn reserved_words()
+    ensures exactly { (w : ℕ) → (instr_of w ≡ Reserved w) ↔ IsInNoTable w }
+    ensures whole { (w word : ℕ) → instr_of w ≡ Reserved word → word ≡ w }
 {}

@@ -17,6 +17,6 @@ pub use encoding::encode;
 pub use instructions::{Instr, Operand};
 pub use laws::{
     branch_rows, fields_are_kept, floating_words, memory_rows, misc_rows, operate_rows, pal_rows,
-    words_and_instructions,
+    reserved_words, words_and_instructions, words_stand_for_instructions,
 };
 pub use names::{BranchOp, MemOp, MiscOp, Op, PalOp};
