@@ -11,14 +11,14 @@ use crate::numbers::{
 fn ra(word: u32) -> u8
     ensures { result ≡ ra_of word }
 {
-    (word >> 21 & 31) as u8
+    (word >> 21 & 0x1F) as u8
 }
 
 /// Rb, bits 20:16.
 fn rb(word: u32) -> u8
     ensures { result ≡ rb_of word }
 {
-    (word >> 16 & 31) as u8
+    (word >> 16 & 0x1F) as u8
 }
 
 /// Whether the opcode is one of floating point.
@@ -34,9 +34,9 @@ fn is_floating_opcode(opcode: u8) -> bool
 fn read_operand(word: u32) -> Operand
     ensures { result ≡ operand_of word }
 {
-    if (word >> 12) & 1 == 1 {
+    if word >> 12 & 1 == 1 {
         Operand::Literal {
-            value: (word >> 13 & 0xff) as u8,
+            value: (word >> 13 & 0xFF) as u8,
         }
     } else {
         Operand::Reg {
@@ -54,7 +54,7 @@ pub fn decode(word: u32) -> Instr
     let opcode = (word >> 26) as u8;
     let b = rb(word);
     let a = ra(word);
-    let disp = (word & 0xffff) as u16;
+    let disp = (word & 0xFFFF) as u16;
     if let Some(op) = memory_op(opcode) {
         return Instr::Memory { op, a, b, disp };
     }
@@ -62,15 +62,15 @@ pub fn decode(word: u32) -> Instr
         return Instr::Branch {
             op,
             a,
-            disp: word & 0x1f_ffff,
+            disp: word & 0x1F_FFFF,
         };
     }
-    if let Some(op) = operate_op(opcode, (word >> 5 & 127) as u8) {
+    if let Some(op) = operate_op(opcode, (word >> 5 & 0x7F) as u8) {
         return Instr::Operate {
             op,
             a,
             b: read_operand(word),
-            c: (word & 31) as u8,
+            c: (word & 0x1F) as u8,
         };
     }
     match opcode {
@@ -78,13 +78,13 @@ pub fn decode(word: u32) -> Instr
             kind: (word >> 14 & 3) as u8,
             a,
             b,
-            hint: (word & 0x3fff) as u16,
+            hint: (word & 0x3FFF) as u16,
         },
         MISC_OPCODE => match misc_op(disp) {
             Some(op) => Instr::Misc { op, a, b },
             None => Instr::Reserved { word },
         },
-        PAL_OPCODE => match pal_op(word & 0x3ff_ffff) {
+        PAL_OPCODE => match pal_op(word & 0x3FF_FFFF) {
             Some(op) => Instr::Pal { op },
             None => Instr::Reserved { word },
         },

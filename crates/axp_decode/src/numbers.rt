@@ -15,10 +15,10 @@ pub(crate) const PAL_OPCODE: u8 = 0x00;
 
 /// The instruction of the memory format with this opcode.
 #[tactic(auto, unfolding(crate::specs::Table::memory_of))]
-pub(crate) fn memory_op(n: u8) -> Option<MemOp>
-    ensures { result ≡ memory_of n }
+pub(crate) fn memory_op(opcode: u8) -> Option<MemOp>
+    ensures { result ≡ memory_of opcode }
 {
-    match n {
+    match opcode {
         0x08 => Some(MemOp::LDA),
         0x09 => Some(MemOp::LDAH),
         0x0A => Some(MemOp::LDBU),
@@ -66,10 +66,10 @@ pub(crate) fn memory_code(op: MemOp) -> u8
 
 /// The instruction of the branch format with this opcode.
 #[tactic(auto, unfolding(crate::specs::Table::branch_of))]
-pub(crate) fn branch_op(n: u8) -> Option<BranchOp>
-    ensures { result ≡ branch_of n }
+pub(crate) fn branch_op(opcode: u8) -> Option<BranchOp>
+    ensures { result ≡ branch_of opcode }
 {
-    match n {
+    match opcode {
         0x30 => Some(BranchOp::BR),
         0x34 => Some(BranchOp::BSR),
         0x38 => Some(BranchOp::BLBC),
@@ -103,12 +103,12 @@ pub(crate) fn branch_code(op: BranchOp) -> u8
     }
 }
 
-/// The instruction of opcode 18 with this displacement.
+/// The miscellaneous instruction with this function code.
 #[tactic(auto, unfolding(crate::specs::Table::misc_of))]
-pub(crate) fn misc_op(n: u16) -> Option<MiscOp>
-    ensures { result ≡ misc_of n }
+pub(crate) fn misc_op(code: u16) -> Option<MiscOp>
+    ensures { result ≡ misc_of code }
 {
-    match n {
+    match code {
         0x0000 => Some(MiscOp::TRAPB),
         0x0400 => Some(MiscOp::EXCB),
         0x8000 => Some(MiscOp::FETCH),
@@ -122,7 +122,7 @@ pub(crate) fn misc_op(n: u16) -> Option<MiscOp>
     }
 }
 
-/// The displacement of an instruction of opcode 18.
+/// The function code of a miscellaneous instruction.
 pub(crate) fn misc_code(op: MiscOp) -> u16
     ensures value { result ≡ misc_number op }
     ensures small { result < 2 ^ 16 }
@@ -142,10 +142,10 @@ pub(crate) fn misc_code(op: MiscOp) -> u16
 
 /// The call of PALcode with this function.
 #[tactic(auto, unfolding(crate::specs::Table::pal_of))]
-pub(crate) fn pal_op(n: u32) -> Option<PalOp>
-    ensures { result ≡ pal_of n }
+pub(crate) fn pal_op(function: u32) -> Option<PalOp>
+    ensures { result ≡ pal_of function }
 {
-    match n {
+    match function {
         0x00 => Some(PalOp::HALT),
         0x02 => Some(PalOp::DRAINA),
         0x09 => Some(PalOp::CSERVE),
@@ -213,10 +213,10 @@ pub(crate) fn pal_code(op: PalOp) -> u32
 
 /// The instruction of the operate format with this opcode and this function.
 #[tactic(auto, unfolding(crate::specs::Table::operate_of))]
-pub(crate) fn operate_op(opcode: u8, n: u8) -> Option<Op>
-    ensures { result ≡ operate_of opcode n }
+pub(crate) fn operate_op(opcode: u8, function: u8) -> Option<Op>
+    ensures { result ≡ operate_of opcode function }
 {
-    match (opcode, n) {
+    match (opcode, function) {
         (0x10, 0x00) => Some(Op::ADDL),
         (0x10, 0x09) => Some(Op::SUBL),
         (0x10, 0x02) => Some(Op::S4ADDL),
