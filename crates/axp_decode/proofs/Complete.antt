@@ -1,5 +1,5 @@
 -- The word of an instruction whose fields fit stands for it.
-use Rattle.std.proofs.Common.{◌≡◌, ℕ, ◌/◌, ◌%◌, ◌^◌, refl, ap, ◌∙◌, arith}
+use Rattle.std.proofs.Common.{◌≡◌, ℕ, ◌/◌, ◌%◌, ◌^◌, refl, arith}
 use Rattle.axp_decode.specs.Format.{instr_of, word_of, operand_of, operand_bits, rb_of, FieldsFit}
 use Rattle.axp_decode.specs.Words.{StandsFor}
 use Rattle.axp_decode.specs.declared.instructions.Instr.{Instr}

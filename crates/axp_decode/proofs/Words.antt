@@ -1,8 +1,8 @@
 -- A word stands for its instruction, and for no other.
-use Rattle.std.proofs.Common.{◌≡◌, ℕ, ◌/◌, ◌%◌, ◌^◌, Bool, true, false, cond, Option, Some, None, refl, sym, ap, ◌∙◌}
+use Rattle.std.proofs.Common.{◌≡◌, ℕ, ◌%◌, ◌^◌, Bool, true, false, cond, Option, Some, None, refl, sym, ap, ◌∙◌}
 use Rattle.std.specs.Prelude.{◌==◌}
 use Rattle.std.proofs.lemmas.Bool.{eqb-true, eqb-false}
-use Rattle.axp_decode.specs.Table.{memory_number, memory_of, branch_number, branch_of, misc_of, pal_of, operate_opcode, operate_function, operate_of}
+use Rattle.axp_decode.specs.Table.{memory_of, branch_of, misc_of, pal_of, operate_opcode, operate_of}
 use Rattle.axp_decode.specs.Format.{instr_of, named, opcode_of, function_of, is_floating}
 use Rattle.axp_decode.specs.Words.{StandsFor, IsInNoTable}
 use Rattle.axp_decode.specs.declared.numbers.TheConstants.{JUMP_OPCODE, MISC_OPCODE, PAL_OPCODE}
