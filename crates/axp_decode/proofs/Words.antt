@@ -1,9 +1,9 @@
 -- A word stands for its instruction, and for no other.
-use Rattle.std.proofs.Common.{◌≡◌, ℕ, ◌%◌, ◌^◌, Bool, true, false, cond, Option, Some, None, refl, sym, ap, ◌∙◌}
+use Rattle.std.proofs.Common.{◌≡◌, ℕ, Bool, true, false, cond, Option, Some, None, refl, sym, ap, ◌∙◌}
 use Rattle.std.specs.Prelude.{◌==◌}
 use Rattle.std.proofs.lemmas.Bool.{eqb-true, eqb-false}
 use Rattle.axp_decode.specs.Table.{memory_of, branch_of, misc_of, pal_of, operate_opcode, operate_of}
-use Rattle.axp_decode.specs.Format.{instr_of, named, opcode_of, function_of, is_floating}
+use Rattle.axp_decode.specs.Format.{instr_of, named, opcode_of, function_of, function_code_of, pal_function_of, is_floating}
 use Rattle.axp_decode.specs.Words.{StandsFor, IsInNoTable}
 use Rattle.axp_decode.specs.declared.numbers.TheConstants.{JUMP_OPCODE, MISC_OPCODE, PAL_OPCODE}
 use Rattle.axp_decode.specs.declared.instructions.Instr.{Instr}
@@ -22,7 +22,7 @@ cond-either P true i j held failed = held refl
 cond-either P false i j held failed = failed refl
 
 -- where all searches fail
-in_no_table : (w : ℕ) → memory_of (opcode_of w) ≡ None → branch_of (opcode_of w) ≡ None → operate_of (opcode_of w) (function_of w) ≡ None → (opcode_of w == JUMP_OPCODE) ≡ false → (opcode_of w ≡ MISC_OPCODE → misc_of (w % 2 ^ 16) ≡ None) → (opcode_of w ≡ PAL_OPCODE → pal_of (w % 2 ^ 26) ≡ None) → is_floating (opcode_of w) ≡ false → IsInNoTable w
+in_no_table : (w : ℕ) → memory_of (opcode_of w) ≡ None → branch_of (opcode_of w) ≡ None → operate_of (opcode_of w) (function_of w) ≡ None → (opcode_of w == JUMP_OPCODE) ≡ false → (opcode_of w ≡ MISC_OPCODE → misc_of (function_code_of w) ≡ None) → (opcode_of w ≡ PAL_OPCODE → pal_of (pal_function_of w) ≡ None) → is_floating (opcode_of w) ≡ false → IsInNoTable w
 in_no_table w memory branch operate jump misc pal floating = record {
   memory = λ op e. let row = (memory_row op).0 in cc;
   branch = λ op e. let row = (branch_row op).1 in cc;
@@ -43,11 +43,11 @@ stands_for_instr_of w =
     cond-either (StandsFor w) (opcode_of w == JUMP_OPCODE) _ _ (λ e. (eqb-true _ _ e, refl, refl, refl, refl)) (λ jump.
     cond-either (StandsFor w) (opcode_of w == MISC_OPCODE) _ _
     (λ e. let n = eqb-true _ _ e in
-    named-either (StandsFor w) (misc_of (w % 2 ^ 16)) _ _ (λ op found. (n, sym (misc_found _ op found), refl, refl))
+    named-either (StandsFor w) (misc_of (function_code_of w)) _ _ (λ op found. (n, sym (misc_found _ op found), refl, refl))
     (λ none. (in_no_table w memory branch operate jump (λ _. none) (λ zero. cc) (ap is_floating n ∙ (misc_opcode 0).3), refl))) (λ misc.
     cond-either (StandsFor w) (opcode_of w == PAL_OPCODE) _ _
     (λ e. let n = eqb-true _ _ e in
-    named-either (StandsFor w) (pal_of (w % 2 ^ 26)) _ _ (λ op found. (n, sym (pal_found _ op found)))
+    named-either (StandsFor w) (pal_of (pal_function_of w)) _ _ (λ op found. (n, sym (pal_found _ op found)))
     (λ none. (in_no_table w memory branch operate jump (λ m. absurd (eqb-false _ _ misc m)) (λ _. none) (ap is_floating n ∙ (pal_opcode 0).3), refl))) (λ pal.
     cond-either (StandsFor w) (is_floating (opcode_of w)) _ _ (λ e. (e, refl)) (λ plain.
     (in_no_table w memory branch operate jump (λ m. absurd (eqb-false _ _ misc m)) (λ p. absurd (eqb-false _ _ pal p)) plain, refl))))))))
@@ -97,9 +97,9 @@ reserved_stands w none =
     named-skip (operate_of (opcode_of w) (function_of w)) _ _ _ (λ op e. let n = operate_found _ _ op e in none.operate op (sym n.0) (sym n.1)) (
     cond-skip (opcode_of w == JUMP_OPCODE) _ _ _ (λ e. absurd (none.jump (eqb-true _ _ e))) (
     cond-skip (opcode_of w == MISC_OPCODE) _ _ _
-    (λ e. named-skip (misc_of (w % 2 ^ 16)) _ _ _ (λ op found. none.misc op (eqb-true _ _ e) (sym (misc_found _ op found))) refl) (
+    (λ e. named-skip (misc_of (function_code_of w)) _ _ _ (λ op found. none.misc op (eqb-true _ _ e) (sym (misc_found _ op found))) refl) (
     cond-skip (opcode_of w == PAL_OPCODE) _ _ _
-    (λ e. named-skip (pal_of (w % 2 ^ 26)) _ _ _ (λ op found. none.pal op (eqb-true _ _ e) (sym (pal_found _ op found))) refl) (
+    (λ e. named-skip (pal_of (pal_function_of w)) _ _ _ (λ op found. none.pal op (eqb-true _ _ e) (sym (pal_found _ op found))) refl) (
     cond-false (is_floating (opcode_of w)) _ _ none.floating))))))
 
 pub instr_of-stands_for : (w : ℕ) (i : Instr) → StandsFor w i → instr_of w ≡ i
@@ -131,7 +131,7 @@ instr_of-stands_for w (Misc op a b) h =
     ∙ named-None (operate_of (opcode_of w) (function_of w)) _ _ (ap (λ m. operate_of m (function_of w)) h.0 ∙ row.2)
     ∙ cond-false (opcode_of w == JUMP_OPCODE) _ _ (ap (λ m. m == JUMP_OPCODE) h.0)
     ∙ cond-true (opcode_of w == MISC_OPCODE) _ _ (ap (λ m. m == MISC_OPCODE) h.0)
-    ∙ named-Some (misc_of (w % 2 ^ 16)) op _ _ (ap misc_of h.1 ∙ (misc_row op).0)
+    ∙ named-Some (misc_of (function_code_of w)) op _ _ (ap misc_of h.1 ∙ (misc_row op).0)
     ∙ (rw (h.2, h.3) refl)
 instr_of-stands_for w (Pal op) h =
     let row = pal_opcode (function_of w) in
@@ -141,7 +141,7 @@ instr_of-stands_for w (Pal op) h =
     ∙ cond-false (opcode_of w == JUMP_OPCODE) _ _ (ap (λ m. m == JUMP_OPCODE) h.0)
     ∙ cond-false (opcode_of w == MISC_OPCODE) _ _ (ap (λ m. m == MISC_OPCODE) h.0)
     ∙ cond-true (opcode_of w == PAL_OPCODE) _ _ (ap (λ m. m == PAL_OPCODE) h.0)
-    ∙ named-Some (pal_of (w % 2 ^ 26)) op _ _ (ap pal_of h.1 ∙ (pal_row op).0)
+    ∙ named-Some (pal_of (pal_function_of w)) op _ _ (ap pal_of h.1 ∙ (pal_row op).0)
 instr_of-stands_for w (Floating word) h = floating_stands w h.0 ∙ ap Floating h.1
 instr_of-stands_for w (Reserved word) h = reserved_stands w h.0 ∙ ap Reserved h.1
 

@@ -46,14 +46,14 @@ fn read_operand(word: u32) -> Operand
     }
 }
 
-/// The instruction that a word is.
+/// The instruction that a word stands for; each word stands for one.
 #[tactic(auto, unfolding(crate::specs::Format::instr_of))]
 pub fn decode(word: u32) -> Instr
     ensures { result ≡ instr_of word }
 {
     let opcode = (word >> 26) as u8;
-    let b = rb(word);
     let a = ra(word);
+    let b = rb(word);
     let disp = (word & 0xFFFF) as u16;
     if let Some(op) = memory_op(opcode) {
         return Instr::Memory { op, a, b, disp };

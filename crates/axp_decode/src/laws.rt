@@ -1,4 +1,6 @@
 //! Laws of the tables and formats, each proved as the contract of a function that does nothing.
+//! `decode` returns `instr_of` of its word and `encode` `word_of` of its instruction, so that each law
+//! is one of them.
 ghost use Rattle.std.specs.Prelude.{ℕ, ◌≡◌, ◌↔◌, ◌<◌, ◌^◌, Some, true};
 ghost use Rattle.axp_decode.specs.Table.{memory_number, memory_of, branch_number, branch_of, misc_number, misc_of, pal_number, pal_of, operate_opcode, operate_function, operate_of};
 ghost use Rattle.axp_decode.specs.Format.{instr_of, word_of, opcode_of, is_floating, FieldsFit};
@@ -11,7 +13,8 @@ ghost use Rattle.axp_decode.specs.declared.names.MiscOp.{MiscOp};
 ghost use Rattle.axp_decode.specs.declared.names.PalOp.{PalOp};
 ghost use Rattle.axp_decode.specs.declared.names.Op.{Op};
 
-/// Encoding takes back decoding, and decoding takes back encoding of each instruction that a word is.
+/// Encoding takes back decoding, and decoding takes back encoding of each instruction that a word
+/// stands for.
 pub fn words_and_instructions()
     ensures word { (w : ℕ) → w < 2 ^ 32 → word_of (instr_of w) ≡ w }
     ensures instruction { (w : ℕ) → w < 2 ^ 32 → instr_of (word_of (instr_of w)) ≡ instr_of w }
@@ -29,7 +32,7 @@ pub fn branch_rows()
     ensures { (op : BranchOp) → branch_of (branch_number op) ≡ Some op }
 {}
 
-/// Each instruction of opcode 18 is found by its displacement.
+/// Each miscellaneous instruction is found by its function code.
 #[tactic(auto, unfolding(crate::specs::Table::misc_of))]
 pub fn misc_rows()
     ensures { (op : MiscOp) → misc_of (misc_number op) ≡ Some op }

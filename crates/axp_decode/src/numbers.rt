@@ -4,13 +4,13 @@ ghost use Rattle.axp_decode.specs.Table.{memory_number, memory_of, branch_number
 
 use crate::names::{BranchOp, MemOp, MiscOp, Op, PalOp};
 
-/// The opcode of every jump.
+/// The opcode of every jump, whose kind is bits 15:14.
 pub(crate) const JUMP_OPCODE: u8 = 0x1A;
 
-/// The opcode of every miscellaneous instruction.
+/// The opcode of every miscellaneous instruction, whose function code is bits 15:0.
 pub(crate) const MISC_OPCODE: u8 = 0x18;
 
-/// The opcode of every call of PALcode.
+/// The opcode of every call of PALcode, whose function is bits 25:0.
 pub(crate) const PAL_OPCODE: u8 = 0x00;
 
 /// The instruction of the memory format with this opcode.
