@@ -46,7 +46,7 @@ fn read_operand(word: u32) -> Operand
     }
 }
 
-/// The instruction that a word stands for; each word stands for one.
+/// The instruction that a word stands for. Each word stands for one: what is in no table is `Reserved`.
 #[tactic(auto, unfolding(crate::specs::Format::instr_of))]
 pub fn decode(word: u32) -> Instr
     ensures { result ≡ instr_of word }

@@ -1,6 +1,6 @@
 //! Laws of the tables and formats, each proved as the contract of a function that does nothing.
-//! `decode` returns `instr_of` of its word and `encode` `word_of` of its instruction, so that each law
-//! is one of them.
+//! `decode` returns `instr_of` of its word, and `encode` returns `word_of` of its instruction, so the
+//! laws are theirs.
 ghost use Rattle.std.specs.Prelude.{ℕ, ◌≡◌, ◌↔◌, ◌<◌, ◌^◌, Some, true};
 ghost use Rattle.axp_decode.specs.Table.{memory_number, memory_of, branch_number, branch_of, misc_number, misc_of, pal_number, pal_of, operate_opcode, operate_function, operate_of};
 ghost use Rattle.axp_decode.specs.Format.{instr_of, word_of, opcode_of, is_floating, FieldsFit};
@@ -61,13 +61,13 @@ pub fn words_stand_for_instructions()
     ensures { (w : ℕ) (i : Instr) → (instr_of w ≡ i) ↔ StandsFor w i }
 {}
 
-/// The words that are kept whole because of their opcodes of floating point.
+/// Exactly the words with an opcode of floating point are Floating, and each is kept whole.
 pub fn floating_words()
     ensures exactly { (w : ℕ) → (instr_of w ≡ Floating w) ↔ (is_floating (opcode_of w) ≡ true) }
     ensures whole { (w word : ℕ) → instr_of w ≡ Floating word → word ≡ w }
 {}
 
-/// The words that are kept whole because they stand in no table.
+/// Exactly the words that stand in no table are Reserved, and each is kept whole.
 pub fn reserved_words()
     ensures exactly { (w : ℕ) → (instr_of w ≡ Reserved w) ↔ IsInNoTable w }
     ensures whole { (w word : ℕ) → instr_of w ≡ Reserved word → word ≡ w }

@@ -1,6 +1,6 @@
-//! The names of the instructions, as the Alpha Architecture Reference Manual spells them; in `ADDLV`,
-//! `SUBLV`, `MULLV` and their like for quadwords the `V` stands for `/V`. Chapters and sections are
-//! those of the manual, and the numbers are in its appendix C.
+//! The names of the instructions, as the Alpha Architecture Reference Manual spells them; a `V` at the
+//! end, as in `ADDLV`, stands for `/V`. Sections are those of the manual, and the numbers of the names
+//! are in its appendix C.
 
 /// The loads and stores of integers (section 4.2), told apart by their opcodes.
 #[derive(Clone, Copy, PartialEq, Eq, Debug)]

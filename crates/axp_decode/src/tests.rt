@@ -1,7 +1,7 @@
 use super::*;
 use std::test::*;
 
-// Instructions of one line each.
+// Constructors, so that an instruction is one line of the table.
 
 fn memory(op: MemOp, a: u8, b: u8, disp: u16) -> Instr {
     Instr::Memory { op, a, b, disp }
@@ -47,7 +47,8 @@ fn reserved(word: u32) -> Instr {
     Instr::Reserved { word }
 }
 
-/// A word for each name, worked out by hand from the fields and the numbers of the manual's tables.
+/// A word for each name and each kind of jump, and words that are kept whole. Each is put together from
+/// the places of the fields and the numbers in the manual's tables, and not what this program gave.
 fn table() -> [(u32, Instr); 146] {
     [
         // The memory format.
@@ -213,7 +214,16 @@ fn next(word: u32) -> u32 {
     word.wrapping_mul(1_664_525).wrapping_add(1_013_904_223)
 }
 
-/// The same name with fields that are generated.
+/// A second operand that is generated: a register with a pad, or a literal.
+fn generated_operand(n: u8, bits: u16) -> Operand {
+    if bits & 1 == 0 {
+        padded(n, (bits >> 1 & 7) as u8)
+    } else {
+        literal((bits >> 1 & 0xFF) as u8)
+    }
+}
+
+/// The instruction with fields that are generated in place of its own.
 fn with_fields(instr: Instr, bits: u32) -> Instr {
     let a = (bits >> 27) as u8;
     let b = (bits >> 22 & 0x1F) as u8;
@@ -223,21 +233,13 @@ fn with_fields(instr: Instr, bits: u32) -> Instr {
         Instr::Memory { op, .. } => memory(op, a, b, disp),
         Instr::Branch { op, .. } => branch(op, a, bits >> 6 & 0x1F_FFFF),
         Instr::Jump { kind, .. } => jump(kind, a, b, disp & 0x3FFF),
-        Instr::Operate { op, .. } => operate(op, a, operand(b, disp), c),
+        Instr::Operate { op, .. } => operate(op, a, generated_operand(b, disp), c),
         Instr::Misc { op, .. } => misc(op, a, b),
         whole => whole,
     }
 }
 
-/// A register with any pad or a literal, by the lowest bit.
-fn operand(n: u8, bits: u16) -> Operand {
-    if bits & 1 == 0 {
-        padded(n, (bits >> 1 & 7) as u8)
-    } else {
-        literal((bits >> 1 & 0xFF) as u8)
-    }
-}
-
+/// Decoding takes each word to its instruction, and encoding the instruction to its word.
 #[test]
 fn each_name_has_its_word(rt: HostRuntime) {
     for (word, instr) in table() {
@@ -246,6 +248,7 @@ fn each_name_has_its_word(rt: HostRuntime) {
     }
 }
 
+/// Words of all opcodes, through decoding and encoding, and what they stand for once more.
 #[test]
 fn words_come_back(rt: HostRuntime) {
     let mut word = 1u32;
@@ -257,6 +260,7 @@ fn words_come_back(rt: HostRuntime) {
     }
 }
 
+/// Each name with ten sets of fields, through encoding and decoding.
 #[test]
 fn instructions_come_back(rt: HostRuntime) {
     let mut bits = 1u32;
@@ -269,6 +273,7 @@ fn instructions_come_back(rt: HostRuntime) {
     }
 }
 
+/// Bits 15:13 beside a register, which no instruction uses.
 #[test]
 fn each_pad_is_kept(rt: HostRuntime) {
     for pad in 0..8u8 {
