@@ -1,6 +1,6 @@
 //! From a word to its instruction.
-ghost use Rattle.std.specs.Prelude.{◌≡◌};
-ghost use Rattle.axp_decode.specs.Format.{instr_of, operand_of, ra_of, rb_of, is_floating};
+ghost use Rattle.std.specs.Prelude.{◌≡◌, ◌<◌, ◌^◌};
+ghost use Rattle.axp_decode.specs.Format.{instr_of, operand_of, FieldsFit, OperandFits, ra_of, rb_of, is_floating};
 
 use crate::instructions::{Instr, Operand};
 use crate::numbers::{
@@ -9,14 +9,16 @@ use crate::numbers::{
 
 /// Ra, bits 25:21.
 fn ra(word: u32) -> u8
-    ensures { result ≡ ra_of word }
+    ensures value { result ≡ ra_of word }
+    ensures small { result < 2 ^ 5 }
 {
     (word >> 21 & 0x1F) as u8
 }
 
 /// Rb, bits 20:16.
 fn rb(word: u32) -> u8
-    ensures { result ≡ rb_of word }
+    ensures value { result ≡ rb_of word }
+    ensures small { result < 2 ^ 5 }
 {
     (word >> 16 & 0x1F) as u8
 }
@@ -32,7 +34,8 @@ fn is_floating_opcode(opcode: u8) -> bool
 /// The second operand of the operate format: a literal where bit 12 is 1.
 #[tactic(auto, unfolding(crate::specs::Format::operand_of))]
 fn read_operand(word: u32) -> Operand
-    ensures { result ≡ operand_of word }
+    ensures value { result ≡ operand_of word }
+    ensures fits { OperandFits result }
 {
     if word >> 12 & 1 == 1 {
         Operand::Literal {
@@ -47,9 +50,11 @@ fn read_operand(word: u32) -> Operand
 }
 
 /// The instruction that a word stands for. Each word stands for one: what is in no table is `Reserved`.
+/// Its fields fit in their places.
 #[tactic(auto, unfolding(crate::specs::Format::instr_of))]
 pub fn decode(word: u32) -> Instr
-    ensures { result ≡ instr_of word }
+    ensures value { result ≡ instr_of word }
+    ensures fields { FieldsFit result }
 {
     let opcode = (word >> 26) as u8;
     let a = ra(word);

@@ -13,6 +13,9 @@ pub(crate) const MISC_OPCODE: u8 = 0x18;
 /// The opcode of every call of PALcode, whose function is bits 25:0.
 pub(crate) const PAL_OPCODE: u8 = 0x00;
 
+/// The opcode of the operate format under which the byte manipulations and the shifts stand.
+pub const BYTE_OPCODE: u8 = 0x12;
+
 /// The instruction of the memory format with this opcode.
 #[tactic(auto, unfolding(crate::specs::Table::memory_of))]
 pub(crate) fn memory_op(opcode: u8) -> Option<MemOp>
@@ -293,7 +296,7 @@ pub(crate) fn operate_op(opcode: u8, function: u8) -> Option<Op>
 }
 
 /// The opcode of an instruction of the operate format.
-pub(crate) fn opcode_number(op: Op) -> u8
+pub fn opcode_number(op: Op) -> u8
     ensures value { result ≡ operate_opcode op }
     ensures small { result < 2 ^ 6 }
 {
