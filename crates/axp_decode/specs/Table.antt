@@ -56,7 +56,7 @@ all_branch = BR ∷ BSR ∷ BLBC ∷ BLBS ∷ BEQ ∷ BNE ∷ BLT ∷ BLE ∷ BG
 unfoldable pub branch_of : ℕ → Option BranchOp
 branch_of n = find (λ op. branch_number op == n) all_branch
 
--- the displacements of opcode 18
+-- the function codes of opcode 0x18
 abbrev pub misc_number : MiscOp → ℕ
 misc_number TRAPB = 0x0000
 misc_number EXCB = 0x0400
@@ -74,7 +74,7 @@ all_misc = TRAPB ∷ EXCB ∷ FETCH ∷ FETCH_M ∷ ECB ∷ WH64 ∷ MB ∷ WMB 
 unfoldable pub misc_of : ℕ → Option MiscOp
 misc_of n = find (λ op. misc_number op == n) all_misc
 
--- the functions of PALcode, opcode 0
+-- the functions of PALcode, opcode 0x00
 abbrev pub pal_number : PalOp → ℕ
 pal_number HALT = 0x00
 pal_number DRAINA = 0x02

@@ -1,7 +1,8 @@
-//! The names of the instructions, as the architecture manual spells them; `V` at the end of a name
-//! stands for `/V`.
+//! The names of the instructions, as the Alpha Architecture Reference Manual spells them; a `V` at the
+//! end, as in `ADDLV`, stands for `/V`. Sections are those of the manual, and the numbers of the names
+//! are in its appendix C.
 
-/// The instructions of the memory format, by their opcodes.
+/// The loads and stores of integers (section 4.2), told apart by their opcodes.
 #[derive(Clone, Copy, PartialEq, Eq, Debug)]
 pub enum MemOp {
     LDA,
@@ -22,7 +23,7 @@ pub enum MemOp {
     STQ_C,
 }
 
-/// The instructions of the branch format, by their opcodes.
+/// The branches on integers (section 4.3), told apart by their opcodes.
 #[derive(Clone, Copy, PartialEq, Eq, Debug)]
 pub enum BranchOp {
     BR,
@@ -37,7 +38,7 @@ pub enum BranchOp {
     BGT,
 }
 
-/// The instructions of opcode 18, by their displacements.
+/// The miscellaneous instructions of opcode 0x18 (section 4.11), told apart by their function codes.
 #[derive(Clone, Copy, PartialEq, Eq, Debug)]
 pub enum MiscOp {
     TRAPB,
@@ -51,7 +52,7 @@ pub enum MiscOp {
     RPCC,
 }
 
-/// The calls of PALcode, by their functions.
+/// The calls of PALcode, of Digital UNIX, told apart by their functions.
 #[derive(Clone, Copy, PartialEq, Eq, Debug)]
 pub enum PalOp {
     HALT,
@@ -82,10 +83,11 @@ pub enum PalOp {
     WRUNIQUE,
 }
 
-/// The instructions of the operate format, by their opcodes and functions.
+/// The instructions of the operate format (sections 4.4 to 4.6, and two of 4.11), told apart by their
+/// opcodes and functions.
 #[derive(Clone, Copy, PartialEq, Eq, Debug)]
 pub enum Op {
-    // Opcode 10: sums, differences and comparisons.
+    // Opcode 0x10: sums, differences and comparisons.
     ADDL,
     SUBL,
     S4ADDL,
@@ -108,7 +110,7 @@ pub enum Op {
     SUBLV,
     ADDQV,
     SUBQV,
-    // Opcode 11: logic and conditional moves.
+    // Opcode 0x11: logic and conditional moves, and what the implementation has.
     AND,
     BIC,
     BIS,
@@ -125,7 +127,7 @@ pub enum Op {
     CMOVGT,
     AMASK,
     IMPLVER,
-    // Opcode 12: bytes and shifts.
+    // Opcode 0x12: bytes and shifts.
     EXTBL,
     EXTWL,
     EXTLL,
@@ -152,13 +154,13 @@ pub enum Op {
     SLL,
     SRL,
     SRA,
-    // Opcode 13: products.
+    // Opcode 0x13: products.
     MULL,
     MULQ,
     UMULH,
     MULLV,
     MULQV,
-    // Opcode 1C: sign extension.
+    // Opcode 0x1C: sign extension.
     SEXTB,
     SEXTW,
 }

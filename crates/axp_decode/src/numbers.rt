@@ -4,28 +4,40 @@ ghost use Rattle.axp_decode.specs.Table.{memory_number, memory_of, branch_number
 
 use crate::names::{BranchOp, MemOp, MiscOp, Op, PalOp};
 
+/// The opcode of every jump, whose kind is bits 15:14.
+pub(crate) const JUMP_OPCODE: u8 = 0x1A;
+
+/// The opcode of every miscellaneous instruction, whose function code is bits 15:0.
+pub(crate) const MISC_OPCODE: u8 = 0x18;
+
+/// The opcode of every call of PALcode, whose function is bits 25:0.
+pub(crate) const PAL_OPCODE: u8 = 0x00;
+
+/// The opcode of the operate format under which the byte manipulations and the shifts stand.
+pub const BYTE_OPCODE: u8 = 0x12;
+
 /// The instruction of the memory format with this opcode.
 #[tactic(auto, unfolding(crate::specs::Table::memory_of))]
-pub(crate) fn memory_op(n: u8) -> Option<MemOp>
-    ensures { result ≡ memory_of n }
+pub(crate) fn memory_op(opcode: u8) -> Option<MemOp>
+    ensures { result ≡ memory_of opcode }
 {
-    match n {
-        0x8 => Some(MemOp::LDA),
-        0x9 => Some(MemOp::LDAH),
-        0xa => Some(MemOp::LDBU),
-        0xc => Some(MemOp::LDWU),
+    match opcode {
+        0x08 => Some(MemOp::LDA),
+        0x09 => Some(MemOp::LDAH),
+        0x0A => Some(MemOp::LDBU),
+        0x0C => Some(MemOp::LDWU),
         0x28 => Some(MemOp::LDL),
         0x29 => Some(MemOp::LDQ),
-        0xb => Some(MemOp::LDQ_U),
-        0x2a => Some(MemOp::LDL_L),
-        0x2b => Some(MemOp::LDQ_L),
-        0xe => Some(MemOp::STB),
-        0xd => Some(MemOp::STW),
-        0x2c => Some(MemOp::STL),
-        0x2d => Some(MemOp::STQ),
-        0xf => Some(MemOp::STQ_U),
-        0x2e => Some(MemOp::STL_C),
-        0x2f => Some(MemOp::STQ_C),
+        0x0B => Some(MemOp::LDQ_U),
+        0x2A => Some(MemOp::LDL_L),
+        0x2B => Some(MemOp::LDQ_L),
+        0x0E => Some(MemOp::STB),
+        0x0D => Some(MemOp::STW),
+        0x2C => Some(MemOp::STL),
+        0x2D => Some(MemOp::STQ),
+        0x0F => Some(MemOp::STQ_U),
+        0x2E => Some(MemOp::STL_C),
+        0x2F => Some(MemOp::STQ_C),
         _ => None,
     }
 }
@@ -36,41 +48,41 @@ pub(crate) fn memory_code(op: MemOp) -> u8
     ensures small { result < 2 ^ 6 }
 {
     match op {
-        MemOp::LDA => 0x8,
-        MemOp::LDAH => 0x9,
-        MemOp::LDBU => 0xa,
-        MemOp::LDWU => 0xc,
+        MemOp::LDA => 0x08,
+        MemOp::LDAH => 0x09,
+        MemOp::LDBU => 0x0A,
+        MemOp::LDWU => 0x0C,
         MemOp::LDL => 0x28,
         MemOp::LDQ => 0x29,
-        MemOp::LDQ_U => 0xb,
-        MemOp::LDL_L => 0x2a,
-        MemOp::LDQ_L => 0x2b,
-        MemOp::STB => 0xe,
-        MemOp::STW => 0xd,
-        MemOp::STL => 0x2c,
-        MemOp::STQ => 0x2d,
-        MemOp::STQ_U => 0xf,
-        MemOp::STL_C => 0x2e,
-        MemOp::STQ_C => 0x2f,
+        MemOp::LDQ_U => 0x0B,
+        MemOp::LDL_L => 0x2A,
+        MemOp::LDQ_L => 0x2B,
+        MemOp::STB => 0x0E,
+        MemOp::STW => 0x0D,
+        MemOp::STL => 0x2C,
+        MemOp::STQ => 0x2D,
+        MemOp::STQ_U => 0x0F,
+        MemOp::STL_C => 0x2E,
+        MemOp::STQ_C => 0x2F,
     }
 }
 
 /// The instruction of the branch format with this opcode.
 #[tactic(auto, unfolding(crate::specs::Table::branch_of))]
-pub(crate) fn branch_op(n: u8) -> Option<BranchOp>
-    ensures { result ≡ branch_of n }
+pub(crate) fn branch_op(opcode: u8) -> Option<BranchOp>
+    ensures { result ≡ branch_of opcode }
 {
-    match n {
+    match opcode {
         0x30 => Some(BranchOp::BR),
         0x34 => Some(BranchOp::BSR),
         0x38 => Some(BranchOp::BLBC),
-        0x3c => Some(BranchOp::BLBS),
+        0x3C => Some(BranchOp::BLBS),
         0x39 => Some(BranchOp::BEQ),
-        0x3d => Some(BranchOp::BNE),
-        0x3a => Some(BranchOp::BLT),
-        0x3b => Some(BranchOp::BLE),
-        0x3e => Some(BranchOp::BGE),
-        0x3f => Some(BranchOp::BGT),
+        0x3D => Some(BranchOp::BNE),
+        0x3A => Some(BranchOp::BLT),
+        0x3B => Some(BranchOp::BLE),
+        0x3E => Some(BranchOp::BGE),
+        0x3F => Some(BranchOp::BGT),
         _ => None,
     }
 }
@@ -84,65 +96,65 @@ pub(crate) fn branch_code(op: BranchOp) -> u8
         BranchOp::BR => 0x30,
         BranchOp::BSR => 0x34,
         BranchOp::BLBC => 0x38,
-        BranchOp::BLBS => 0x3c,
+        BranchOp::BLBS => 0x3C,
         BranchOp::BEQ => 0x39,
-        BranchOp::BNE => 0x3d,
-        BranchOp::BLT => 0x3a,
-        BranchOp::BLE => 0x3b,
-        BranchOp::BGE => 0x3e,
-        BranchOp::BGT => 0x3f,
+        BranchOp::BNE => 0x3D,
+        BranchOp::BLT => 0x3A,
+        BranchOp::BLE => 0x3B,
+        BranchOp::BGE => 0x3E,
+        BranchOp::BGT => 0x3F,
     }
 }
 
-/// The instruction of opcode 18 with this displacement.
+/// The miscellaneous instruction with this function code.
 #[tactic(auto, unfolding(crate::specs::Table::misc_of))]
-pub(crate) fn misc_op(n: u16) -> Option<MiscOp>
-    ensures { result ≡ misc_of n }
+pub(crate) fn misc_op(code: u16) -> Option<MiscOp>
+    ensures { result ≡ misc_of code }
 {
-    match n {
-        0x0 => Some(MiscOp::TRAPB),
-        0x400 => Some(MiscOp::EXCB),
+    match code {
+        0x0000 => Some(MiscOp::TRAPB),
+        0x0400 => Some(MiscOp::EXCB),
         0x8000 => Some(MiscOp::FETCH),
-        0xa000 => Some(MiscOp::FETCH_M),
-        0xe800 => Some(MiscOp::ECB),
-        0xf800 => Some(MiscOp::WH64),
+        0xA000 => Some(MiscOp::FETCH_M),
+        0xE800 => Some(MiscOp::ECB),
+        0xF800 => Some(MiscOp::WH64),
         0x4000 => Some(MiscOp::MB),
         0x4400 => Some(MiscOp::WMB),
-        0xc000 => Some(MiscOp::RPCC),
+        0xC000 => Some(MiscOp::RPCC),
         _ => None,
     }
 }
 
-/// The displacement of an instruction of opcode 18.
+/// The function code of a miscellaneous instruction.
 pub(crate) fn misc_code(op: MiscOp) -> u16
     ensures value { result ≡ misc_number op }
     ensures small { result < 2 ^ 16 }
 {
     match op {
-        MiscOp::TRAPB => 0x0,
-        MiscOp::EXCB => 0x400,
+        MiscOp::TRAPB => 0x0000,
+        MiscOp::EXCB => 0x0400,
         MiscOp::FETCH => 0x8000,
-        MiscOp::FETCH_M => 0xa000,
-        MiscOp::ECB => 0xe800,
-        MiscOp::WH64 => 0xf800,
+        MiscOp::FETCH_M => 0xA000,
+        MiscOp::ECB => 0xE800,
+        MiscOp::WH64 => 0xF800,
         MiscOp::MB => 0x4000,
         MiscOp::WMB => 0x4400,
-        MiscOp::RPCC => 0xc000,
+        MiscOp::RPCC => 0xC000,
     }
 }
 
 /// The call of PALcode with this function.
 #[tactic(auto, unfolding(crate::specs::Table::pal_of))]
-pub(crate) fn pal_op(n: u32) -> Option<PalOp>
-    ensures { result ≡ pal_of n }
+pub(crate) fn pal_op(function: u32) -> Option<PalOp>
+    ensures { result ≡ pal_of function }
 {
-    match n {
-        0x0 => Some(PalOp::HALT),
-        0x2 => Some(PalOp::DRAINA),
-        0x9 => Some(PalOp::CSERVE),
-        0xd => Some(PalOp::WRIPIR),
-        0x2b => Some(PalOp::WRFEN),
-        0x2d => Some(PalOp::WRVPTPTR),
+    match function {
+        0x00 => Some(PalOp::HALT),
+        0x02 => Some(PalOp::DRAINA),
+        0x09 => Some(PalOp::CSERVE),
+        0x0D => Some(PalOp::WRIPIR),
+        0x2B => Some(PalOp::WRFEN),
+        0x2D => Some(PalOp::WRVPTPTR),
         0x30 => Some(PalOp::SWPCTX),
         0x31 => Some(PalOp::WRVAL),
         0x32 => Some(PalOp::RDVAL),
@@ -152,17 +164,17 @@ pub(crate) fn pal_op(n: u32) -> Option<PalOp>
         0x36 => Some(PalOp::RDPS),
         0x37 => Some(PalOp::WRKGP),
         0x38 => Some(PalOp::WRUSP),
-        0x3a => Some(PalOp::RDUSP),
-        0x3c => Some(PalOp::WHAMI),
-        0x3d => Some(PalOp::RETSYS),
-        0x3f => Some(PalOp::RTI),
+        0x3A => Some(PalOp::RDUSP),
+        0x3C => Some(PalOp::WHAMI),
+        0x3D => Some(PalOp::RETSYS),
+        0x3F => Some(PalOp::RTI),
         0x80 => Some(PalOp::BPT),
         0x81 => Some(PalOp::BUGCHK),
-        0xaa => Some(PalOp::GENTRAP),
+        0xAA => Some(PalOp::GENTRAP),
         0x83 => Some(PalOp::CALLSYS),
         0x86 => Some(PalOp::IMB),
-        0x9e => Some(PalOp::RDUNIQUE),
-        0x9f => Some(PalOp::WRUNIQUE),
+        0x9E => Some(PalOp::RDUNIQUE),
+        0x9F => Some(PalOp::WRUNIQUE),
         _ => None,
     }
 }
@@ -173,12 +185,12 @@ pub(crate) fn pal_code(op: PalOp) -> u32
     ensures small { result < 2 ^ 8 }
 {
     match op {
-        PalOp::HALT => 0x0,
-        PalOp::DRAINA => 0x2,
-        PalOp::CSERVE => 0x9,
-        PalOp::WRIPIR => 0xd,
-        PalOp::WRFEN => 0x2b,
-        PalOp::WRVPTPTR => 0x2d,
+        PalOp::HALT => 0x00,
+        PalOp::DRAINA => 0x02,
+        PalOp::CSERVE => 0x09,
+        PalOp::WRIPIR => 0x0D,
+        PalOp::WRFEN => 0x2B,
+        PalOp::WRVPTPTR => 0x2D,
         PalOp::SWPCTX => 0x30,
         PalOp::WRVAL => 0x31,
         PalOp::RDVAL => 0x32,
@@ -188,50 +200,50 @@ pub(crate) fn pal_code(op: PalOp) -> u32
         PalOp::RDPS => 0x36,
         PalOp::WRKGP => 0x37,
         PalOp::WRUSP => 0x38,
-        PalOp::RDUSP => 0x3a,
-        PalOp::WHAMI => 0x3c,
-        PalOp::RETSYS => 0x3d,
-        PalOp::RTI => 0x3f,
+        PalOp::RDUSP => 0x3A,
+        PalOp::WHAMI => 0x3C,
+        PalOp::RETSYS => 0x3D,
+        PalOp::RTI => 0x3F,
         PalOp::BPT => 0x80,
         PalOp::BUGCHK => 0x81,
-        PalOp::GENTRAP => 0xaa,
+        PalOp::GENTRAP => 0xAA,
         PalOp::CALLSYS => 0x83,
         PalOp::IMB => 0x86,
-        PalOp::RDUNIQUE => 0x9e,
-        PalOp::WRUNIQUE => 0x9f,
+        PalOp::RDUNIQUE => 0x9E,
+        PalOp::WRUNIQUE => 0x9F,
     }
 }
 
 /// The instruction of the operate format with this opcode and this function.
 #[tactic(auto, unfolding(crate::specs::Table::operate_of))]
-pub(crate) fn operate_op(opcode: u8, n: u8) -> Option<Op>
-    ensures { result ≡ operate_of opcode n }
+pub(crate) fn operate_op(opcode: u8, function: u8) -> Option<Op>
+    ensures { result ≡ operate_of opcode function }
 {
-    match (opcode, n) {
-        (0x10, 0x9) => Some(Op::SUBL),
-        (0x10, 0x0) => Some(Op::ADDL),
-        (0x10, 0x2) => Some(Op::S4ADDL),
+    match (opcode, function) {
+        (0x10, 0x00) => Some(Op::ADDL),
+        (0x10, 0x09) => Some(Op::SUBL),
+        (0x10, 0x02) => Some(Op::S4ADDL),
         (0x10, 0x12) => Some(Op::S8ADDL),
-        (0x10, 0xb) => Some(Op::S4SUBL),
-        (0x10, 0x1b) => Some(Op::S8SUBL),
+        (0x10, 0x0B) => Some(Op::S4SUBL),
+        (0x10, 0x1B) => Some(Op::S8SUBL),
         (0x10, 0x20) => Some(Op::ADDQ),
         (0x10, 0x29) => Some(Op::SUBQ),
         (0x10, 0x22) => Some(Op::S4ADDQ),
         (0x10, 0x32) => Some(Op::S8ADDQ),
-        (0x10, 0x2b) => Some(Op::S4SUBQ),
-        (0x10, 0x3b) => Some(Op::S8SUBQ),
-        (0x10, 0xf) => Some(Op::CMPBGE),
-        (0x10, 0x1d) => Some(Op::CMPULT),
-        (0x10, 0x3d) => Some(Op::CMPULE),
-        (0x10, 0x2d) => Some(Op::CMPEQ),
-        (0x10, 0x4d) => Some(Op::CMPLT),
-        (0x10, 0x6d) => Some(Op::CMPLE),
+        (0x10, 0x2B) => Some(Op::S4SUBQ),
+        (0x10, 0x3B) => Some(Op::S8SUBQ),
+        (0x10, 0x0F) => Some(Op::CMPBGE),
+        (0x10, 0x1D) => Some(Op::CMPULT),
+        (0x10, 0x3D) => Some(Op::CMPULE),
+        (0x10, 0x2D) => Some(Op::CMPEQ),
+        (0x10, 0x4D) => Some(Op::CMPLT),
+        (0x10, 0x6D) => Some(Op::CMPLE),
         (0x10, 0x40) => Some(Op::ADDLV),
         (0x10, 0x49) => Some(Op::SUBLV),
         (0x10, 0x60) => Some(Op::ADDQV),
         (0x10, 0x69) => Some(Op::SUBQV),
-        (0x11, 0x0) => Some(Op::AND),
-        (0x11, 0x8) => Some(Op::BIC),
+        (0x11, 0x00) => Some(Op::AND),
+        (0x11, 0x08) => Some(Op::BIC),
         (0x11, 0x20) => Some(Op::BIS),
         (0x11, 0x28) => Some(Op::ORNOT),
         (0x11, 0x40) => Some(Op::XOR),
@@ -245,22 +257,22 @@ pub(crate) fn operate_op(opcode: u8, n: u8) -> Option<Op>
         (0x11, 0x64) => Some(Op::CMOVLE),
         (0x11, 0x66) => Some(Op::CMOVGT),
         (0x11, 0x61) => Some(Op::AMASK),
-        (0x11, 0x6c) => Some(Op::IMPLVER),
-        (0x12, 0x6) => Some(Op::EXTBL),
+        (0x11, 0x6C) => Some(Op::IMPLVER),
+        (0x12, 0x06) => Some(Op::EXTBL),
         (0x12, 0x16) => Some(Op::EXTWL),
         (0x12, 0x26) => Some(Op::EXTLL),
         (0x12, 0x36) => Some(Op::EXTQL),
-        (0x12, 0x5a) => Some(Op::EXTWH),
-        (0x12, 0x6a) => Some(Op::EXTLH),
-        (0x12, 0x7a) => Some(Op::EXTQH),
-        (0x12, 0xb) => Some(Op::INSBL),
-        (0x12, 0x1b) => Some(Op::INSWL),
-        (0x12, 0x2b) => Some(Op::INSLL),
-        (0x12, 0x3b) => Some(Op::INSQL),
+        (0x12, 0x5A) => Some(Op::EXTWH),
+        (0x12, 0x6A) => Some(Op::EXTLH),
+        (0x12, 0x7A) => Some(Op::EXTQH),
+        (0x12, 0x0B) => Some(Op::INSBL),
+        (0x12, 0x1B) => Some(Op::INSWL),
+        (0x12, 0x2B) => Some(Op::INSLL),
+        (0x12, 0x3B) => Some(Op::INSQL),
         (0x12, 0x57) => Some(Op::INSWH),
         (0x12, 0x67) => Some(Op::INSLH),
         (0x12, 0x77) => Some(Op::INSQH),
-        (0x12, 0x2) => Some(Op::MSKBL),
+        (0x12, 0x02) => Some(Op::MSKBL),
         (0x12, 0x12) => Some(Op::MSKWL),
         (0x12, 0x22) => Some(Op::MSKLL),
         (0x12, 0x32) => Some(Op::MSKQL),
@@ -271,14 +283,14 @@ pub(crate) fn operate_op(opcode: u8, n: u8) -> Option<Op>
         (0x12, 0x31) => Some(Op::ZAPNOT),
         (0x12, 0x39) => Some(Op::SLL),
         (0x12, 0x34) => Some(Op::SRL),
-        (0x12, 0x3c) => Some(Op::SRA),
-        (0x13, 0x0) => Some(Op::MULL),
+        (0x12, 0x3C) => Some(Op::SRA),
+        (0x13, 0x00) => Some(Op::MULL),
         (0x13, 0x20) => Some(Op::MULQ),
         (0x13, 0x30) => Some(Op::UMULH),
         (0x13, 0x40) => Some(Op::MULLV),
         (0x13, 0x60) => Some(Op::MULQV),
-        (0x1c, 0x0) => Some(Op::SEXTB),
-        (0x1c, 0x1) => Some(Op::SEXTW),
+        (0x1C, 0x00) => Some(Op::SEXTB),
+        (0x1C, 0x01) => Some(Op::SEXTW),
         _ => None,
     }
 }
@@ -289,77 +301,72 @@ pub fn opcode_number(op: Op) -> u8
     ensures small { result < 2 ^ 6 }
 {
     match op {
-        Op::ADDL => 0x10,
-        Op::SUBL => 0x10,
-        Op::S4ADDL => 0x10,
-        Op::S8ADDL => 0x10,
-        Op::S4SUBL => 0x10,
-        Op::S8SUBL => 0x10,
-        Op::ADDQ => 0x10,
-        Op::SUBQ => 0x10,
-        Op::S4ADDQ => 0x10,
-        Op::S8ADDQ => 0x10,
-        Op::S4SUBQ => 0x10,
-        Op::S8SUBQ => 0x10,
-        Op::CMPBGE => 0x10,
-        Op::CMPULT => 0x10,
-        Op::CMPULE => 0x10,
-        Op::CMPEQ => 0x10,
-        Op::CMPLT => 0x10,
-        Op::CMPLE => 0x10,
-        Op::ADDLV => 0x10,
-        Op::SUBLV => 0x10,
-        Op::ADDQV => 0x10,
-        Op::SUBQV => 0x10,
-        Op::AND => 0x11,
-        Op::BIC => 0x11,
-        Op::BIS => 0x11,
-        Op::ORNOT => 0x11,
-        Op::XOR => 0x11,
-        Op::EQV => 0x11,
-        Op::CMOVLBS => 0x11,
-        Op::CMOVLBC => 0x11,
-        Op::CMOVEQ => 0x11,
-        Op::CMOVNE => 0x11,
-        Op::CMOVLT => 0x11,
-        Op::CMOVGE => 0x11,
-        Op::CMOVLE => 0x11,
-        Op::CMOVGT => 0x11,
-        Op::AMASK => 0x11,
-        Op::IMPLVER => 0x11,
-        Op::EXTBL => 0x12,
-        Op::EXTWL => 0x12,
-        Op::EXTLL => 0x12,
-        Op::EXTQL => 0x12,
-        Op::EXTWH => 0x12,
-        Op::EXTLH => 0x12,
-        Op::EXTQH => 0x12,
-        Op::INSBL => 0x12,
-        Op::INSWL => 0x12,
-        Op::INSLL => 0x12,
-        Op::INSQL => 0x12,
-        Op::INSWH => 0x12,
-        Op::INSLH => 0x12,
-        Op::INSQH => 0x12,
-        Op::MSKBL => 0x12,
-        Op::MSKWL => 0x12,
-        Op::MSKLL => 0x12,
-        Op::MSKQL => 0x12,
-        Op::MSKWH => 0x12,
-        Op::MSKLH => 0x12,
-        Op::MSKQH => 0x12,
-        Op::ZAP => 0x12,
-        Op::ZAPNOT => 0x12,
-        Op::SLL => 0x12,
-        Op::SRL => 0x12,
-        Op::SRA => 0x12,
-        Op::MULL => 0x13,
-        Op::MULQ => 0x13,
-        Op::UMULH => 0x13,
-        Op::MULLV => 0x13,
-        Op::MULQV => 0x13,
-        Op::SEXTB => 0x1c,
-        Op::SEXTW => 0x1c,
+        Op::ADDL
+        | Op::SUBL
+        | Op::S4ADDL
+        | Op::S8ADDL
+        | Op::S4SUBL
+        | Op::S8SUBL
+        | Op::ADDQ
+        | Op::SUBQ
+        | Op::S4ADDQ
+        | Op::S8ADDQ
+        | Op::S4SUBQ
+        | Op::S8SUBQ
+        | Op::CMPBGE
+        | Op::CMPULT
+        | Op::CMPULE
+        | Op::CMPEQ
+        | Op::CMPLT
+        | Op::CMPLE
+        | Op::ADDLV
+        | Op::SUBLV
+        | Op::ADDQV
+        | Op::SUBQV => 0x10,
+        Op::AND
+        | Op::BIC
+        | Op::BIS
+        | Op::ORNOT
+        | Op::XOR
+        | Op::EQV
+        | Op::CMOVLBS
+        | Op::CMOVLBC
+        | Op::CMOVEQ
+        | Op::CMOVNE
+        | Op::CMOVLT
+        | Op::CMOVGE
+        | Op::CMOVLE
+        | Op::CMOVGT
+        | Op::AMASK
+        | Op::IMPLVER => 0x11,
+        Op::EXTBL
+        | Op::EXTWL
+        | Op::EXTLL
+        | Op::EXTQL
+        | Op::EXTWH
+        | Op::EXTLH
+        | Op::EXTQH
+        | Op::INSBL
+        | Op::INSWL
+        | Op::INSLL
+        | Op::INSQL
+        | Op::INSWH
+        | Op::INSLH
+        | Op::INSQH
+        | Op::MSKBL
+        | Op::MSKWL
+        | Op::MSKLL
+        | Op::MSKQL
+        | Op::MSKWH
+        | Op::MSKLH
+        | Op::MSKQH
+        | Op::ZAP
+        | Op::ZAPNOT
+        | Op::SLL
+        | Op::SRL
+        | Op::SRA => 0x12,
+        Op::MULL | Op::MULQ | Op::UMULH | Op::MULLV | Op::MULQV => 0x13,
+        Op::SEXTB | Op::SEXTW => 0x1C,
     }
 }
 
@@ -369,30 +376,30 @@ pub(crate) fn function_number(op: Op) -> u8
     ensures small { result < 2 ^ 7 }
 {
     match op {
-        Op::ADDL => 0x0,
-        Op::SUBL => 0x9,
-        Op::S4ADDL => 0x2,
+        Op::ADDL => 0x00,
+        Op::SUBL => 0x09,
+        Op::S4ADDL => 0x02,
         Op::S8ADDL => 0x12,
-        Op::S4SUBL => 0xb,
-        Op::S8SUBL => 0x1b,
+        Op::S4SUBL => 0x0B,
+        Op::S8SUBL => 0x1B,
         Op::ADDQ => 0x20,
         Op::SUBQ => 0x29,
         Op::S4ADDQ => 0x22,
         Op::S8ADDQ => 0x32,
-        Op::S4SUBQ => 0x2b,
-        Op::S8SUBQ => 0x3b,
-        Op::CMPBGE => 0xf,
-        Op::CMPULT => 0x1d,
-        Op::CMPULE => 0x3d,
-        Op::CMPEQ => 0x2d,
-        Op::CMPLT => 0x4d,
-        Op::CMPLE => 0x6d,
+        Op::S4SUBQ => 0x2B,
+        Op::S8SUBQ => 0x3B,
+        Op::CMPBGE => 0x0F,
+        Op::CMPULT => 0x1D,
+        Op::CMPULE => 0x3D,
+        Op::CMPEQ => 0x2D,
+        Op::CMPLT => 0x4D,
+        Op::CMPLE => 0x6D,
         Op::ADDLV => 0x40,
         Op::SUBLV => 0x49,
         Op::ADDQV => 0x60,
         Op::SUBQV => 0x69,
-        Op::AND => 0x0,
-        Op::BIC => 0x8,
+        Op::AND => 0x00,
+        Op::BIC => 0x08,
         Op::BIS => 0x20,
         Op::ORNOT => 0x28,
         Op::XOR => 0x40,
@@ -406,22 +413,22 @@ pub(crate) fn function_number(op: Op) -> u8
         Op::CMOVLE => 0x64,
         Op::CMOVGT => 0x66,
         Op::AMASK => 0x61,
-        Op::IMPLVER => 0x6c,
-        Op::EXTBL => 0x6,
+        Op::IMPLVER => 0x6C,
+        Op::EXTBL => 0x06,
         Op::EXTWL => 0x16,
         Op::EXTLL => 0x26,
         Op::EXTQL => 0x36,
-        Op::EXTWH => 0x5a,
-        Op::EXTLH => 0x6a,
-        Op::EXTQH => 0x7a,
-        Op::INSBL => 0xb,
-        Op::INSWL => 0x1b,
-        Op::INSLL => 0x2b,
-        Op::INSQL => 0x3b,
+        Op::EXTWH => 0x5A,
+        Op::EXTLH => 0x6A,
+        Op::EXTQH => 0x7A,
+        Op::INSBL => 0x0B,
+        Op::INSWL => 0x1B,
+        Op::INSLL => 0x2B,
+        Op::INSQL => 0x3B,
         Op::INSWH => 0x57,
         Op::INSLH => 0x67,
         Op::INSQH => 0x77,
-        Op::MSKBL => 0x2,
+        Op::MSKBL => 0x02,
         Op::MSKWL => 0x12,
         Op::MSKLL => 0x22,
         Op::MSKQL => 0x32,
@@ -432,13 +439,13 @@ pub(crate) fn function_number(op: Op) -> u8
         Op::ZAPNOT => 0x31,
         Op::SLL => 0x39,
         Op::SRL => 0x34,
-        Op::SRA => 0x3c,
-        Op::MULL => 0x0,
+        Op::SRA => 0x3C,
+        Op::MULL => 0x00,
         Op::MULQ => 0x20,
         Op::UMULH => 0x30,
         Op::MULLV => 0x40,
         Op::MULQV => 0x60,
-        Op::SEXTB => 0x0,
-        Op::SEXTW => 0x1,
+        Op::SEXTB => 0x00,
+        Op::SEXTW => 0x01,
     }
 }
