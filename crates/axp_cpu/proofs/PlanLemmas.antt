@@ -11,6 +11,7 @@ use Rattle.axp_branch.specs.Branches.{is_taken, target_of}
 use Rattle.axp_bytes.specs.Rows as bytes
 use Rattle.axp_decode.specs.Format.{instr_of}
 use Rattle.axp_decode.specs.Table.{operate_opcode}
+use Rattle.axp_decode.specs.declared.numbers.TheConstants.{BYTE_OPCODE}
 use Rattle.axp_decode.specs.declared.instructions.Instr.{Instr}
 use Rattle.axp_decode.specs.declared.instructions.Instr.TheVariants as instr
 use Rattle.axp_decode.specs.declared.names.BranchOp.{BranchOp}
@@ -154,7 +155,7 @@ branch_sound size t branch.BGT a disp h = goal_aligned t branch.BGT a disp h
 
 operate_sound : (size : ℕ) (t : Table) (op : Op) (a b c : ℕ) → IsAligned t → IsSound size (operate_row t op a b c)
 operate_sound size t op a b c h =
-    either (eqb (operate_opcode op) 0x12) size (wrote t c (bytes.value_of op a b)) _ (λ _. next_aligned t h)
+    either (eqb (operate_opcode op) BYTE_OPCODE) size (wrote t c (bytes.value_of op a b)) _ (λ _. next_aligned t h)
     (λ _. either (integer.overflow_of op a b) size Unbuilt (wrote t c (integer.value_of op a b (register t.state c))) (λ _. tt) (λ _. next_aligned t h))
 
 misc_sound : (size : ℕ) (t : Table) (op : MiscOp) (a : ℕ) → IsAligned t → IsSound size (misc_row t op a)

@@ -14,6 +14,7 @@ use Rattle.axp_decode.specs.declared.instructions.Instr.{Instr}
 use Rattle.axp_decode.specs.declared.instructions.Instr.TheVariants.{Memory, Branch, Jump, Operate, Misc, Pal, Floating, Reserved}
 use Rattle.axp_decode.specs.declared.instructions.Operand.{Operand}
 use Rattle.axp_decode.specs.declared.instructions.Operand.TheVariants.{Reg, Literal}
+use Rattle.axp_decode.specs.declared.numbers.TheConstants.{BYTE_OPCODE}
 use Rattle.axp_decode.specs.declared.names.BranchOp.{BranchOp}
 use Rattle.axp_decode.specs.declared.names.BranchOp.TheVariants.{BR, BSR, BLBC, BLBS, BEQ, BNE, BLT, BLE, BGE, BGT}
 use Rattle.axp_decode.specs.declared.names.MemOp.{MemOp}
@@ -129,7 +130,7 @@ operand t (Literal value) = value
 -- the operate format: an overflow is not built
 abbrev pub operate_row : Table → Op → ℕ → ℕ → ℕ → Plan
 operate_row t op a b c =
-    if operate_opcode op == 0x12 then wrote t c (bytes.value_of op a b) else
+    if operate_opcode op == BYTE_OPCODE then wrote t c (bytes.value_of op a b) else
     if integer.overflow_of op a b then Unbuilt else
     wrote t c (integer.value_of op a b (register t.state c))
 

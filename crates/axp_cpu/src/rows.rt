@@ -11,7 +11,7 @@ use crate::tables::{Table, Wanted};
 use axp_base::{Size, sext};
 use axp_branch::{taken, target};
 use axp_bytes::bytes;
-use axp_decode::{BranchOp, Instr, MemOp, MiscOp, Op, Operand, PalOp, opcode_number};
+use axp_decode::{BYTE_OPCODE, BranchOp, Instr, MemOp, MiscOp, Op, Operand, PalOp, opcode_number};
 use axp_integer::operate;
 use axp_regs::{Kind, ZERO_REGISTER};
 
@@ -187,7 +187,7 @@ fn compute(table: &Table, op: Op, a: u64, b: u64, c: u8) -> Phase
     ensures plan { (size : ℕ) → plan_of size table.now result ≡ operate_row table.now op a b c }
     ensures fits { PhaseFits result }
 {
-    if opcode_number(op) == 0x12 {
+    if opcode_number(op) == BYTE_OPCODE {
         return write(table, c, bytes(op, a, b));
     }
     let (value, overflows) = operate(op, a, b, table.state.get(c));
