@@ -1,59 +1,45 @@
 -- What an accepted event makes of a machine's parts.
-use Rattle.std.proofs.Common.{◌≡◌, ℕ, ◌+◌, ◌*◌, ◌^◌, ◌<◌, ◌≤◌, ◌||◌, Bool, true, false, cond, leb, List, [], ◌∷◌, ◌++◌, length, reverse, get_or, set, slice_get, Option, Some, None, All, is_some, arith, refl, sym, ap, ◌∙◌, subst, ⊎_elim}
+use Rattle.std.proofs.Common.{◌≡◌, ℕ, ◌+◌, ◌*◌, ◌^◌, ◌<◌, ◌≤◌, Bool, true, false, cond, ltb, List, [], ◌∷◌, ◌++◌, length, reverse, get_or, set, slice_get, Option, Some, None, All, arith, refl, sym, ap, ◌∙◌, subst}
 use Rattle.std.specs.Vec.{vec_len, vec_capacity}
 use Rattle.std.proofs.Math.ListN.{length-set}
 use Rattle.std.proofs.Math.Nat.{mul-le-mul_left}
 use Rattle.std.proofs.lemmas.List.{length-reverse, reverse-append}
-use Rattle.std.proofs.lemmas.Bool.{cases_lt, le-leb}
-use Rattle.std.proofs.lemmas.Option.{slice_get-get_or, get_or_from_slice_get, slice_get_within}
+use Rattle.std.proofs.lemmas.Option.{slice_get-get_or}
 use Rattle.axp_access.specs.declared.Access.{Access}
 use Rattle.axp_access.specs.declared.Event.{Event}
-use Rattle.axp_regs.specs.declared.asks.Kind.{Kind}
+use Rattle.axp_access.specs.declared.Outcome.{Outcome}
 use Rattle.axp_access.specs.declared.Outcome.TheVariants as outcome
 use Rattle.axp_access.specs.declared.Record.{Record}
 use Rattle.axp_access.specs.Spelling.{IsPlaceOf, Spells}
 use Rattle.axp_base.specs.declared.processors.Cpu.{Cpu}
 use Rattle.axp_base.specs.declared.processors.TheConstants.{MAX_CPUS, MAX_BUDGET}
 use Rattle.axp_base.specs.Cpus.{cpu_number}
+use Rattle.axp_cpu.specs.declared.processors.Processor.{Processor}
+use Rattle.axp_cpu.specs.declared.tables.Wanted.{Wanted}
+use Rattle.axp_cpu.specs.Seats.{Seat, leads, stepped, wanted}
+use Rattle.axp_cpu.specs.Stands.{Stands}
 use Rattle.axp_model.specs.Turns.{turns, turns_of_kind}
 use Rattle.axp_model.specs.Places.{place_at}
 use Rattle.axp_model.proofs.Turns.{turns_of_kind-le, turns-le}
+use Rattle.axp_regs.specs.declared.asks.Kind.{Kind}
 use Rattle.axp_machine.specs.declared.machine.Machine.TheInside.{Inside}
-use Rattle.axp_machine.specs.declared.phases.Wanted.{Wanted}
-use Rattle.axp_machine.specs.declared.processor.Processor.{Processor}
-use Rattle.axp_machine.specs.declared.processor.Step.{Step}
+use Rattle.axp_machine.specs.declared.steps.Step.{Step}
 use Rattle.axp_machine.specs.Plains.{after_access}
-use Rattle.axp_machine.specs.Phases.{plan_of}
-use Rattle.axp_machine.specs.Plans.{Plan, End, Want, Unbuilt, given, is_built}
-use Rattle.axp_machine.specs.Runs.{Seen, IsRunOf, seat, step_of, access_of, given_by, value_of, made_access, outcome_of, after_event}
-use Rattle.axp_machine.specs.Seats.{stepped}
-use Rattle.axp_machine.specs.Soundness.{IsInside}
-use Rattle.axp_machine.specs.Stands.{Stands, LeadsOn, StepsOf, IsReady, is_done, step_at, plan_left, number_there, moved_on}
+use Rattle.axp_machine.specs.Runs.{Seen, IsRunOf, seat, seat_of, step_by, step_of, there_after, access_of, given_by, value_given, made_access, outcome_of, after_event}
+use Rattle.axp_machine.specs.Steps.{AreMade, Chooses, IsMade, Sits}
 use Rattle.axp_machine.specs.Ties.{Ties, seen, history}
 use Rattle.axp_machine.proofs.MemoryLemmas.{memory_step}
-use Rattle.axp_machine.proofs.RoomLemmas.{run_fits}
-use Rattle.axp_machine.proofs.SeatLemmas.{all_ready, outcome_is, seats_step, stands_step}
+use Rattle.axp_machine.proofs.RoomLemmas.{outcome_if, run_fits}
+use Rattle.axp_machine.proofs.SeatLemmas.{Comes, all_sit, comes, seats_step}
 
--- the processor that makes a step, by its place in the list
-pub record Taken (budget : ℕ) (bytes : List ℕ) (ps : List Processor) (c : ℕ) (s : Step) : Type 0 where
-  pub processor : Processor
-  pub at : slice_get ps c ≡ Some processor
-  pub leads : LeadsOn bytes processor s
-  pub undone : is_done budget processor ≡ false
-
-taken_by : (budget : ℕ) (bytes : List ℕ) (ps : List Processor) (c : ℕ) (s : Step) (o : Option Processor) → slice_get ps c ≡ o → StepsOf budget bytes o s → Taken budget bytes ps c s
-taken_by budget bytes ps c s None at steps = absurd steps
-taken_by budget bytes ps c s (Some p) at steps = record { processor = p; at = at; leads = steps.0; undone = steps.1 }
-
-pub taken : (budget : ℕ) (bytes : List ℕ) (ps : List Processor) (c : ℕ) (s : Step) → StepsOf budget bytes (slice_get ps c) s → Taken budget bytes ps c s
-taken budget bytes ps c s steps = taken_by budget bytes ps c s (slice_get ps c) refl steps
-
--- the processors are ready, as `next_step` asks
+-- the processors are at seats, as `next_step` asks
 all_from_each : (P : Processor → Type 0) (ps : List Processor) → ((p : ℕ) (x : Processor) → slice_get ps p ≡ Some x → P x) → All P ps
 all_from_each P ps each = λ k d below. each k (get_or ps k d) (slice_get-get_or ps k d below)
 
-pub ready : (a : Inside) → Ties a → All (IsReady (length a.memory.bytes)) a.processors.items
-ready a ties = all_from_each (IsReady (length a.memory.bytes)) a.processors.items (all_ready a.image a.processors.items (history a) (length a.memory.bytes) ties.memory.size ties.valid.whole_pages ties.seats)
+pub seated : (a : Inside) (ps : List Processor) → Ties a → ps ≡ a.processors.items → All (Sits (length a.memory.bytes)) ps
+seated a ps ties is =
+    subst (λ (qs : List Processor). All (Sits (length a.memory.bytes)) qs) (sym is)
+    (all_from_each (Sits (length a.memory.bytes)) a.processors.items (all_sit a.image a.budget a.processors.items (history a) (length a.memory.bytes) ties.memory.size ties.seats))
 
 most_records : (cpus budget : ℕ) → cpus ≤ MAX_CPUS → budget ≤ MAX_BUDGET → cpus * budget ≤ MAX_CPUS * MAX_BUDGET
 most_records cpus budget few least = omega (arith, mul-le-mul_left cpus least)
@@ -61,58 +47,50 @@ most_records cpus budget few least = omega (arith, mul-le-mul_left cpus least)
 pub few_turns : (a : Inside) → Ties a → a.turns < 2 ^ 31
 few_turns a ties = omega (arith, turns-le (history a), run_fits a.image (length a.processors.items) a.budget (history a) ties.run, most_records (length a.processors.items) a.budget ties.cpus ties.budget, ties.turns)
 
--- the event's outcome is the step's access
-pub gives : (a : Inside) (e : Event) (s : Step) → Ties a → Some s.access ≡ step_at a.budget a.memory.bytes a.turns e.cpu (slice_get a.processors.items (cpu_number e.cpu)) → outcome_of (seen a) e ≡ Some (outcome.Access s.access)
-gives a e s ties is =
-    sym (ap made_access is ∙ ap (λ t. made_access (step_at a.budget a.memory.bytes t e.cpu (slice_get a.processors.items (cpu_number e.cpu)))) ties.turns
-    ∙ outcome_is a.image a.memory a.processors.items a.budget (history a) e ties.valid.whole_pages ties.memory ties.seats)
+-- what the step that the code chose says of the event
+pub chosen : (a : Inside) (ps : List Processor) (e : Event) (o : Option Step) → Ties a → ps ≡ a.processors.items → Chooses a.memory.bytes a.turns e.cpu (slice_get ps (cpu_number e.cpu)) o
+    → Comes a.image (length a.processors.items) a.budget (history a) e o
+chosen a ps e o ties is chooses =
+    let here = subst (λ (qs : List Processor). Chooses a.memory.bytes a.turns e.cpu (slice_get qs (cpu_number e.cpu)) o) is chooses in
+    let now = subst (λ t. Chooses a.memory.bytes t e.cpu (slice_get a.processors.items (cpu_number e.cpu)) o) ties.turns here in
+    comes a.image a.memory a.processors.items a.budget (history a) e o ties.memory ties.seats now
 
-pub refuses : (a : Inside) (e : Event) → Ties a → None ≡ step_at a.budget a.memory.bytes a.turns e.cpu (slice_get a.processors.items (cpu_number e.cpu)) → outcome_of (seen a) e ≡ None
-refuses a e ties is =
-    sym (ap made_access is ∙ ap (λ t. made_access (step_at a.budget a.memory.bytes t e.cpu (slice_get a.processors.items (cpu_number e.cpu)))) ties.turns
-    ∙ outcome_is a.image a.memory a.processors.items a.budget (history a) e ties.valid.whole_pages ties.memory ties.seats)
+-- a step that is chosen, by the machine's parts
+pub record Taken (a : Inside) (e : Event) (s : Step) : Type 0 where
+  pub gave : outcome_of (seen a) e ≡ Some (outcome.Access s.access)
+  pub stands : Stands s.processor (stepped (seat a.image a.budget (cpu_number e.cpu) (history a)) (given_by s.access.kind s.access.value))
+  pub below : cpu_number e.cpu < length a.processors.items
+  pub made : IsMade a.image.size s.access
+
+pub taken : (a : Inside) (ps : List Processor) (e : Event) (s : Step) → Ties a → ps ≡ a.processors.items → Chooses a.memory.bytes a.turns e.cpu (slice_get ps (cpu_number e.cpu)) (Some s) → IsMade (length a.memory.bytes) s.access → Taken a e s
+taken a ps e s ties is chooses made =
+    let come = chosen a ps e (Some s) ties is chooses in
+    record { gave = come.0; stands = come.1; below = come.2; made = subst (λ n. IsMade n s.access) ties.memory.size made }
 
 abbrev pub record_of : Event → Step → Record
 record_of e s = record { event = e; outcome = outcome.Access s.access }
 
 -- the run goes on with the step's record
-pub runs : (a : Inside) (e : Event) (s : Step) → Ties a → outcome_of (seen a) e ≡ Some (outcome.Access s.access) → IsRunOf a.image (length a.processors.items) a.budget (record_of e s ∷ history a)
-runs a e s ties gave = (gave, ties.run)
+pub runs : (a : Inside) (e : Event) (s : Step) → Ties a → Taken a e s → IsRunOf a.image (length a.processors.items) a.budget (record_of e s ∷ history a)
+runs a e s ties t = (t.gave, ties.run)
 
-pub has_room : (a : Inside) (e : Event) (s : Step) → Ties a → outcome_of (seen a) e ≡ Some (outcome.Access s.access) → vec_len a.records < vec_capacity a.records
-has_room a e s ties gave =
-    omega (arith, run_fits a.image (length a.processors.items) a.budget (record_of e s ∷ history a) (runs a e s ties gave), a.records.ok.0, length-reverse a.records.items, ties.room)
-
-undone_steps : (halted : Bool) (budget n : ℕ) → halted || leb budget n ≡ false → n < budget
-undone_steps true budget n h = cc
-undone_steps false budget n h = ⊎_elim (λ lt. lt) (λ le. let t : leb budget n ≡ true = le-leb budget n le in cc) (cases_lt n budget)
-
-pub few_steps : (a : Inside) (c : ℕ) (s : Step) → Ties a → (t : Taken a.budget a.memory.bytes a.processors.items c s) → t.processor.steps + 1 < 2 ^ 32
-few_steps a c s ties t = omega (arith, undone_steps (is_some t.processor.table.halted) a.budget t.processor.steps t.undone, ties.budget)
-
--- the processor's seat moves with it
-moves : (a : Inside) (e : Event) (s : Step) → Ties a → (t : Taken a.budget a.memory.bytes a.processors.items (cpu_number e.cpu) s)
-    → Stands a.image.size (moved_on t.processor s.phase) (stepped a.image.size (seat a.image (cpu_number e.cpu) (history a)) (given_by s.access.kind s.access.value))
-moves a e s ties t =
-    let size = ties.memory.size in
-    let plan = subst (λ n. plan_of n t.processor.table s.phase ≡ given (given_by s.access.kind s.access.value) (plan_left n t.processor)) size t.leads.plan in
-    let built = subst (λ n. is_built (plan_of n t.processor.table s.phase) ≡ true) size t.leads.built in
-    stands_step a.image.size t.processor (seat a.image (cpu_number e.cpu) (history a)) s.phase (given_by s.access.kind s.access.value) ties.valid.whole_pages (ties.seats (cpu_number e.cpu) t.processor t.at) plan built t.leads.fits
+pub has_room : (a : Inside) (e : Event) (s : Step) → Ties a → Taken a e s → vec_len a.records < vec_capacity a.records
+has_room a e s ties t =
+    omega (arith, run_fits a.image (length a.processors.items) a.budget (record_of e s ∷ history a) (runs a e s ties t), a.records.ok.0, length-reverse a.records.items, ties.room)
 
 -- the machine's parts after the step
-pub ties_step : (a a' : Inside) (e : Event) (s : Step) → Ties a → outcome_of (seen a) e ≡ Some (outcome.Access s.access) → (t : Taken a.budget a.memory.bytes a.processors.items (cpu_number e.cpu) s)
-    → a'.image ≡ a.image → a'.memory ≡ after_access s.access a.memory → a'.processors.items ≡ set a.processors.items (cpu_number e.cpu) (moved_on t.processor s.phase) → a'.budget ≡ a.budget
+pub ties_step : (a a' : Inside) (e : Event) (s : Step) → Ties a → Taken a e s
+    → a'.image ≡ a.image → a'.memory ≡ after_access s.access a.memory → a'.processors.items ≡ set a.processors.items (cpu_number e.cpu) s.processor → a'.budget ≡ a.budget
     → a'.turns ≡ turns_of_kind s.access.kind + a.turns → a'.records.items ≡ a.records.items ++ record_of e s ∷ [] → vec_capacity a'.records ≡ vec_capacity a.records → Ties a'
-ties_step a a' e s ties gave t image memory processors budget counted records room =
+ties_step a a' e s ties t image memory processors budget counted records room =
     let shown : history a' ≡ record_of e s ∷ history a = ap reverse records ∙ reverse-append a.records.items (record_of e s ∷ []) in
-    let count : length a'.processors.items ≡ length a.processors.items = ap length processors ∙ length-set a.processors.items (cpu_number e.cpu) (moved_on t.processor s.phase) in
-    let inside : IsInside a.image.size s.access.kind s.access.address s.access.size = subst (λ n. IsInside n s.access.kind s.access.address s.access.size) ties.memory.size t.leads.inside in
+    let count : length a'.processors.items ≡ length a.processors.items = ap length processors ∙ length-set a.processors.items (cpu_number e.cpu) s.processor in
     record {
       valid = rw image ties.valid;
-      memory = rw (image, memory, shown) (memory_step a.image a.memory e s.access (history a) ties.valid.whole_pages inside ties.memory);
+      memory = rw (image, memory, shown) (memory_step a.image a.memory e s.access (history a) ties.valid.whole_pages t.made.inside ties.memory);
       turns = counted ∙ ap (λ n. turns_of_kind s.access.kind + n) ties.turns ∙ sym (ap turns shown);
-      seats = rw (image, processors, shown) (seats_step a.image a.processors.items (history a) e s.access (moved_on t.processor s.phase) (moves a e s ties t) ties.seats);
-      run = rw (image, count, budget, shown) (runs a e s ties gave);
+      seats = rw (image, processors, budget, shown) (seats_step a.image a.budget a.processors.items (history a) e s.access s.processor t.stands ties.seats);
+      run = rw (image, count, budget, shown) (runs a e s ties t);
       cpus = rw count ties.cpus;
       budget = rw budget ties.budget;
       room = rw (count, budget, room) ties.room;
@@ -135,50 +113,37 @@ step_is_by : (built : Bool) (cpu : Cpu) (t : ℕ) (w : Wanted) (n : ℕ) (a : Ac
 step_is_by true cpu t w n a is = let same : access_of cpu t w n ≡ a = cc in (ap (λ (b : Access). b.cpu) (sym same), subst (λ (b : Access). b.place ≡ place_at t b.kind) same refl)
 step_is_by false cpu t w n a is = cc
 
-step_is : (cpu : Cpu) (t : ℕ) (there : Wanted → ℕ) (p : Plan) (a : Access) → step_of cpu t there p ≡ Some a → (a.cpu ≡ cpu) × (a.place ≡ place_at t a.kind)
-step_is cpu t there (End u) a is = cc
-step_is cpu t there (Want w k) a is = step_is_by (is_built (k (given_by w.kind (value_of w.kind w.value (there w))))) cpu t w (there w) a is
-step_is cpu t there Unbuilt a is = cc
+step_is : (cpu : Cpu) (t : ℕ) (there : Wanted → ℕ) (s : Seat) (q : Option Wanted) (a : Access) → step_by cpu t there s q ≡ Some a → (a.cpu ≡ cpu) × (a.place ≡ place_at t a.kind)
+step_is cpu t there s None a is = cc
+step_is cpu t there s (Some w) a is = step_is_by (leads s (value_given w (there w))) cpu t w (there w) a is
 
-undone_is : (done : Bool) (o : Option Access) (a : Access) → cond done None o ≡ Some a → o ≡ Some a
-undone_is true o a is = cc
-undone_is false o a is = is
+made_is : (o : Option Access) (a : Access) → made_access o ≡ Some (outcome.Access a) → o ≡ Some a
+made_is None a is = cc
+made_is (Some b) a is = cc
 
-at_is : (budget : ℕ) (bytes : List ℕ) (t : ℕ) (cpu : Cpu) (o : Option Processor) (a : Access) → step_at budget bytes t cpu o ≡ Some a → (a.cpu ≡ cpu) × (a.place ≡ place_at t a.kind)
-at_is budget bytes t cpu None a is = cc
-at_is budget bytes t cpu (Some p) a is = step_is cpu t (number_there bytes) (plan_left (length bytes) p) a (undone_is (is_done budget p) _ a is)
+outcome_is : (m : Seen) (e : Event) (a : Access) → outcome_of m e ≡ Some (outcome.Access a) → (a.cpu ≡ e.cpu) × (a.place ≡ place_at (turns m.records) a.kind)
+unfolding outcome_of
+outcome_is m e a is =
+    let made = (outcome_if (ltb (cpu_number e.cpu) m.cpus) _ (outcome.Access a) is).1 in
+    let s = seat_of m (cpu_number e.cpu) in
+    step_is e.cpu (turns m.records) (there_after m.image m.records) s (wanted s) a (made_is _ a made)
 
 place_fits : (kind : Kind) (t : ℕ) → t < 2 ^ 31 → IsPlaceOf kind (place_at t kind)
 place_fits kind t few = omega (arith, turns_of_kind-le kind)
 
 -- one line of a trace spells the event and its outcome
-pub spells : (a : Inside) (e : Event) (s : Step) → Ties a → Some s.access ≡ step_at a.budget a.memory.bytes a.turns e.cpu (slice_get a.processors.items (cpu_number e.cpu)) → (t : Taken a.budget a.memory.bytes a.processors.items (cpu_number e.cpu) s)
-    → Spells e (outcome.Access s.access)
-spells a e s ties is t =
-    let own = at_is a.budget a.memory.bytes a.turns e.cpu (slice_get a.processors.items (cpu_number e.cpu)) s.access (sym is) in (
+pub spells : (a : Inside) (e : Event) (s : Step) → Ties a → Taken a e s → Spells e (outcome.Access s.access)
+spells a e s ties t =
+    let own = outcome_is (seen a) e s.access t.gave in (
       own.0,
       record {
-        size = t.leads.inside.sized;
-        aligned = t.leads.inside.aligned;
-        address = address_fits a s ties t.leads.inside.within;
-        value = t.leads.small;
-        place = subst (IsPlaceOf s.access.kind) (sym own.1) (place_fits s.access.kind a.turns (few_turns a ties));
+        size = t.made.inside.sized;
+        aligned = t.made.inside.aligned;
+        address = address_fits a s ties t.made.inside.within;
+        value = t.made.small;
+        place = subst (IsPlaceOf s.access.kind) (sym own.1) (place_fits s.access.kind (turns (history a)) (subst (λ n. n < 2 ^ 31) ties.turns (few_turns a ties)));
       },
     )
   where
-    address_fits : (a : Inside) (s : Step) → Ties a → s.access.address + s.access.size ≤ length a.memory.bytes → s.access.address < 2 ^ 32
-    address_fits a s ties within = omega (arith, ties.memory.size, ties.valid.most_size)
-
--- the same over the slice of the processors that the code passes
-pub taken_in : (a : Inside) (ps : List Processor) (e : Event) (s : Step) → ps ≡ a.processors.items → StepsOf a.budget a.memory.bytes (slice_get ps (cpu_number e.cpu)) s → Taken a.budget a.memory.bytes a.processors.items (cpu_number e.cpu) s
-taken_in a ps e s is steps = taken a.budget a.memory.bytes a.processors.items (cpu_number e.cpu) s (subst (λ (qs : List Processor). StepsOf a.budget a.memory.bytes (slice_get qs (cpu_number e.cpu)) s) is steps)
-
-pub step_in : (a : Inside) (ps : List Processor) (e : Event) (o : Option Access) → ps ≡ a.processors.items → o ≡ step_at a.budget a.memory.bytes a.turns e.cpu (slice_get ps (cpu_number e.cpu)) → o ≡ step_at a.budget a.memory.bytes a.turns e.cpu (slice_get a.processors.items (cpu_number e.cpu))
-step_in a ps e o is steps = subst (λ (qs : List Processor). o ≡ step_at a.budget a.memory.bytes a.turns e.cpu (slice_get qs (cpu_number e.cpu))) is steps
-
--- the processor that the code lends by its index is the one that makes the step
-pub lent : (a : Inside) (c i : ℕ) (s : Step) (x : Processor) → (t : Taken a.budget a.memory.bytes a.processors.items c s) → i ≡ c → x ≡ get_or a.processors.items i x → x ≡ t.processor
-lent a c i s x t is at = at ∙ ap (λ j. get_or a.processors.items j x) is ∙ get_or_from_slice_get a.processors.items c t.processor x t.at
-
-pub index_within : (a : Inside) (c i : ℕ) (s : Step) → (t : Taken a.budget a.memory.bytes a.processors.items c s) → i ≡ c → i < vec_len a.processors
-index_within a c i s t is = omega (arith, slice_get_within a.processors.items c t.processor t.at, a.processors.ok.0, is)
+    address_fits : (a : Inside) (s : Step) → Ties a → s.access.address + s.access.size ≤ a.image.size → s.access.address < 2 ^ 32
+    address_fits a s ties within = omega (arith, ties.valid.most_size)

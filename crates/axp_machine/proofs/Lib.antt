@@ -1,5 +1,4 @@
 pub mod PlainLemmas
-pub mod PlanLemmas
 pub mod MemoryLemmas
 pub mod SeatLemmas
 pub mod RoomLemmas

@@ -8,18 +8,18 @@ use Rattle.axp_base.specs.Parts.{part}
 use Rattle.axp_base.specs.declared.parts.TheConstants.{QUADWORD_BYTES}
 use Rattle.axp_image.specs.Contents.{Contents, IsValid}
 use Rattle.axp_machine.specs.declared.machine.Machine.TheInside.{Inside}
-use Rattle.axp_machine.specs.declared.processor.Processor.{Processor}
-use Rattle.axp_machine.specs.Runs.{Seen, started, seat, are_finished, quadword_of}
-use Rattle.axp_machine.specs.Seats.{first_seat}
-use Rattle.axp_machine.specs.Stands.{Stands, StartsAll, is_done}
+use Rattle.axp_cpu.specs.declared.processors.Processor.{Processor}
+use Rattle.axp_cpu.specs.Seats.{first_seat, is_finished}
+use Rattle.axp_cpu.specs.Stands.{Stands}
+use Rattle.axp_machine.specs.Runs.{Seen, started, seat, seat_of, are_finished, quadword_of}
+use Rattle.axp_machine.specs.Steps.{StartsAll}
 use Rattle.axp_machine.specs.Ties.{Ties, MemoryIs, seen, history}
 use Rattle.axp_machine.specs.Plains.{Plain, IsLoaded}
 use Rattle.axp_model.specs.Sources.{memory_byte}
 use Rattle.axp_machine.proofs.MemoryLemmas.{number_there-after}
-use Rattle.axp_machine.proofs.SeatLemmas.{done_same}
 
 -- the processor at a place of the list is at its seat
-pub seated_at : (a : Inside) (c i : ℕ) (x : Processor) → Ties a → i ≡ c → c < length a.processors.items → x ≡ get_or a.processors.items i x → Stands a.image.size x (seat a.image c (history a))
+pub seated_at : (a : Inside) (c i : ℕ) (x : Processor) → Ties a → i ≡ c → c < length a.processors.items → x ≡ get_or a.processors.items i x → Stands x (seat a.image a.budget c (history a))
 seated_at a c i x ties is below at =
     ties.seats c x (slice_get-get_or a.processors.items c x below ∙ ap Some (sym (at ∙ ap (λ j. get_or a.processors.items j x) is)))
 
@@ -27,12 +27,13 @@ pub below_seen : (a : Inside) (m : Seen) (c : ℕ) → seen a ≡ m → c < m.cp
 below_seen a m c shown below = subst (λ (s : Seen). c < s.cpus) (sym shown) below
 
 -- one more processor looked at
-pub finished_more : (a : Inside) (m : Seen) (ps : List Processor) (n : ℕ) (d : Processor) (so_far tested : Bool) → Ties a → seen a ≡ m → ps ≡ a.processors.items → n < length ps → tested ≡ is_done a.budget (get_or ps n d) → so_far ≡ are_finished n m
+pub finished_more : (a : Inside) (m : Seen) (ps : List Processor) (n : ℕ) (d : Processor) (so_far tested : Bool) → Ties a → seen a ≡ m → ps ≡ a.processors.items → n < length ps
+    → (Stands (get_or ps n d) (seat a.image a.budget n (history a)) → tested ≡ is_finished (seat a.image a.budget n (history a))) → so_far ≡ are_finished n m
     → so_far && tested ≡ are_finished (n + 1) m
 finished_more a m ps n d so_far tested ties shown is below tests so_far_is =
     let at : slice_get a.processors.items n ≡ Some (get_or ps n d) = subst (λ (qs : List Processor). slice_get qs n ≡ Some (get_or ps n d)) is (slice_get-get_or ps n d below) in
-    let done = done_same a.image.size a.budget (get_or ps n d) (seat a.image n (history a)) (ties.seats n (get_or ps n d) at) in
-    rw (add-one, so_far_is, tests, done, ← shown) refl
+    let done = tests (ties.seats n (get_or ps n d) at) in
+    rw (add-one, so_far_is, done, ← shown) refl
 
 pub reads_quadword : (a : Inside) (m : Seen) (q : ℕ) → Ties a → seen a ≡ m → q * QUADWORD_BYTES < m.image.size → part a.memory.bytes (q * QUADWORD_BYTES) QUADWORD_BYTES ≡ quadword_of m q
 reads_quadword a m q ties shown below =
@@ -49,10 +50,10 @@ pushed P (y ∷ ps) new here first zero x at = first 0 x at
 pushed P (y ∷ ps) new here first (suc p) x at = pushed (λ q z. P (suc q) z) ps new here (λ q z e. first (suc q) z e) p x at
 
 -- one more processor started
-pub started_more : (image : Contents) (ps qs : List Processor) (new : Processor) (n : ℕ) → StartsAll image n ps → Stands image.size new (first_seat image n) → qs ≡ ps ++ new ∷ [] → StartsAll image (n + 1) qs
-started_more image ps qs new n starts stands pushes = rw pushes (record {
+pub started_more : (image : Contents) (budget : ℕ) (ps qs : List Processor) (new : Processor) (n : ℕ) → StartsAll image budget n ps → Stands new (first_seat image budget n) → qs ≡ ps ++ new ∷ [] → StartsAll image budget (n + 1) qs
+started_more image budget ps qs new n starts stands pushes = rw pushes (record {
   count = length-append ps (new ∷ []) ∙ omega (arith, starts.count);
-  first = pushed (λ p x. Stands image.size x (first_seat image p)) ps new (rw starts.count stands) starts.first;
+  first = pushed (λ p x. Stands x (first_seat image budget p)) ps new (rw starts.count stands) starts.first;
 })
 
 slice_get-replicate : (n q : ℕ) (b : Bool) → q < n → slice_get (replicate n b) q ≡ Some b
@@ -74,7 +75,7 @@ loaded_memory image m loaded = record {
 }
 
 -- a machine's parts at the start
-pub ties_start : (a : Inside) (cpus : ℕ) → IsValid a.image → IsLoaded a.image a.memory → StartsAll a.image cpus a.processors.items → a.turns ≡ 0 → a.records.items ≡ [] → cpus ≤ MAX_CPUS → a.budget ≤ MAX_BUDGET → vec_capacity a.records ≡ cpus * a.budget
+pub ties_start : (a : Inside) (cpus : ℕ) → IsValid a.image → IsLoaded a.image a.memory → StartsAll a.image a.budget cpus a.processors.items → a.turns ≡ 0 → a.records.items ≡ [] → cpus ≤ MAX_CPUS → a.budget ≤ MAX_BUDGET → vec_capacity a.records ≡ cpus * a.budget
     → Ties a
 ties_start a cpus valid loaded starts turns none few least room =
     let empty : history a ≡ [] = ap reverse none in

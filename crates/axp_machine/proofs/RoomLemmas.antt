@@ -6,9 +6,13 @@ use Rattle.axp_access.specs.declared.Outcome.{Outcome}
 use Rattle.axp_access.specs.declared.Record.{Record}
 use Rattle.axp_base.specs.Cpus.{cpu_number}
 use Rattle.axp_image.specs.Contents.{Contents}
-use Rattle.axp_machine.specs.Plans.{Plan, End, Want, Unbuilt}
-use Rattle.axp_machine.specs.Runs.{Seen, seat, may_step, outcome_of, IsRunOf, given_by_outcome}
-use Rattle.axp_machine.specs.Seats.{Seat, moved, stepped, is_finished}
+use Rattle.axp_base.specs.declared.processors.Cpu.{Cpu}
+use Rattle.axp_cpu.specs.declared.tables.Wanted.{Wanted}
+use Rattle.axp_cpu.specs.Plans.{Plan, End, Want, Unbuilt}
+use Rattle.axp_access.specs.declared.Access.{Access}
+use Rattle.axp_cpu.specs.Seats.{Seat, is_finished, moved, plan_now, stepped, wanted, wanted_by}
+use Rattle.axp_machine.specs.Runs.{Seen, seat, seat_of, step_by, step_of, there_after, made_access, outcome_of, IsRunOf, given_by_outcome}
+use Rattle.axp_model.specs.Turns.{turns}
 
 -- how many records a processor has
 abbrev made_by : ℕ → List Record → ℕ
@@ -20,40 +24,53 @@ steps-moved s vs (End t) = refl
 steps-moved s vs (Want w k) = refl
 steps-moved s vs Unbuilt = refl
 
-steps_by : (mine : Bool) (size : ℕ) (s : Seat) (v n : ℕ) → s.steps ≡ n → (cond mine (stepped size s v) s).steps ≡ cond mine 1 0 + n
-steps_by true size s v n is = steps-moved s _ _ ∙ omega (arith, is)
-steps_by false size s v n is = omega (arith, is)
+steps_by : (mine : Bool) (s : Seat) (v n : ℕ) → s.steps ≡ n → (cond mine (stepped s v) s).steps ≡ cond mine 1 0 + n
+steps_by true s v n is = steps-moved s _ _ ∙ omega (arith, is)
+steps_by false s v n is = omega (arith, is)
+
+budget-moved : (s : Seat) (vs : List ℕ) (p : Plan) → (moved s vs p).budget ≡ s.budget
+budget-moved s vs (End t) = refl
+budget-moved s vs (Want w k) = refl
+budget-moved s vs Unbuilt = refl
+
+budget_by : (mine : Bool) (s : Seat) (v n : ℕ) → s.budget ≡ n → (cond mine (stepped s v) s).budget ≡ n
+budget_by true s v n is = budget-moved s _ _ ∙ is
+budget_by false s v n is = is
+
+budget-seat : (image : Contents) (budget p : ℕ) (h : List Record) → (seat image budget p h).budget ≡ budget
+budget-seat image budget p [] = refl
+budget-seat image budget p (r ∷ h) = budget_by (eqb (cpu_number r.event.cpu) p) (seat image budget p h) (given_by_outcome r.outcome) budget (budget-seat image budget p h)
 
 -- a seat's steps are its processor's records
-steps-seat : (image : Contents) (p : ℕ) (h : List Record) → (seat image p h).steps ≡ made_by p h
-steps-seat image p [] = refl
-steps-seat image p (r ∷ h) = steps_by (eqb (cpu_number r.event.cpu) p) image.size (seat image p h) (given_by_outcome r.outcome) (made_by p h) (steps-seat image p h)
+steps-seat : (image : Contents) (budget p : ℕ) (h : List Record) → (seat image budget p h).steps ≡ made_by p h
+steps-seat image budget p [] = refl
+steps-seat image budget p (r ∷ h) = steps_by (eqb (cpu_number r.event.cpu) p) (seat image budget p h) (given_by_outcome r.outcome) (made_by p h) (steps-seat image budget p h)
 
-both-true : (a b : Bool) → a && b ≡ true → (a ≡ true) × (b ≡ true)
-both-true true b h = (refl, h)
-both-true false b h = cc
-
-outcome_if : (tested : Bool) (made : Option Outcome) (o : Outcome) → cond tested made None ≡ Some o → tested ≡ true
-outcome_if true made o h = refl
+pub outcome_if : (tested : Bool) (made : Option Outcome) (o : Outcome) → cond tested made None ≡ Some o → (tested ≡ true) × (made ≡ Some o)
+outcome_if true made o h = (refl, h)
 outcome_if false made o h = cc
-
--- an accepted event is one of a processor that may step
-pub accepted_may : (m : Seen) (e : Event) (o : Outcome) → outcome_of m e ≡ Some o → may_step m e ≡ true
-unfolding outcome_of
-accepted_may m e o h = outcome_if (may_step m e) _ o h
-
-unfinished : (halted spent : Bool) → not (halted || spent) ≡ true → spent ≡ false
-unfinished true spent h = cc
-unfinished false true h = cc
-unfinished false false h = refl
 
 leb_false : (a b : ℕ) → leb a b ≡ false → b < a
 leb_false a b h = ⊎_elim (λ lt. lt) (λ le. let t : leb a b ≡ true = le-leb a b le in cc) (cases_lt b a)
 
-pub may_within : (m : Seen) (e : Event) → may_step m e ≡ true → (cpu_number e.cpu < m.cpus) × ((seat m.image (cpu_number e.cpu) m.records).steps < m.budget)
-may_within m e may =
-    let parts = both-true (ltb (cpu_number e.cpu) m.cpus) (not (is_finished m.budget (seat m.image (cpu_number e.cpu) m.records))) may in
-    (ltb-true (cpu_number e.cpu) m.cpus parts.0, leb_false m.budget _ (unfinished _ _ parts.1))
+unspent : (halted spent : Bool) (o : Option Wanted) (w : Wanted) → cond (halted || spent) None o ≡ Some w → spent ≡ false
+unspent true spent o w h = cc
+unspent false true o w h = cc
+unspent false false o w h = refl
+
+steps_left : (cpu : Cpu) (t : ℕ) (there : Wanted → ℕ) (s : Seat) (q : Option Wanted) (o : Outcome) → wanted s ≡ q → made_access (step_by cpu t there s q) ≡ Some o → s.steps < s.budget
+steps_left cpu t there s None o wants h = cc
+steps_left cpu t there s (Some w) o wants h = leb_false s.budget s.steps (unspent _ _ (wanted_by (plan_now s)) w wants)
+
+-- an accepted event is one of a processor of the machine that has steps left
+pub accepted_within : (m : Seen) (e : Event) (o : Outcome) → outcome_of m e ≡ Some o → (cpu_number e.cpu < m.cpus) × ((seat_of m (cpu_number e.cpu)).steps < m.budget)
+unfolding outcome_of
+accepted_within m e o h =
+    let parts = outcome_if (ltb (cpu_number e.cpu) m.cpus) _ o h in
+    let s = seat_of m (cpu_number e.cpu) in (
+      ltb-true (cpu_number e.cpu) m.cpus parts.0,
+      subst (λ n. s.steps < n) (budget-seat m.image m.budget (cpu_number e.cpu) m.records) (steps_left e.cpu (turns m.records) (there_after m.image m.records) s (wanted s) o refl parts.1),
+    )
 
 abbrev AreBelow : ℕ → List Record → Type 0
 AreBelow n [] = Unit {0}
@@ -62,7 +79,7 @@ AreBelow n (r ∷ h) = (cpu_number r.event.cpu < n) × AreBelow n h
 run_below : (image : Contents) (cpus budget : ℕ) (h : List Record) → IsRunOf image cpus budget h → AreBelow cpus h
 run_below image cpus budget [] run = tt
 run_below image cpus budget (r ∷ h) run =
-    ((may_within (record { image = image; cpus = cpus; budget = budget; records = h }) r.event (accepted_may _ r.event r.outcome run.0)).0, run_below image cpus budget h run.1)
+    ((accepted_within (record { image = image; cpus = cpus; budget = budget; records = h }) r.event r.outcome run.0).0, run_below image cpus budget h run.1)
 
 made_if : (c p n most : ℕ) → (c ≡ p → n < most) → n ≤ most → cond (eqb c p) 1 0 + n ≤ most
 made_if c p n most same others = ⊎_elim (λ e. rw (eq-eqb c p e) (omega (arith, same e))) (λ ne. rw (ne_eqb c p ne) (omega (arith, others))) (cases_eq c p)
@@ -70,8 +87,8 @@ made_if c p n most same others = ⊎_elim (λ e. rw (eq-eqb c p e) (omega (arith
 run_most : (image : Contents) (cpus budget : ℕ) (h : List Record) → IsRunOf image cpus budget h → (p : ℕ) → made_by p h ≤ budget
 run_most image cpus budget [] run p = omega arith
 run_most image cpus budget (r ∷ h) run p =
-    let may = may_within (record { image = image; cpus = cpus; budget = budget; records = h }) r.event (accepted_may _ r.event r.outcome run.0) in
-    made_if (cpu_number r.event.cpu) p (made_by p h) budget (λ same. let few : made_by (cpu_number r.event.cpu) h < budget = subst (λ n. n < budget) (steps-seat image (cpu_number r.event.cpu) h) may.1 in subst (λ q. made_by q h < budget) same few) (run_most image cpus budget h run.1 p)
+    let may = accepted_within (record { image = image; cpus = cpus; budget = budget; records = h }) r.event r.outcome run.0 in
+    made_if (cpu_number r.event.cpu) p (made_by p h) budget (λ same. let few : made_by (cpu_number r.event.cpu) h < budget = subst (λ n. n < budget) (steps-seat image budget (cpu_number r.event.cpu) h) may.1 in subst (λ q. made_by q h < budget) same few) (run_most image cpus budget h run.1 p)
 
 -- the sum of f at the numbers below n
 sum_below : ℕ → (ℕ → ℕ) → ℕ

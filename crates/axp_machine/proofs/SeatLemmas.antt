@@ -1,5 +1,5 @@
--- A processor stays at its seat, step by step.
-use Rattle.std.proofs.Common.{◌≡◌, ◌≢◌, ℕ, zero, suc, ◌+◌, ◌%◌, ◌<◌, ◌≤◌, not, Bool, true, false, cond, ltb, List, [], ◌∷◌, ◌++◌, length, set, slice_get, Option, Some, None, arith, refl, sym, ap, ◌∙◌, subst, ⊎_elim}
+-- A machine's processors stay at their seats, and their steps are the events' outcomes.
+use Rattle.std.proofs.Common.{◌≡◌, ◌≢◌, ℕ, zero, suc, ◌+◌, ◌%◌, ◌<◌, ◌≤◌, Bool, true, false, cond, ltb, List, [], ◌∷◌, ◌++◌, length, set, slice_get, Option, Some, None, arith, refl, sym, ap, ◌∙◌, subst, ⊎_elim}
 use Rattle.std.proofs.Common.{get_or-set_other}
 use Rattle.std.proofs.Math.ListN.{length-set}
 use Rattle.std.proofs.lemmas.Grind.{get_or-set_at}
@@ -11,69 +11,62 @@ use Rattle.axp_access.specs.declared.Outcome.TheVariants as outcome
 use Rattle.axp_access.specs.declared.Record.{Record}
 use Rattle.axp_base.specs.declared.processors.Cpu.{Cpu}
 use Rattle.axp_base.specs.Cpus.{cpu_number}
+use Rattle.axp_cpu.specs.declared.processors.Processor.{Processor}
+use Rattle.axp_cpu.specs.declared.tables.Wanted.{Wanted}
+use Rattle.axp_cpu.specs.Plans.{Plan, End, Want, Unbuilt, along}
+use Rattle.axp_cpu.specs.Rows.{group}
+use Rattle.axp_cpu.specs.Seats.{Seat, is_finished, leads, moved, plan_now, stepped, wanted, wanted_by}
+use Rattle.axp_cpu.specs.Soundness.{IsSound}
+use Rattle.axp_cpu.specs.Stands.{Stands}
+use Rattle.axp_cpu.proofs.SeatLemmas.{seat_sound}
 use Rattle.axp_image.specs.Contents.{Contents}
-use Rattle.axp_image.specs.declared.limits.TheConstants.{PAGE_BYTES}
 use Rattle.axp_model.specs.Turns.{turns}
-use Rattle.axp_machine.specs.declared.phases.Phase.{Phase}
-use Rattle.axp_machine.specs.declared.phases.Phase.TheVariants as phase
-use Rattle.axp_machine.specs.declared.processor.Processor.{Processor}
-use Rattle.axp_machine.specs.Instructions.{group}
-use Rattle.axp_machine.specs.Phases.{plan_of, PhaseFits, after}
+use Rattle.axp_machine.specs.declared.steps.Step.{Step}
 use Rattle.axp_machine.specs.Plains.{Plain}
-use Rattle.axp_machine.specs.Plans.{Plan, End, Want, Unbuilt, given, along, is_built}
-use Rattle.axp_machine.specs.Runs.{seat, given_by, value_of, access_of, step_of, there_after, made_access, outcome_of}
-use Rattle.axp_machine.specs.Seats.{Seat, moved, plan_now, stepped, is_finished}
-use Rattle.axp_machine.specs.Soundness.{IsSound}
-use Rattle.axp_machine.specs.Stands.{Stands, plan_left, moved_on, number_there, is_done, step_at, IsReady}
+use Rattle.axp_machine.specs.Runs.{seat, given_by, given_by_outcome, value_given, access_of, step_by, step_of, there_after, made_access, outcome_of}
+use Rattle.axp_machine.specs.Steps.{number_there, Chooses, Does, Sits}
 use Rattle.axp_machine.specs.Ties.{AreSeated, MemoryIs}
-use Rattle.axp_machine.proofs.PlanLemmas.{group_sound, along_sound}
 use Rattle.axp_machine.proofs.MemoryLemmas.{number_there-after}
 
-along-more : (vs : List ℕ) (v : ℕ) (p : Plan) → along (vs ++ v ∷ []) p ≡ given v (along vs p)
-along-more [] v p = refl
-along-more (x ∷ vs) v p = along-more vs v (given x p)
+-- a seat's memory has the image's size
+size-moved : (s : Seat) (vs : List ℕ) (p : Plan) → (moved s vs p).size ≡ s.size
+size-moved s vs (End t) = refl
+size-moved s vs (Want w k) = refl
+size-moved s vs Unbuilt = refl
 
--- what a seat's group still has to do is sound
-pub seat_sound : (size : ℕ) (p : Processor) (s : Seat) → size % PAGE_BYTES ≡ 0 → Stands size p s → IsSound size (plan_now size s)
-seat_sound size p s pages stands = along_sound size s.values (group size s.start) (group_sound size s.start pages stands.pc)
+size_by : (mine : Bool) (s : Seat) (v n : ℕ) → s.size ≡ n → (cond mine (stepped s v) s).size ≡ n
+size_by true s v n is = size-moved s _ _ ∙ is
+size_by false s v n is = is
 
--- a processor goes on to a phase as its seat does with the value
-pub stands_step : (size : ℕ) (p : Processor) (s : Seat) (ph : Phase) (v : ℕ) → size % PAGE_BYTES ≡ 0 → Stands size p s → plan_of size p.table ph ≡ given v (plan_left size p) → is_built (plan_of size p.table ph) ≡ true → PhaseFits ph
-    → Stands size (moved_on p ph) (stepped size s v)
-stands_step size p s (phase.Makes w next) v pages stands plan built fits =
-    let vs = s.values ++ v ∷ [] in
-    let comes : Want w (after size p.table next) ≡ along vs (group size s.start) = plan ∙ ap (given v) stands.plan ∙ sym (along-more s.values v (group size s.start)) in
-    let there : stepped size s v ≡ record { start = s.start; values = vs; steps = s.steps + 1 } = ap (moved s vs) (sym comes) in
-    subst (λ (t : Seat). Stands size (moved_on p (phase.Makes w next)) t) (sym there) (record {
-      table = stands.table;
-      plan = comes;
-      runnable = fits;
-      steps = ap (λ n. n + 1) stands.steps;
-      pc = stands.pc;
-    })
-stands_step size p s (phase.Ends t) v pages stands plan built fits =
-    let vs = s.values ++ v ∷ [] in
-    let comes : End t ≡ along vs (group size s.start) = plan ∙ ap (given v) stands.plan ∙ sym (along-more s.values v (group size s.start)) in
-    let there : stepped size s v ≡ record { start = t; values = []; steps = s.steps + 1 } = ap (moved s vs) (sym comes) in
-    let sound : IsSound size (End t) = subst (IsSound size) (sym comes) (along_sound size vs (group size s.start) (group_sound size s.start pages stands.pc)) in
-    subst (λ (t' : Seat). Stands size (moved_on p (phase.Ends t)) t') (sym there) (record {
-      table = refl;
-      plan = refl;
-      runnable = tt;
-      steps = ap (λ n. n + 1) stands.steps;
-      pc = sound;
-    })
-stands_step size p s phase.NotBuilt v pages stands plan built fits = cc
+size-seat : (image : Contents) (budget p : ℕ) (h : List Record) → (seat image budget p h).size ≡ image.size
+size-seat image budget p [] = refl
+size-seat image budget p (r ∷ h) = size_by _ (seat image budget p h) (given_by_outcome r.outcome) image.size (size-seat image budget p h)
 
 -- memory gives what the history says where a sound plan wants an access
-step_same : (image : Contents) (m : Plain) (h : List Record) (cpu : Cpu) (t : ℕ) (p : Plan) → MemoryIs image m h → IsSound image.size p → step_of cpu t (number_there m.bytes) p ≡ step_of cpu t (there_after image h) p
-step_same image m h cpu t (End u) kept sound = refl
-step_same image m h cpu t (Want w k) kept sound =
-    ap (λ n. cond (is_built (k (given_by w.kind (value_of w.kind w.value n)))) (Some (access_of cpu t w n)) None) (number_there-after image m h w.address w.size sound.0.within kept)
-step_same image m h cpu t Unbuilt kept sound = refl
+there_same : (image : Contents) (m : Plain) (h : List Record) (p : Plan) (w : Wanted) → MemoryIs image m h → IsSound image.size p → wanted_by p ≡ Some w → number_there m.bytes w ≡ there_after image h w
+there_same image m h (End t) w kept sound is = cc
+there_same image m h (Want x k) w kept sound is =
+    let same : x ≡ w = cc in
+    subst (λ (y : Wanted). number_there m.bytes y ≡ there_after image h y) same (number_there-after image m h x.address x.size sound.0.within kept)
+there_same image m h Unbuilt w kept sound is = cc
 
-pub done_same : (size budget : ℕ) (p : Processor) (s : Seat) → Stands size p s → is_done budget p ≡ is_finished budget s
-done_same size budget p s stands = rw (stands.table, stands.steps) refl
+wanted_if : (finished : Bool) (o : Option Wanted) (w : Wanted) → cond finished None o ≡ Some w → (finished ≡ false) × (o ≡ Some w)
+wanted_if true o w is = cc
+wanted_if false o w is = (refl, is)
+
+-- a processor that wants an access is not finished
+pub wants_unfinished : (s : Seat) (w : Wanted) → wanted s ≡ Some w → is_finished s ≡ false
+wants_unfinished s w is = (wanted_if (is_finished s) (wanted_by (plan_now s)) w is).0
+
+step_by_same : (image : Contents) (m : Plain) (h : List Record) (cpu : Cpu) (t : ℕ) (s : Seat) (o : Option Wanted) → wanted s ≡ o → MemoryIs image m h → IsSound image.size (plan_now s)
+    → step_by cpu t (number_there m.bytes) s o ≡ step_by cpu t (there_after image h) s o
+step_by_same image m h cpu t s None wants kept sound = refl
+step_by_same image m h cpu t s (Some w) wants kept sound =
+    ap (λ n. cond (leads s (value_given w n)) (Some (access_of cpu t w n)) None)
+    (there_same image m h (plan_now s) w kept sound (wanted_if (is_finished s) (wanted_by (plan_now s)) w wants).1)
+
+step_same : (image : Contents) (m : Plain) (h : List Record) (cpu : Cpu) (t : ℕ) (s : Seat) → MemoryIs image m h → IsSound image.size (plan_now s) → step_of cpu t (number_there m.bytes) s ≡ step_of cpu t (there_after image h) s
+step_same image m h cpu t s kept sound = step_by_same image m h cpu t s (wanted s) refl kept sound
 
 -- what a list has after one of its elements was set
 slice_get-set_here : {A : Type 0} (xs : List A) (c : ℕ) (new y : A) → slice_get (set xs c new) c ≡ Some y → new ≡ y
@@ -87,15 +80,15 @@ slice_get-set_other xs c p new y apart at =
     slice_get-get_or xs p y within ∙ ap Some (sym (get_or-set_other xs c p new y apart) ∙ get_or_from_slice_get (set xs c new) p y y at)
 
 -- all processors are at their seats after one of them made a step
-pub seats_step : (image : Contents) (ps : List Processor) (h : List Record) (e : Event) (a : Access) (new : Processor)
-    → Stands image.size new (stepped image.size (seat image (cpu_number e.cpu) h) (given_by a.kind a.value)) → AreSeated image ps h
-    → AreSeated image (set ps (cpu_number e.cpu) new) (record { event = e; outcome = outcome.Access a } ∷ h)
-seats_step image ps h e a new moves seated p x at =
+pub seats_step : (image : Contents) (budget : ℕ) (ps : List Processor) (h : List Record) (e : Event) (a : Access) (new : Processor)
+    → Stands new (stepped (seat image budget (cpu_number e.cpu) h) (given_by a.kind a.value)) → AreSeated image budget ps h
+    → AreSeated image budget (set ps (cpu_number e.cpu) new) (record { event = e; outcome = outcome.Access a } ∷ h)
+seats_step image budget ps h e a new moves seated p x at =
     ⊎_elim
     (λ same. rw (eq-eqb (cpu_number e.cpu) p same)
     (let is : new ≡ x = slice_get-set_here ps p new x (subst (λ c. slice_get (set ps c new) p ≡ Some x) same at) in
-    subst (λ (y : Processor). Stands image.size y (stepped image.size (seat image p h) (given_by a.kind a.value))) is
-    (subst (λ c. Stands image.size new (stepped image.size (seat image c h) (given_by a.kind a.value))) same moves)))
+    subst (λ (y : Processor). Stands y (stepped (seat image budget p h) (given_by a.kind a.value))) is
+    (subst (λ c. Stands new (stepped (seat image budget c h) (given_by a.kind a.value))) same moves)))
     (λ other. rw (ne_eqb (cpu_number e.cpu) p other) (seated p x (slice_get-set_other ps (cpu_number e.cpu) p new x (λ back. other (sym back)) at)))
     (cases_eq (cpu_number e.cpu) p)
 
@@ -104,30 +97,43 @@ past_of_none [] c none = omega arith
 past_of_none (p ∷ ps) zero none = cc
 past_of_none (p ∷ ps) (suc c) none = omega (arith, past_of_none ps c none)
 
--- the step of a list's processor is the event's outcome
-outcome_by : (image : Contents) (m : Plain) (ps : List Processor) (budget : ℕ) (h : List Record) (e : Event) (o : Option Processor) → slice_get ps (cpu_number e.cpu) ≡ o → image.size % PAGE_BYTES ≡ 0 → MemoryIs image m h → AreSeated image ps h
-    → made_access (step_at budget m.bytes (turns h) e.cpu o) ≡ outcome_of (record { image = image; cpus = length ps; budget = budget; records = h }) e
-unfolding outcome_of
-outcome_by image m ps budget h e None at pages kept seated = rw (le-ltb (cpu_number e.cpu) (length ps) (past_of_none ps (cpu_number e.cpu) at)) refl
-outcome_by image m ps budget h e (Some p) at pages kept seated =
-    let stands = seated (cpu_number e.cpu) p at in
-    let s = seat image (cpu_number e.cpu) h in
-    let within : ltb (cpu_number e.cpu) (length ps) ≡ true = lt-ltb (cpu_number e.cpu) (length ps) (slice_get_within ps (cpu_number e.cpu) p at) in
-    let sound : IsSound image.size (plan_now image.size s) = seat_sound image.size p s pages stands in
-    let steps : step_of e.cpu (turns h) (number_there m.bytes) (plan_left (length m.bytes) p) ≡ step_of e.cpu (turns h) (there_after image h) (plan_now image.size s) =
-    ap (λ n. step_of e.cpu (turns h) (number_there m.bytes) (plan_left n p)) kept.size ∙ ap (step_of e.cpu (turns h) (number_there m.bytes)) stands.plan ∙ step_same image m h e.cpu (turns h) (plan_now image.size s) kept sound in
-    rw (within, done_same image.size budget p s stands, steps) (made_if (is_finished budget s) (step_of e.cpu (turns h) (there_after image h) (plan_now image.size s)))
-  where
-    made_if : (finished : Bool) (o : Option Access) → made_access (cond finished None o) ≡ cond (not finished) (made_access o) None
-    made_if true o = refl
-    made_if false o = refl
+-- what a chosen step says of the event: its outcome, and the processor after it
+abbrev pub Comes : Contents → ℕ → ℕ → List Record → Event → Option Step → Type 0
+Comes image cpus budget h e None = outcome_of (record { image = image; cpus = cpus; budget = budget; records = h }) e ≡ None
+Comes image cpus budget h e (Some s) =
+    (outcome_of (record { image = image; cpus = cpus; budget = budget; records = h }) e ≡ Some (outcome.Access s.access))
+    × Stands s.processor (stepped (seat image budget (cpu_number e.cpu) h) (given_by s.access.kind s.access.value)) × (cpu_number e.cpu < cpus)
 
-pub outcome_is : (image : Contents) (m : Plain) (ps : List Processor) (budget : ℕ) (h : List Record) (e : Event) → image.size % PAGE_BYTES ≡ 0 → MemoryIs image m h → AreSeated image ps h
-    → made_access (step_at budget m.bytes (turns h) e.cpu (slice_get ps (cpu_number e.cpu))) ≡ outcome_of (record { image = image; cpus = length ps; budget = budget; records = h }) e
-outcome_is image m ps budget h e pages kept seated = outcome_by image m ps budget h e (slice_get ps (cpu_number e.cpu)) refl pages kept seated
+comes_of : (image : Contents) (m : Plain) (cpus budget : ℕ) (h : List Record) (e : Event) (o : Option Step) → cpu_number e.cpu < cpus
+    → Does e.cpu (turns h) (number_there m.bytes) (seat image budget (cpu_number e.cpu) h) o
+    → step_of e.cpu (turns h) (number_there m.bytes) (seat image budget (cpu_number e.cpu) h) ≡ step_of e.cpu (turns h) (there_after image h) (seat image budget (cpu_number e.cpu) h)
+    → Comes image cpus budget h e o
+unfolding outcome_of
+comes_of image m cpus budget h e None below does same = rw (lt-ltb (cpu_number e.cpu) cpus below, ← same, does) refl
+comes_of image m cpus budget h e (Some s) below does same = (rw (lt-ltb (cpu_number e.cpu) cpus below, ← same, does.0) refl, does.1, below)
+
+comes_past : (image : Contents) (bytes : List ℕ) (cpus budget t : ℕ) (h : List Record) (e : Event) (o : Option Step) → cpus ≤ cpu_number e.cpu → Chooses bytes t e.cpu None o → Comes image cpus budget h e o
+unfolding outcome_of
+comes_past image bytes cpus budget t h e None past chooses = rw (le-ltb (cpu_number e.cpu) cpus past) refl
+comes_past image bytes cpus budget t h e (Some s) past chooses = absurd chooses
+
+comes_by : (image : Contents) (m : Plain) (ps : List Processor) (budget : ℕ) (h : List Record) (e : Event) (q : Option Processor) (o : Option Step) → slice_get ps (cpu_number e.cpu) ≡ q → MemoryIs image m h → AreSeated image budget ps h
+    → Chooses m.bytes (turns h) e.cpu q o → Comes image (length ps) budget h e o
+comes_by image m ps budget h e None o at kept seated chooses = comes_past image m.bytes (length ps) budget (turns h) h e o (past_of_none ps (cpu_number e.cpu) at) chooses
+comes_by image m ps budget h e (Some p) o at kept seated chooses =
+    let s = seat image budget (cpu_number e.cpu) h in
+    let stands = seated (cpu_number e.cpu) p at in
+    let sound : IsSound image.size (plan_now s) = subst (λ n. IsSound n (plan_now s)) (size-seat image budget (cpu_number e.cpu) h) (seat_sound p s stands) in
+    comes_of image m (length ps) budget h e o (slice_get_within ps (cpu_number e.cpu) p at) (chooses s stands) (step_same image m h e.cpu (turns h) s kept sound)
+
+pub comes : (image : Contents) (m : Plain) (ps : List Processor) (budget : ℕ) (h : List Record) (e : Event) (o : Option Step) → MemoryIs image m h → AreSeated image budget ps h
+    → Chooses m.bytes (turns h) e.cpu (slice_get ps (cpu_number e.cpu)) o → Comes image (length ps) budget h e o
+comes image m ps budget h e o kept seated chooses = comes_by image m ps budget h e (slice_get ps (cpu_number e.cpu)) o refl kept seated chooses
 
 -- each processor can be asked for its step
-pub all_ready : (image : Contents) (ps : List Processor) (h : List Record) (n : ℕ) → n ≡ image.size → image.size % PAGE_BYTES ≡ 0 → AreSeated image ps h → (p : ℕ) (x : Processor) → slice_get ps p ≡ Some x → IsReady n x
-all_ready image ps h n whole pages seated p x at =
-    let stands = seated p x at in
-    rw whole (record { runnable = stands.runnable; sound = subst (IsSound image.size) (sym stands.plan) (seat_sound image.size x (seat image p h) pages stands) })
+pub all_sit : (image : Contents) (budget : ℕ) (ps : List Processor) (h : List Record) (n : ℕ) → n ≡ image.size → AreSeated image budget ps h → (p : ℕ) (x : Processor) → slice_get ps p ≡ Some x → Sits n x
+all_sit image budget ps h n whole seated p x at = record {
+  seat = seat image budget p h;
+  stands = seated p x at;
+  over = size-seat image budget p h ∙ sym whole;
+}

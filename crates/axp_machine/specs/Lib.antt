@@ -1,12 +1,5 @@
-pub mod Registers
-pub mod Words
-pub mod Plans
-pub mod Instructions
-pub mod Phases
-pub mod Seats
 pub mod Runs
 pub mod Plains
 pub mod PlainParts
-pub mod Soundness
-pub mod Stands
+pub mod Steps
 pub mod Ties

@@ -1,5 +1,5 @@
 -- What an event gives after any records, and the run of a list of events.
-use Rattle.std.specs.Prelude.{◌≡◌, ℕ, ◌*◌, zero, suc, Bool, true, not, ◌&&◌, nat_lt, ◌==◌, List, [], ◌∷◌, map, Option, Some, None, Result, ok_or, if◌then◌else◌}
+use Rattle.std.specs.Prelude.{◌≡◌, ℕ, ◌*◌, zero, suc, Bool, true, ◌&&◌, nat_lt, ◌==◌, List, [], ◌∷◌, map, Option, Some, None, Result, ok_or, if◌then◌else◌}
 use Rattle.axp_access.specs.declared.Access.{Access}
 use Rattle.axp_access.specs.declared.Event.{Event}
 use Rattle.axp_regs.specs.declared.asks.Kind.{Kind}
@@ -15,10 +15,9 @@ use Rattle.axp_model.specs.Places.{place_at}
 use Rattle.axp_model.specs.Sources.{memory_number}
 use Rattle.axp_machine.specs.declared.machine.NotBuilt.{NotBuilt}
 use Rattle.axp_base.specs.declared.parts.TheConstants.{QUADWORD_BYTES}
-use Rattle.axp_machine.specs.declared.phases.Table.{Table}
-use Rattle.axp_machine.specs.declared.phases.Wanted.{Wanted}
-use Rattle.axp_machine.specs.Plans.{Plan, End, Want, Unbuilt, is_built}
-use Rattle.axp_machine.specs.Seats.{Seat, first_seat, plan_now, is_finished, stepped}
+use Rattle.axp_cpu.specs.declared.tables.Table.{Table}
+use Rattle.axp_cpu.specs.declared.tables.Wanted.{Wanted}
+use Rattle.axp_cpu.specs.Seats.{Seat, first_seat, is_finished, leads, stepped, wanted}
 
 -- A machine as its callers see it; the records are the history, the newest first.
 pub record Seen : Type 0 where
@@ -42,9 +41,14 @@ given_by_outcome (outcome.Access a) = given_by a.kind a.value
 given_by_outcome outcome.NoAccess = 0
 
 -- where a processor stands after a history
-abbrev pub seat : Contents → ℕ → List Record → Seat
-seat image p [] = first_seat image p
-seat image p (r ∷ h) = if cpu_number r.event.cpu == p then stepped image.size (seat image p h) (given_by_outcome r.outcome) else seat image p h
+abbrev pub seat : Contents → ℕ → ℕ → List Record → Seat
+seat image budget p [] = first_seat image budget p
+seat image budget p (r ∷ h) =
+    if cpu_number r.event.cpu == p then stepped (seat image budget p h) (given_by_outcome r.outcome) else seat image budget p h
+
+-- where a processor of a machine stands
+abbrev pub seat_of : Seen → ℕ → Seat
+seat_of m p = seat m.image m.budget p m.records
 
 -- the value of an access: what it stores, or what memory has there
 abbrev pub value_of : Kind → ℕ → ℕ → ℕ
@@ -56,20 +60,21 @@ value_of Write stored there = stored
 abbrev pub access_of : Cpu → ℕ → Wanted → ℕ → Access
 access_of cpu count w there = record { cpu = cpu; kind = w.kind; address = w.address; size = w.size; value = value_of w.kind w.value there; place = place_at count w.kind }
 
--- the access that a plan wants, if all is built that its value leads to
-abbrev pub step_of : Cpu → ℕ → (Wanted → ℕ) → Plan → Option Access
-step_of cpu count there (End t) = None
-step_of cpu count there (Want w k) =
-    if is_built (k (given_by w.kind (value_of w.kind w.value (there w)))) then Some (access_of cpu count w (there w)) else None
-step_of cpu count there Unbuilt = None
+-- the value that a wanted access gives
+abbrev pub value_given : Wanted → ℕ → ℕ
+value_given w there = given_by w.kind (value_of w.kind w.value there)
+
+-- the access that a processor at a seat makes: the one that it wants, if all is built that its value leads to
+abbrev pub step_by : Cpu → ℕ → (Wanted → ℕ) → Seat → Option Wanted → Option Access
+step_by cpu count there s None = None
+step_by cpu count there s (Some w) = if leads s (value_given w (there w)) then Some (access_of cpu count w (there w)) else None
+
+abbrev pub step_of : Cpu → ℕ → (Wanted → ℕ) → Seat → Option Access
+step_of cpu count there s = step_by cpu count there s (wanted s)
 
 -- the number that memory has where an access is wanted, after a history
 abbrev pub there_after : Contents → List Record → Wanted → ℕ
 there_after image h w = memory_number image.segments h w.address w.size
-
--- the event's processor is one of the machine's and not finished
-abbrev pub may_step : Seen → Event → Bool
-may_step m e = nat_lt (cpu_number e.cpu) m.cpus && not (is_finished m.budget (seat m.image (cpu_number e.cpu) m.records))
 
 abbrev pub made_access : Option Access → Option Outcome
 made_access None = None
@@ -78,8 +83,8 @@ made_access (Some a) = Some (outcome.Access a)
 -- What an event gives; None: it is not built.
 unfoldable pub outcome_of : Seen → Event → Option Outcome
 outcome_of m e =
-    if may_step m e
-    then made_access (step_of e.cpu (turns m.records) (there_after m.image m.records) (plan_now m.image.size (seat m.image (cpu_number e.cpu) m.records)))
+    if nat_lt (cpu_number e.cpu) m.cpus
+    then made_access (step_of e.cpu (turns m.records) (there_after m.image m.records) (seat_of m (cpu_number e.cpu)))
     else None
 
 -- the machine with one record more
@@ -118,7 +123,7 @@ events_of h = map (λ r. r.event) h
 -- every processor below n is finished
 abbrev pub are_finished : ℕ → Seen → Bool
 are_finished zero m = true
-are_finished (suc n) m = are_finished n m && is_finished m.budget (seat m.image n m.records)
+are_finished (suc n) m = are_finished n m && is_finished (seat_of m n)
 
 -- every processor is finished
 abbrev pub is_complete : Seen → Bool
@@ -126,11 +131,11 @@ is_complete m = are_finished m.cpus m
 
 -- the table state of a processor, as its last group left it
 abbrev pub table_of : Seen → ℕ → Table
-table_of m p = (seat m.image p m.records).start
+table_of m p = (seat_of m p).start
 
 -- how many steps a processor made
 abbrev pub steps_of : Seen → ℕ → ℕ
-steps_of m p = (seat m.image p m.records).steps
+steps_of m p = (seat_of m p).steps
 
 -- the aligned quadword of this number, as memory has it
 abbrev pub quadword_of : Seen → ℕ → ℕ

@@ -8,10 +8,10 @@ use Rattle.axp_image.specs.Contents.{Contents, IsValid}
 use Rattle.axp_model.specs.Turns.{turns}
 use Rattle.axp_model.specs.Sources.{memory_byte, is_touched}
 use Rattle.axp_machine.specs.declared.machine.Machine.TheInside.{Inside}
-use Rattle.axp_machine.specs.declared.processor.Processor.{Processor}
+use Rattle.axp_cpu.specs.declared.processors.Processor.{Processor}
+use Rattle.axp_cpu.specs.Stands.{Stands}
 use Rattle.axp_machine.specs.Plains.{Plain}
 use Rattle.axp_machine.specs.Runs.{Seen, IsRunOf, seat}
-use Rattle.axp_machine.specs.Stands.{Stands}
 
 -- the records, newest first
 abbrev pub history : Inside → List Record
@@ -28,14 +28,14 @@ pub record MemoryIs (image : Contents) (m : Plain) (h : List Record) : Type 0 wh
   pub touched : (q : ℕ) → q < image.size / QUADWORD_BYTES → slice_get m.touched q ≡ Some (is_touched h q)
 
 -- each processor is at its seat
-abbrev pub AreSeated : Contents → List Processor → List Record → Type 0
-AreSeated image ps h = (p : ℕ) (x : Processor) → slice_get ps p ≡ Some x → Stands image.size x (seat image p h)
+abbrev pub AreSeated : Contents → ℕ → List Processor → List Record → Type 0
+AreSeated image budget ps h = (p : ℕ) (x : Processor) → slice_get ps p ≡ Some x → Stands x (seat image budget p h)
 
 pub record Ties (a : Inside) : Type 0 where
   pub valid : IsValid a.image
   pub memory : MemoryIs a.image a.memory (history a)
   pub turns : a.turns ≡ turns (history a)
-  pub seats : AreSeated a.image a.processors.items (history a)
+  pub seats : AreSeated a.image a.budget a.processors.items (history a)
   pub run : IsRunOf a.image (length a.processors.items) a.budget (history a)
   pub cpus : length a.processors.items ≤ MAX_CPUS
   pub budget : a.budget ≤ MAX_BUDGET

@@ -1,16 +1,17 @@
-ghost use Rattle.std.specs.Prelude.{◌≡◌, ◌+◌, ◌≤◌, ◌<◌, ◌^◌, All, length, slice_get, IfSome, IfOk};
-ghost use Rattle.axp_base.specs.Cpus.{cpu_number};
-ghost use Rattle.axp_machine.specs.Stands.{IsReady, accesses, step_at, StepsOf, StartsAll};
+ghost use Rattle.std.specs.Prelude.{◌≡◌, ◌+◌, ◌≤◌, ◌<◌, ◌^◌, length, IfOk};
+ghost use Rattle.axp_base.specs.declared.processors.TheConstants.{MAX_CPUS};
+ghost use Rattle.axp_cpu.specs.Soundness.{IsInside};
 ghost use Rattle.axp_machine.specs.Plains.{after_access};
-ghost use Rattle.axp_machine.specs.Soundness.{IsInside};
+ghost use Rattle.axp_machine.specs.Steps.{StartsAll};
 ghost use Rattle.axp_model.specs.Turns.{turns_of_kind};
 
 use crate::plain_memory::PlainMemory;
-use crate::processor::{Processor, Step};
-use crate::registers::REGISTERS;
+use crate::steps::next_step;
 use axp_access::{Access, Act, Event, Kind, Outcome, Record};
 use axp_base::{Cpu, MAX_BUDGET, MAX_CPUS, MIN_CPUS, NoMemory, QUADWORD_BYTES};
+use axp_cpu::Processor;
 use axp_image::Image;
+use axp_regs::REGISTERS;
 use std::alloc::Global;
 use std::marker::Model;
 
@@ -47,8 +48,9 @@ impl Machine {
     ghost use Rattle.axp_base.specs.Cpus.{cpu_number};
     ghost use Rattle.axp_image.specs.Contents.{IsValid};
     ghost use Rattle.axp_model.specs.Sources.{is_touched};
-    ghost use Rattle.axp_machine.specs.Registers.{register};
-    ghost use Rattle.axp_machine.specs.Runs.{started, outcome_of, answer_of, after_event, IsRun, is_complete, table_of, steps_of, quadword_of};
+    ghost use Rattle.axp_regs.specs.States.{pc_of, register};
+    ghost use Rattle.axp_cpu.specs.Stands.{Stands};
+    ghost use Rattle.axp_machine.specs.Runs.{started, outcome_of, answer_of, after_event, IsRun, is_complete, seat_of, table_of, steps_of, quadword_of};
 
     /// A machine at the start: `cpus` processors, 2 to 8, each with a budget of steps, 1 to 32,768,
     /// over the image's memory. All room that the records take is taken here.
@@ -59,7 +61,7 @@ impl Machine {
         requires most_budget { budget ≤ MAX_BUDGET }
         ensures { IfOk result (λ m. m ≡ started image.now cpus budget) }
     {
-        let processors = start_all(alloc, image, cpus)?;
+        let processors = start_all(alloc, image, budget, cpus)?;
         let memory = PlainMemory::load(alloc, image)?;
         let records = Vec::with_capacity(alloc, usize::from(cpus) * budget as usize)?;
         let image = image.copy(alloc)?;
@@ -110,7 +112,7 @@ impl Machine {
     {
         let mut finished = true;
         for processor in &self.processors {
-            finished &= processor.is_finished(self.budget);
+            finished &= processor.finished();
         }
         finished
     }
@@ -118,8 +120,7 @@ impl Machine {
     /// The processor of this number.
     fn processor(&self, cpu: Cpu) -> &Processor
         requires { cpu_number cpu < self.now.cpus }
-        ensures table { result.now.table ≡ table_of self.now (cpu_number cpu) }
-        ensures steps { result.now.steps ≡ steps_of self.now (cpu_number cpu) }
+        ensures { Stands result.now (seat_of self.now (cpu_number cpu)) }
     {
         &self.processors[usize::from(cpu.number())]
     }
@@ -127,9 +128,9 @@ impl Machine {
     /// The program counter of a processor, as its last group of accesses left it.
     pub fn pc(&self, cpu: Cpu) -> u64
         requires { cpu_number cpu < self.now.cpus }
-        ensures { result ≡ (table_of self.now (cpu_number cpu)).state.pc }
+        ensures { result ≡ pc_of (table_of self.now (cpu_number cpu)).state }
     {
-        self.processor(cpu).table.state.pc
+        self.processor(cpu).state().pc()
     }
 
     /// Register `n`, below 32, of a processor, as its last group of accesses left it.
@@ -138,7 +139,7 @@ impl Machine {
         requires register { n < REGISTERS }
         ensures { result ≡ register (table_of self.now (cpu_number cpu)).state n }
     {
-        self.processor(cpu).table.state.get(n)
+        self.processor(cpu).state().get(n)
     }
 
     /// The halt code of a processor, once it is halted.
@@ -146,7 +147,7 @@ impl Machine {
         requires { cpu_number cpu < self.now.cpus }
         ensures { result ≡ (table_of self.now (cpu_number cpu)).halted }
     {
-        self.processor(cpu).table.halted
+        self.processor(cpu).halted()
     }
 
     /// The number of steps that a processor made.
@@ -154,7 +155,7 @@ impl Machine {
         requires { cpu_number cpu < self.now.cpus }
         ensures { result ≡ steps_of self.now (cpu_number cpu) }
     {
-        self.processor(cpu).steps
+        self.processor(cpu).steps()
     }
 
     /// Whether a write touched the aligned quadword of this number.
@@ -185,13 +186,11 @@ impl Machine {
     {
         let Act::Step = event.act;
         let processors = self.processors.as_slice();
-        let Some(step) = next_step(processors, &self.memory, self.turns, self.budget, event.cpu)
-        else {
+        let Some(step) = next_step(processors, &self.memory, self.turns, event.cpu) else {
             return Err(NotBuilt);
         };
         make(&mut self.memory, &mut self.turns, &step.access);
-        let processor = &mut self.processors[usize::from(event.cpu.number())];
-        processor.advance(step.phase);
+        self.processors[usize::from(event.cpu.number())] = step.processor;
         let outcome = Outcome::Access(step.access);
         self.records.push_reserved(Record { event, outcome });
         Ok(outcome)
@@ -199,39 +198,23 @@ impl Machine {
 }
 
 /// All processors at the start.
-fn start_all(alloc: Global, image: &Image, cpus: u8) -> Result<Vec<Processor>, NoMemory>
-    ensures { IfOk result (λ ps. StartsAll image.now cpus ps.items) }
+fn start_all(
+    alloc: Global,
+    image: &Image,
+    budget: u32,
+    cpus: u8,
+) -> Result<Vec<Processor>, NoMemory>
+    requires { cpus ≤ MAX_CPUS }
+    ensures { IfOk result (λ ps. StartsAll image.now budget cpus ps.items) }
 {
     let mut processors = Vec::with_capacity(alloc, usize::from(cpus))?;
     for n in 0..cpus {
-        processors.push(Processor::start(n, image))?;
+        let Some(cpu) = Cpu::new(n) else {
+            unreachable!()
+        };
+        processors.push(Processor::start(cpu, image, budget))?;
     }
     Ok(processors)
-}
-
-/// The step that a processor of the list may make; `None` where it is not one of them, is finished,
-/// or comes to what is not built.
-fn next_step(
-    processors: &[Processor],
-    memory: &PlainMemory,
-    turns: u64,
-    budget: u32,
-    cpu: Cpu,
-) -> Option<Step>
-    requires ready { All (IsReady (length memory.now.bytes)) processors.now }
-    requires turns { turns < 2 ^ 32 }
-    ensures access { accesses result ≡ step_at budget memory.now.bytes turns cpu (slice_get processors.now (cpu_number cpu)) }
-    ensures leads { IfSome result (StepsOf budget memory.now.bytes (slice_get processors.now (cpu_number cpu))) }
-{
-    let at = usize::from(cpu.number());
-    if at >= processors.len() {
-        return None;
-    }
-    let processor = &processors[at];
-    if processor.is_finished(budget) {
-        return None;
-    }
-    processor.step(cpu, memory, turns)
 }
 
 /// Makes an access on memory: a write is a turn.
