@@ -114,10 +114,10 @@ goal_aligned : (t : Table) (op : BranchOp) (a disp : ℕ) → IsAligned t → br
 goal_aligned t op a disp h =
     goal_by (is_taken op (register t.state a)) (target_of (next_pc t) disp) (next_pc t) (target_aligned (next_pc t) disp (next_aligned t h)) (next_aligned t h)
 
-loaded_sound : (size : ℕ) (t : Table) (what : Size) (a address : ℕ) (extended : ℕ → ℕ) → size % PAGE_BYTES ≡ 0 → IsAligned t → IsSound size (loaded size t what a address extended)
-loaded_sound size t what a address extended pages h =
+loaded_sound : (size : ℕ) (t : Table) (what : Size) (a address : ℕ) (k : ℕ → Plan) → ((v : ℕ) → IsSound size (k v)) → size % PAGE_BYTES ≡ 0 → IsAligned t → IsSound size (loaded size t what a address k)
+loaded_sound size t what a address k follows pages h =
     either (eqb a ZERO_REGISTER) size (ended t) _ (λ _. next_aligned t h)
-    (λ _. aligned_sound size Read address (bytes_of what) 0 (λ v. wrote t a (extended v)) pages (sized what) (λ v. next_aligned t h))
+    (λ _. aligned_sound size Read address (bytes_of what) 0 k pages (sized what) follows)
 
 stored_sound : (size : ℕ) (t : Table) (what : Size) (a address : ℕ) → size % PAGE_BYTES ≡ 0 → IsAligned t → IsSound size (stored size t what a address)
 stored_sound size t what a address pages h =
@@ -126,11 +126,11 @@ stored_sound size t what a address pages h =
 memory_sound : (size : ℕ) (t : Table) (op : MemOp) (a base disp : ℕ) → size % PAGE_BYTES ≡ 0 → IsAligned t → IsSound size (memory_row size t op a base disp)
 memory_sound size t memory.LDA a base disp pages h = next_aligned t h
 memory_sound size t memory.LDAH a base disp pages h = next_aligned t h
-memory_sound size t memory.LDBU a base disp pages h = loaded_sound size t Byte a (address_of base disp) as_read pages h
-memory_sound size t memory.LDWU a base disp pages h = loaded_sound size t Word a (address_of base disp) as_read pages h
-memory_sound size t memory.LDL a base disp pages h = loaded_sound size t Long a (address_of base disp) as_longword pages h
-memory_sound size t memory.LDQ a base disp pages h = loaded_sound size t Quad a (address_of base disp) as_read pages h
-memory_sound size t memory.LDQ_U a base disp pages h = loaded_sound size t Quad a (quadword_at (address_of base disp)) as_read pages h
+memory_sound size t memory.LDBU a base disp pages h = loaded_sound size t Byte a (address_of base disp) (as_read t a) (λ v. next_aligned t h) pages h
+memory_sound size t memory.LDWU a base disp pages h = loaded_sound size t Word a (address_of base disp) (as_read t a) (λ v. next_aligned t h) pages h
+memory_sound size t memory.LDL a base disp pages h = loaded_sound size t Long a (address_of base disp) (as_longword t a) (λ v. next_aligned t h) pages h
+memory_sound size t memory.LDQ a base disp pages h = loaded_sound size t Quad a (address_of base disp) (as_read t a) (λ v. next_aligned t h) pages h
+memory_sound size t memory.LDQ_U a base disp pages h = loaded_sound size t Quad a (quadword_at (address_of base disp)) (as_read t a) (λ v. next_aligned t h) pages h
 memory_sound size t memory.LDL_L a base disp pages h = tt
 memory_sound size t memory.LDQ_L a base disp pages h = tt
 memory_sound size t memory.STB a base disp pages h = stored_sound size t Byte a (address_of base disp) pages h

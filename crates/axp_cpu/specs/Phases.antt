@@ -8,13 +8,13 @@ use Rattle.axp_cpu.specs.declared.phases.Then.TheVariants as next
 use Rattle.axp_cpu.specs.declared.tables.Table.{Table}
 use Rattle.axp_cpu.specs.declared.tables.Wanted.{Wanted}
 use Rattle.axp_cpu.specs.Plans.{Plan, End, Want, Unbuilt}
-use Rattle.axp_cpu.specs.Rows.{as_longword, as_read, ended, fetched, wrote}
+use Rattle.axp_cpu.specs.Rows.{as_longword, as_read, ended, fetched}
 
 -- what follows an access, by the value that it gave
 abbrev pub after : ℕ → Table → Then → ℕ → Plan
 after size t next.Instruct v = fetched size t v
-after size t (next.Load a) v = wrote t a (as_read v)
-after size t (next.LoadLong a) v = wrote t a (as_longword v)
+after size t (next.Load a) v = as_read t a v
+after size t (next.LoadLong a) v = as_longword t a v
 after size t next.Store v = ended t
 
 abbrev pub plan_of : ℕ → Table → Phase → Plan

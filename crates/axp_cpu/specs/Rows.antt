@@ -30,7 +30,6 @@ use Rattle.axp_regs.specs.States.{register, pc_of, fetched_of, offset_of}
 use Rattle.axp_regs.specs.declared.asks.Kind.TheVariants.{Fetch, Read, Write}
 use Rattle.axp_regs.specs.declared.states.TheConstants.{ZERO_REGISTER}
 use Rattle.axp_cpu.specs.declared.tables.Table.{Table}
-use Rattle.axp_cpu.specs.declared.tables.Wanted.{Wanted}
 use Rattle.axp_cpu.specs.Addresses.{aligned, reached}
 use Rattle.axp_cpu.specs.Plans.{Plan, End, Unbuilt}
 use Rattle.axp_cpu.specs.Tables.{next_pc, at_pc, with_value, counted}
@@ -55,21 +54,16 @@ linked t n target = wrote_at t n (next_pc t) target
 abbrev pub stopped : Table → ℕ → Plan
 stopped t code = End (record { state = (at_pc t (next_pc t)).state; halted = Some code })
 
--- the read of a datum at an address
-abbrev pub read_at : Size → ℕ → Wanted
-read_at what address = record { kind = Read; address = address; size = bytes_of what; value = 0 }
-
 -- a load: into R31 it does nothing
-abbrev pub loaded : ℕ → Table → Size → ℕ → ℕ → (ℕ → ℕ) → Plan
-loaded size t what a address extended =
-    if a == ZERO_REGISTER then ended t else aligned size Read address (bytes_of what) 0 (λ v. wrote t a (extended v))
+abbrev pub loaded : ℕ → Table → Size → ℕ → ℕ → (ℕ → Plan) → Plan
+loaded size t what a address k = if a == ZERO_REGISTER then ended t else aligned size Read address (bytes_of what) 0 k
 
--- the value as it was read, and a longword sign-extended
-abbrev pub as_read : ℕ → ℕ
-as_read v = v
+-- Ra becomes the value that was read, or the longword sign-extended
+abbrev pub as_read : Table → ℕ → ℕ → Plan
+as_read t a v = wrote t a v
 
-abbrev pub as_longword : ℕ → ℕ
-as_longword v = sign_extended 32 v
+abbrev pub as_longword : Table → ℕ → ℕ → Plan
+as_longword t a v = wrote t a (sign_extended 32 v)
 
 -- a store of the low datum of Ra
 abbrev pub stored : ℕ → Table → Size → ℕ → ℕ → Plan
@@ -83,15 +77,19 @@ quadword_at address = address / 8 * 8
 abbrev pub address_of : ℕ → ℕ → ℕ
 address_of base disp = add base (sign_extended 16 disp)
 
+-- the same with the displacement moved up by 16 bits
+abbrev pub high_address_of : ℕ → ℕ → ℕ
+high_address_of base disp = add base (mul (sign_extended 16 disp) 65536)
+
 -- the memory format; base is the value of Rb
 abbrev pub memory_row : ℕ → Table → MemOp → ℕ → ℕ → ℕ → Plan
 memory_row size t LDA a base disp = wrote t a (address_of base disp)
-memory_row size t LDAH a base disp = wrote t a (add base (mul (sign_extended 16 disp) 65536))
-memory_row size t LDBU a base disp = loaded size t Byte a (address_of base disp) as_read
-memory_row size t LDWU a base disp = loaded size t Word a (address_of base disp) as_read
-memory_row size t LDL a base disp = loaded size t Long a (address_of base disp) as_longword
-memory_row size t LDQ a base disp = loaded size t Quad a (address_of base disp) as_read
-memory_row size t LDQ_U a base disp = loaded size t Quad a (quadword_at (address_of base disp)) as_read
+memory_row size t LDAH a base disp = wrote t a (high_address_of base disp)
+memory_row size t LDBU a base disp = loaded size t Byte a (address_of base disp) (as_read t a)
+memory_row size t LDWU a base disp = loaded size t Word a (address_of base disp) (as_read t a)
+memory_row size t LDL a base disp = loaded size t Long a (address_of base disp) (as_longword t a)
+memory_row size t LDQ a base disp = loaded size t Quad a (address_of base disp) (as_read t a)
+memory_row size t LDQ_U a base disp = loaded size t Quad a (quadword_at (address_of base disp)) (as_read t a)
 memory_row size t LDL_L a base disp = Unbuilt
 memory_row size t LDQ_L a base disp = Unbuilt
 memory_row size t STB a base disp = stored size t Byte a (address_of base disp)

@@ -1,8 +1,7 @@
 //! The rows of the instruction table.
 ghost use Rattle.std.specs.Prelude.{◌≡◌, ◌<◌, ℕ};
-ghost use Rattle.axp_base.specs.declared.sizes.Size.TheVariants.{Long};
-ghost use Rattle.axp_cpu.specs.Phases.{plan_of, PhaseFits};
-ghost use Rattle.axp_cpu.specs.Rows.{address_of, as_longword, as_read, branch_goal, branch_row, cycle_counter, jump_row, loaded, memory_row, misc_row, operand, operate_row, pal_row, read_at, row, stored};
+ghost use Rattle.axp_cpu.specs.Phases.{after, plan_of, FollowFits, PhaseFits};
+ghost use Rattle.axp_cpu.specs.Rows.{address_of, branch_goal, branch_row, cycle_counter, high_address_of, jump_row, loaded, memory_row, misc_row, operand, operate_row, pal_row, quadword_at, row, stored};
 ghost use Rattle.axp_decode.specs.Format.{FieldsFit, OperandFits};
 ghost use Rattle.axp_regs.specs.declared.states.TheConstants.{REGISTERS};
 
@@ -44,21 +43,24 @@ fn access(size: u64, table: &Table, op: MemOp, a: u8, base: u64, disp: u16) -> P
     let address = displaced(base, disp);
     match op {
         MemOp::LDA => write(table, a, address),
-        MemOp::LDAH => write(
+        MemOp::LDAH => write(table, a, displaced_high(base, disp)),
+        MemOp::LDBU => load(size, table, Size::Byte, a, address, Then::Load { a }),
+        MemOp::LDWU => load(size, table, Size::Word, a, address, Then::Load { a }),
+        MemOp::LDL => load(size, table, Size::Long, a, address, Then::LoadLong { a }),
+        MemOp::LDQ => load(size, table, Size::Quad, a, address, Then::Load { a }),
+        MemOp::LDQ_U => load(
+            size,
             table,
+            Size::Quad,
             a,
-            base.wrapping_add(sext(u64::from(disp), 16).wrapping_mul(65536)),
+            quadword(address),
+            Then::Load { a },
         ),
-        MemOp::LDBU => load(size, table, Size::Byte, a, address),
-        MemOp::LDWU => load(size, table, Size::Word, a, address),
-        MemOp::LDL => load_long(size, table, a, address),
-        MemOp::LDQ => load(size, table, Size::Quad, a, address),
-        MemOp::LDQ_U => load(size, table, Size::Quad, a, address & !7),
         MemOp::STB => store(size, table, Size::Byte, a, address),
         MemOp::STW => store(size, table, Size::Word, a, address),
         MemOp::STL => store(size, table, Size::Long, a, address),
         MemOp::STQ => store(size, table, Size::Quad, a, address),
-        MemOp::STQ_U => store(size, table, Size::Quad, a, address & !7),
+        MemOp::STQ_U => store(size, table, Size::Quad, a, quadword(address)),
         MemOp::LDL_L | MemOp::LDQ_L | MemOp::STL_C | MemOp::STQ_C => Phase::NotBuilt,
     }
 }
@@ -70,45 +72,36 @@ fn displaced(base: u64, disp: u16) -> u64
     base.wrapping_add(sext(u64::from(disp), 16))
 }
 
-/// A load; into R31 it does nothing.
-fn load(size: u64, table: &Table, what: Size, a: u8, address: u64) -> Phase
-    requires { a < REGISTERS }
-    ensures plan { plan_of size table.now result ≡ loaded size table.now what a address as_read }
+/// The base plus 65,536 times the sign-extended displacement.
+fn displaced_high(base: u64, disp: u16) -> u64
+    ensures { result ≡ high_address_of base disp }
+{
+    base.wrapping_add(sext(u64::from(disp), 16).wrapping_mul(65_536))
+}
+
+/// The address with its three low bits cleared.
+fn quadword(address: u64) -> u64
+    ensures { result ≡ quadword_at address }
+{
+    address & !7
+}
+
+/// A load, and what follows with its value; into R31 it does nothing.
+fn load(size: u64, table: &Table, what: Size, a: u8, address: u64, then: Then) -> Phase
+    requires { FollowFits then }
+    ensures plan { plan_of size table.now result ≡ loaded size table.now what a address (after size table.now then) }
     ensures fits { PhaseFits result }
 {
     if a == ZERO_REGISTER {
         return end(table);
     }
-    align(size, table, read_of(what, address), Then::Load { a })
-}
-
-/// A load of a longword; into R31 it does nothing.
-fn load_long(size: u64, table: &Table, a: u8, address: u64) -> Phase
-    requires { a < REGISTERS }
-    ensures plan { plan_of size table.now result ≡ loaded size table.now Long a address as_longword }
-    ensures fits { PhaseFits result }
-{
-    if a == ZERO_REGISTER {
-        return end(table);
-    }
-    align(
-        size,
-        table,
-        read_of(Size::Long, address),
-        Then::LoadLong { a },
-    )
-}
-
-/// The read of a datum at a virtual address.
-fn read_of(what: Size, address: u64) -> Wanted
-    ensures { result ≡ read_at what address }
-{
-    Wanted {
+    let read = Wanted {
         kind: Kind::Read,
         address,
         size: what.bytes(),
         value: 0,
-    }
+    };
+    align(size, table, read, then)
 }
 
 /// A store of the low datum of Ra.

@@ -18,8 +18,8 @@ const HEAD: [u8; 56] = [
 /// LDA R1, 1(R31); STQ R1, 0(R30); LDQ R2, 0(R30); BIS R31, R2, R3; halt.
 const STORE_AND_LOAD: [u32; 5] = [0x203F_0001, 0xB43E_0000, 0xA45E_0000, 0x47E2_0403, 0];
 
-/// A word that is not built.
-const NOT_BUILT: u32 = 0xF200_0003;
+/// A word of a floating opcode, which is not built.
+const NOT_BUILT: u32 = 0x8C3E_0000;
 
 /// The quadword at address 0x4000, where the stack starts.
 const STACK_QUADWORD: u64 = 0x800;
@@ -136,33 +136,99 @@ fn is_complete_once_every_processor_is(rt: HostRuntime) -> Result<(), Fail> {
     Ok(())
 }
 
+/// Steps the first processor over these words until a step is refused; the number of events.
+fn events_of(machine: &mut Machine, cpu: Cpu) -> u32 {
+    run_on(machine, cpu);
+    machine.events()
+}
+
+/// LDA R1, -1(R31); then a store of R1 and a load.
 #[test]
-fn tells_instructions_by_their_words(rt: HostRuntime) -> Result<(), Fail> {
+fn data_have_their_sizes(rt: HostRuntime) -> Result<(), Fail> {
     let cpu = Cpu::new(0).ok_or("0 is a processor's number")?;
-    for (first, second, events, n, value) in [
-        // another instruction
-        (NOT_BUILT, 0, 0, 0, 0),
+    for (store, load, events, value) in [
+        // STB R1, 1(R30); LDQ R2, 0(R30)
+        (0x383E_0001, 0xA45E_0000, 5, 0xFF00),
+        // STW R1, 2(R30); LDQ R2, 0(R30)
+        (0x343E_0002, 0xA45E_0000, 5, 0xFFFF_0000),
+        // STL R1, 4(R30); LDQ R2, 0(R30)
+        (0xB03E_0004, 0xA45E_0000, 5, 0xFFFF_FFFF_0000_0000),
+        // STQ_U R1, 5(R30); LDQ R2, 0(R30)
+        (0x3C3E_0005, 0xA45E_0000, 5, u64::MAX),
+        // STQ R1, 0(R30); LDBU R2, 7(R30)
+        (0xB43E_0000, 0x285E_0007, 5, 0xFF),
+        // STQ R1, 0(R30); LDWU R2, 6(R30)
+        (0xB43E_0000, 0x305E_0006, 5, 0xFFFF),
+        // STQ R1, 0(R30); LDL R2, 4(R30)
+        (0xB43E_0000, 0xA05E_0004, 5, u64::MAX),
+        // STQ R1, 0(R30); LDQ_U R2, 3(R30)
+        (0xB43E_0000, 0x2C5E_0003, 5, u64::MAX),
+        // STW R1, 1(R30), between two words
+        (0x343E_0001, 0, 1, 0),
+        // STQ R1, 0(R30); LDL R2, 2(R30), between two longwords
+        (0xB43E_0000, 0xA05E_0002, 3, 0),
+        // STQ R1, 0(R30); LDL_L R2, 0(R30)
+        (0xB43E_0000, 0xA85E_0000, 3, 0),
+    ] {
+        let words = [0x203F_FFFF, store, load, NOT_BUILT, 0];
+        let loaded = load_words(rt.alloc(), &words).ok().ok_or("memory")?;
+        let mut machine = loaded.ok_or("the file is an image")?;
+        assert_eq!(rt;
+            events_of(&mut machine, cpu),
+            events,
+            "{store:08X} {load:08X}"
+        );
+        assert!(rt; cpu.number() < machine.cpus());
+        assert_eq!(rt; machine.register(cpu, 2), value, "{store:08X} {load:08X}");
+    }
+    Ok(())
+}
+
+#[test]
+fn instructions_end_where_they_should(rt: HostRuntime) -> Result<(), Fail> {
+    let cpu = Cpu::new(0).ok_or("0 is a processor's number")?;
+    for (first, second, events, pc, n, value) in [
+        // a floating instruction
+        (NOT_BUILT, 0, 0, 0x2000, 0, 0),
         // LDA R2, 1(R31), and BIS R31, R2, R3 with bits 15:13 set
-        (0x205F_0001, 0x47E2_E403, 2, 3, 1),
+        (0x205F_0001, 0x47E2_E403, 2, 0x2008, 3, 1),
         // LDQ R31, 1(R30), which makes no access
-        (0xA7FE_0001, NOT_BUILT, 1, 31, 0),
-        // LDA R31, 5(R31), which is lost
-        (0x23FF_0005, NOT_BUILT, 1, 31, 0),
+        (0xA7FE_0001, NOT_BUILT, 1, 0x2004, 31, 0),
         // LDQ R2, 1(R30), between two quadwords
-        (0xA45E_0001, 0, 0, 2, 0),
+        (0xA45E_0001, 0, 0, 0x2000, 2, 0),
         // LDQ R2, 0x4000(R30), behind the end of memory
-        (0xA45E_4000, 0, 0, 2, 0),
+        (0xA45E_4000, 0, 0, 0x2000, 2, 0),
+        // LDAH R2, 1(R31)
+        (0x245F_0001, NOT_BUILT, 1, 0x2004, 2, 0x1_0000),
+        // LDA R1, 1(R31); RPCC R2 is the second instruction
+        (0x203F_0001, 0x605F_C000, 2, 0x2008, 2, 2),
+        // BR R2, over one instruction
+        (0xC040_0001, 0, 1, 0x2008, 2, 0xFFFF_FC00_0000_2004),
+        // BEQ R31, over one instruction
+        (0xE7E0_0001, 0, 1, 0x2008, 31, 0),
+        // BNE R31, which is not taken
+        (0xF7E0_0001, NOT_BUILT, 1, 0x2004, 31, 0),
+        // JSR R30, (R30), and the halt at 0x4000
+        (0x6BDE_4000, 0, 2, 0x4004, 30, 0xFFFF_FC00_0000_2004),
+        // TRAPB; MB
+        (0x6000_0000, 0x6000_4000, 1, 0x2004, 0, 0),
+        // LDA R1, 1(R31); ADDL/V R1, R1, R2
+        (0x203F_0001, 0x4021_0802, 2, 0x2008, 2, 2),
+        // LDAH R1, -0x8000(R31); ADDL/V R1, R1, R2, which overflows
+        (0x243F_8000, 0x4021_0802, 1, 0x2004, 2, 0),
+        // LDA R1, 1(R31); SLL R1, #63, R2
+        (0x203F_0001, 0x4827_F722, 2, 0x2008, 2, 1 << 63),
+        // ADDQ R31, #255, R2
+        (0x43FF_F402, NOT_BUILT, 1, 0x2004, 2, 255),
     ] {
         let words = [first, second, NOT_BUILT, 0, 0];
         let loaded = load_words(rt.alloc(), &words).ok().ok_or("memory")?;
         let mut machine = loaded.ok_or("the file is an image")?;
-        run_on(&mut machine, cpu);
-        assert_eq!(rt; machine.events(), events, "{first:08X}");
+        assert_eq!(rt; events_of(&mut machine, cpu), events, "{first:08X}");
         assert!(rt; cpu.number() < machine.cpus());
         assert!(rt; usize::from(n) < REGISTERS);
         assert_eq!(rt; machine.register(cpu, n), value, "{first:08X}");
-        let pc = 0xFFFF_FC00_0000_2000 + 4 * u64::from(events);
-        assert_eq!(rt; machine.pc(cpu), pc, "{first:08X}");
+        assert_eq!(rt; machine.pc(cpu), 0xFFFF_FC00_0000_0000 + pc, "{first:08X}");
     }
     Ok(())
 }

@@ -5,7 +5,8 @@ use Rattle.std.proofs.KnownBytes.{Appends-nil, Appends-trans}
 use Rattle.axp_io.specs.Causes.{Rose}
 use Rattle.axp_io.proofs.Fronts.{front_longer, front_after}
 use Rattle.axp_machine.specs.Runs.{Seen, table_of, steps_of}
-use Rattle.axp_machine.specs.declared.registers.TheConstants.{ZERO_REGISTER}
+use Rattle.axp_regs.specs.States.{pc_of}
+use Rattle.axp_regs.specs.declared.states.TheConstants.{ZERO_REGISTER}
 use Rattle.axp_base.specs.declared.parts.TheConstants.{QUADWORD_BYTES}
 use Rattle.axp_trace.specs.Lines.{with_feed, processor_line, console_line, end_line}
 use Rattle.axp_top.specs.declared.printing.Stop.{Stop}
@@ -84,17 +85,17 @@ prints_then b n n' c c' c'' t t' (Err s) first next = stopped_then b n n' c c' c
 -- ---- a processor's lines
 
 -- what the machine's readers tell is the definition's line
-processor_line_is : (line : List ℕ) (m : Seen) (p steps pc : ℕ) (halted : Option ℕ) → line ≡ processor_line p halted steps pc → halted ≡ (table_of m p).halted → steps ≡ steps_of m p → pc ≡ (table_of m p).state.pc
-    → line ≡ processor_line p (table_of m p).halted (steps_of m p) (table_of m p).state.pc
+processor_line_is : (line : List ℕ) (m : Seen) (p steps pc : ℕ) (halted : Option ℕ) → line ≡ processor_line p halted steps pc → halted ≡ (table_of m p).halted → steps ≡ steps_of m p → pc ≡ pc_of (table_of m p).state
+    → line ≡ processor_line p (table_of m p).halted (steps_of m p) (pc_of (table_of m p).state)
 processor_line_is line m p steps pc halted is h s at = rw (← h, ← s, ← at) is
 
-pub processor_stopped : (line : List ℕ) (m : Seen) (p steps pc : ℕ) (halted : Option ℕ) (b n : Option (List ℕ)) (c c' : ℕ) (s : Stop) → line ≡ processor_line p halted steps pc → halted ≡ (table_of m p).halted → steps ≡ steps_of m p → pc ≡ (table_of m p).state.pc
+pub processor_stopped : (line : List ℕ) (m : Seen) (p steps pc : ℕ) (halted : Option ℕ) (b n : Option (List ℕ)) (c c' : ℕ) (s : Stop) → line ≡ processor_line p halted steps pc → halted ≡ (table_of m p).halted → steps ≡ steps_of m p → pc ≡ pc_of (table_of m p).state
     → Stopped b n c c' (with_feed line) s → Stopped b n c c' (processor_text m p) s
 unfolding processor_text
 processor_stopped line m p steps pc halted b n c c' s is h st at stops =
     subst (λ l. Stopped b n c c' (with_feed l ++ registers_text m p ZERO_REGISTER) s) (processor_line_is line m p steps pc halted is h st at) (stopped_longer b n c c' (with_feed line) (registers_text m p ZERO_REGISTER) s stops)
 
-pub processor_prints : (line : List ℕ) (m : Seen) (p steps pc : ℕ) (halted : Option ℕ) (b n n' : Option (List ℕ)) (c c' c'' : ℕ) (r : Result (Unit {0}) Stop) → line ≡ processor_line p halted steps pc → halted ≡ (table_of m p).halted → steps ≡ steps_of m p → pc ≡ (table_of m p).state.pc
+pub processor_prints : (line : List ℕ) (m : Seen) (p steps pc : ℕ) (halted : Option ℕ) (b n n' : Option (List ℕ)) (c c' c'' : ℕ) (r : Result (Unit {0}) Stop) → line ≡ processor_line p halted steps pc → halted ≡ (table_of m p).halted → steps ≡ steps_of m p → pc ≡ pc_of (table_of m p).state
     → Printed b n c c' (with_feed line) → Prints n n' c' c'' (registers_text m p ZERO_REGISTER) r → Prints b n' c c'' (processor_text m p) r
 unfolding processor_text
 processor_prints line m p steps pc halted b n n' c c' c'' r is h st at first next =

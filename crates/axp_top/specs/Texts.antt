@@ -2,8 +2,8 @@
 use Rattle.std.specs.Prelude.{ℕ, zero, suc, ◌*◌, ◌/◌, ◌==◌, List, [], ◌∷◌, ◌++◌, length, if◌then◌else◌}
 use Rattle.axp_access.specs.declared.Record.{Record}
 use Rattle.axp_base.specs.declared.parts.TheConstants.{QUADWORD_BYTES}
-use Rattle.axp_machine.specs.declared.registers.TheConstants.{ZERO_REGISTER}
-use Rattle.axp_machine.specs.Registers.{register}
+use Rattle.axp_regs.specs.declared.states.TheConstants.{ZERO_REGISTER}
+use Rattle.axp_regs.specs.States.{pc_of, register}
 use Rattle.axp_machine.specs.Runs.{Seen, table_of, steps_of, quadword_of}
 use Rattle.axp_model.specs.Sources.{is_touched}
 use Rattle.axp_trace.specs.Lines.{with_feed, line_text, trace_header, processor_line, register_line, memory_line, console_line, end_line}
@@ -37,7 +37,7 @@ registers_text m p (suc n) = registers_text m p n ++ register_text m p n
 
 -- a processor: how it ended, and each register that reads otherwise than 0
 unfoldable pub processor_text : Seen → ℕ → List ℕ
-processor_text m p = with_feed (processor_line p (table_of m p).halted (steps_of m p) (table_of m p).state.pc) ++ registers_text m p ZERO_REGISTER
+processor_text m p = with_feed (processor_line p (table_of m p).halted (steps_of m p) (pc_of (table_of m p).state)) ++ registers_text m p ZERO_REGISTER
 
 -- the processors below n
 unfoldable pub processors_text : Seen → ℕ → List ℕ

@@ -1,7 +1,7 @@
 ghost use Rattle.std.specs.Prelude.{◌*◌, ◌/◌, ◌^◌, ◌<◌, ◌≤◌};
 ghost use Rattle.axp_base.specs.Cpus.{cpu_number};
 ghost use Rattle.axp_base.specs.declared.parts.TheConstants.{QUADWORD_BYTES};
-ghost use Rattle.axp_machine.specs.declared.registers.TheConstants.{ZERO_REGISTER};
+ghost use Rattle.axp_regs.specs.declared.states.TheConstants.{ZERO_REGISTER};
 ghost use Rattle.axp_top.specs.Printing.{Prints};
 ghost use Rattle.axp_top.specs.Texts.{register_text, registers_text, processor_text, processors_text, quadword_text, memory_text, tail};
 

@@ -25,16 +25,16 @@ const STORE_AND_LOAD: [u8; 76] = [
     0x03, 0x04, 0xE2, 0x47, 0, 0, 0, 0, // BIS, halt
 ];
 
-/// As `STORE_AND_LOAD`, with a segment of two words: LDA R1, 1(R31), and a branch, which is not
-/// built.
-const BRANCH: [u8; 64] = [
+/// As `STORE_AND_LOAD`, with a segment of two words: LDA R1, 1(R31), and a memory barrier, which is
+/// not built.
+const BARRIER: [u8; 64] = [
     0x41, 0x58, 0x50, 0x49, 1, 0, 1, 0, // magic, version, count
     0, 0x80, 0, 0, 0, 0, 0, 0, // size
     0, 0x20, 0, 0, 0, 0xFC, 0xFF, 0xFF, // entry
     0, 0x40, 0, 0, 0, 0xFC, 0xFF, 0xFF, // stack
     0, 0, 0, 0, 0, 0, 0, 0, // table
     0, 0x20, 0, 0, 0, 0, 0, 0, 8, 0, 0, 0, 0, 0, 0, 0, // the segment's record
-    0x01, 0x00, 0x3F, 0x20, 0x03, 0x00, 0x00, 0xF2,
+    0x01, 0x00, 0x3F, 0x20, 0x00, 0x40, 0x00, 0x60,
 ];
 
 const HALT_EVENTS: &str = "axp-events 1 cpus 2 budget 1\n0 step\n1 step\n";
@@ -187,9 +187,9 @@ fn prints_the_run_of_an_event_list(rt: HostRuntime) -> Result<(), Fail> {
 #[test]
 fn ends_at_the_first_event_that_is_not_built(rt: HostRuntime) -> Result<(), Fail> {
     let rows = [
-        // a branch
+        // a memory barrier
         replayed(
-            &BRANCH,
+            &BARRIER,
             "axp-events 1 cpus 2 budget 20\n0 step\n0 step\n",
             "axp-trace 1 cpus 2 budget 20 memory 32768\n\
              0 step : i 00002000 203F0001 @0\n\

@@ -1,5 +1,5 @@
 use Rattle.axp_base.specs.Cpus.{cpu_number}
-use Rattle.axp_machine.specs.declared.registers.TheConstants.{ZERO_REGISTER}
+use Rattle.axp_regs.specs.declared.states.TheConstants.{ZERO_REGISTER}
 use Rattle.axp_top.specs.Texts.{registers_text, register_text}
 use Rattle.axp_top.proofs.Printings.{exits, printed_none, printed_more, stopped_at, registers_more, registers_none}
 use Rattle.axp_top.proofs.tail.print_registers.Goals as goal
