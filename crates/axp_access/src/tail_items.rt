@@ -1,6 +1,6 @@
 use axp_base::{Bytes, Cpu};
 
-/// One line of a trace's tail, which says what the events left.
+/// One line of a trace's tail: what the events left.
 #[derive(Debug, Drop)]
 pub enum TailItem {
     /// How a processor ended.
@@ -11,33 +11,33 @@ pub enum TailItem {
         halt: u8,
         /// How many steps it made, 0 to 32,768.
         steps: u32,
-        /// Its program counter: any number.
+        /// The program counter after its last whole instruction: any number.
         pc: u64,
     },
-    /// What a register holds.
+    /// A register of a processor, after its last whole instruction.
     Reg {
         /// The processor.
         cpu: Cpu,
         /// The register's number, 0 to 30.
         n: u8,
-        /// Its value: any number.
+        /// Its value: any number but 0, since a register that is 0 has no line.
         value: u64,
     },
-    /// What an aligned quadword of memory holds.
+    /// An aligned quadword of memory that a write touched.
     Mem {
-        /// The physical address, a multiple of 8 below 2^32.
+        /// Its physical address, a multiple of 8 below 2^32.
         address: u64,
-        /// The bytes as a little-endian number: any number.
+        /// Its bytes as a little-endian number: any number.
         value: u64,
     },
-    /// What was written to the console.
+    /// All that was sent to the console.
     Console {
-        /// The bytes, in the order in which they were written: any, and none where nothing was.
+        /// The bytes, in the order in which they were sent; none where nothing was sent.
         bytes: Bytes,
     },
     /// The end of the trace.
     End {
-        /// How many events the trace has: any number that fits.
+        /// How many events the trace has: any number of 32 bits.
         events: u32,
     },
 }

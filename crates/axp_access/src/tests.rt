@@ -23,3 +23,17 @@ fn events_are_kept_in_order(rt: HostRuntime) -> Result<(), Fail> {
     assert_eq!(rt; EventList::with_room(rt.alloc(), 0)?.len(), 0);
     Ok(())
 }
+
+#[test]
+fn console_line_owns_its_bytes(rt: HostRuntime) -> Result<(), Fail> {
+    let line = TailItem::Console {
+        bytes: Bytes::copy(rt.alloc(), b"ok")?,
+    };
+    let kept = match line {
+        TailItem::Console { bytes } => Some(bytes),
+        _ => None,
+    };
+    let bytes = kept.ok_or("it is the console's line")?;
+    assert_eq!(rt; bytes.as_slice(), b"ok".as_slice());
+    Ok(())
+}
