@@ -1,7 +1,6 @@
--- A list of events as its callers see it.
-use Rattle.std.specs.Prelude.{◌≡◌, ℕ, ◌^◌, ◌<◌, ◌≤◌, List, [], ◌∷◌, ◌++◌, length}
+-- The vector behind a list of events.
+use Rattle.std.specs.Prelude.{◌^◌, ◌<◌, ◌≤◌, length}
 use Rattle.std.specs.Vec.{vec_capacity}
-use Rattle.axp_access.specs.declared.Event.{Event}
 use Rattle.axp_access.specs.declared.event_lists.EventList.TheInside.{Inside}
 use Rattle.axp_access.specs.Events.{Events}
 
@@ -9,6 +8,7 @@ use Rattle.axp_access.specs.Events.{Events}
 abbrev pub events_of : Inside → Events
 events_of a = record { items = a.items.items; room = vec_capacity a.items }
 
+-- there are no more events than there is room, and both are numbers of 32 bits
 pub record HasRoom (a : Inside) : Type 0 where
   pub within : length a.items.items ≤ vec_capacity a.items
   pub small : vec_capacity a.items < 2 ^ 32

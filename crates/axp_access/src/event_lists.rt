@@ -1,4 +1,4 @@
-ghost use Rattle.std.specs.Prelude.{◌≡◌, ◌-◌, ◌<◌, ◌≤◌, Some, length, slice_get, IfOk};
+ghost use Rattle.std.specs.Prelude.{◌≡◌, ◌-◌, ◌<◌, ◌≤◌, Some, length, slice_get, IfOk, IsOk};
 ghost use Rattle.axp_access.specs.Events.{no_events, with_event};
 
 use crate::Event;
@@ -25,9 +25,11 @@ impl Model for EventList {
 }
 
 impl EventList {
-    /// A list of no event with this room, all of which is taken here.
+    /// A list of no event with this room, all of whose memory is taken here; a list without room
+    /// takes none.
     pub fn with_room(alloc: Global, room: u32) -> Result<EventList, NoMemory>
-        ensures { IfOk result (λ list. list ≡ no_events room) }
+        ensures value { IfOk result (λ list. list ≡ no_events room) }
+        ensures no_room { room ≡ 0 → IsOk result }
     {
         let items = Vec::with_capacity(alloc, room as usize)?;
         Ok(EventList { items })
