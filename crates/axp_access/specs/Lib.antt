@@ -1,1 +1,3 @@
 pub mod Spelling
+pub mod Events
+pub mod EventLists

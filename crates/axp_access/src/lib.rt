@@ -1,8 +1,13 @@
-//! The types of events, accesses and outcomes.
+//! The types of events, accesses and outcomes, and of the lines of a trace.
 #![tactic(auto)]
 
-pub use axp_base::Cpu;
+mod event_lists;
+mod tail_items;
+
+pub use axp_base::{Bytes, Cpu};
 pub use axp_regs::{Ask, Kind};
+pub use event_lists::EventList;
+pub use tail_items::TailItem;
 
 /// What a processor does in one event.
 #[derive(Clone, Copy, Debug, PartialEq, Eq)]
@@ -63,3 +68,6 @@ pub struct Record {
     /// What came of it.
     pub outcome: Outcome,
 }
+
+#[cfg(test)]
+mod tests;

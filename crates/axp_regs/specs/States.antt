@@ -1,5 +1,5 @@
 -- The state of a processor, by its readers and writers.
-use Rattle.std.specs.Prelude.{ℕ, Bool, false, ◌==◌, if◌then◌else◌, List, replicate, slice_index, slice_set}
+use Rattle.std.specs.Prelude.{ℕ, Bool, false, ◌==◌, if◌then◌else◌, replicate, slice_index, slice_set}
 use Rattle.axp_regs.specs.declared.states.State.{State}
 use Rattle.axp_regs.specs.declared.states.TheConstants.{ENTRIES, FIRST_PS, REGISTERS, ZERO_REGISTER}
 
