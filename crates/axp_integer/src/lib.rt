@@ -5,5 +5,7 @@
 mod comparing;
 mod operating;
 mod overflow;
+#[cfg(test)]
+mod tests;
 
 pub use operating::operate;
