@@ -1,2 +1,5 @@
+pub mod Arithmetic
+pub mod Bitwise
 pub mod ByteComparisons
 pub mod Flags
+pub mod MoveLemmas

@@ -3,9 +3,14 @@
 #![tactic(auto)]
 
 mod comparing;
+mod laws;
 mod operating;
 mod overflow;
 #[cfg(test)]
 mod tests;
 
+pub use laws::{
+    amask_clears_the_lowest_bit, bytes_compared, difference_takes_back_sum, exact_without_overflow, logic_by_bits,
+    logic_by_complements, opposite_moves, overflow_is_no_fit, whole_product,
+};
 pub use operating::operate;

@@ -1,0 +1,53 @@
+-- What the rows of sums, differences and products come to.
+use Rattle.std.proofs.Common.{◌≡◌, ◌↔◌, ℕ, ℤ, ◌+◌, ◌-◌, ◌*◌, ◌/◌, ◌%◌, ◌^◌, ◌<◌, true, false, ◌+ℤ◌, ◌-ℤ◌, ◌*ℤ◌, FitsSigned, arith, refl, ap, ◌∙◌}
+use Rattle.std.specs.Int.{w32, w64, cast_signed}
+use Rattle.std.proofs.lemmas.Nat.{div-add-mod', mod_below}
+use Rattle.axp_base.specs.Numbers.{signed, add, sub, mul}
+use Rattle.axp_decode.specs.declared.names.Op.TheVariants.{ADDQ, SUBQ, ADDLV, SUBLV, ADDQV, SUBQV, AMASK, MULQ, UMULH, MULLV, MULQV}
+use Rattle.axp_integer.specs.Results.{overflows, signed_longword}
+use Rattle.axp_integer.specs.Rows.{value_of, overflow_of}
+use Rattle.axp_integer.proofs.Flags.{overflows_no_fit, add_exact, sub_exact, mul_exact}
+
+pub whole_product : (a b old : ℕ) → value_of UMULH a b old * 2 ^ 64 + value_of MULQ a b old ≡ a * b
+unfolding value_of
+whole_product a b old = div-add-mod' (a * b) (2 ^ 64)
+
+pub subtracted_again : (a b o : ℕ) → a < 2 ^ 64 → b < 2 ^ 64 → value_of SUBQ (value_of ADDQ a b o) b o ≡ a
+unfolding value_of
+subtracted_again a b o p q = omega arith
+
+pub addq_exact : (a b old : ℕ) → a < 2 ^ 64 → b < 2 ^ 64 → overflow_of ADDQV a b ≡ false → signed (value_of ADDQV a b old) ≡ signed a +ℤ signed b
+unfolding value_of overflow_of
+addq_exact a b old p q e = add_exact w64 a b p q e
+
+pub subq_exact : (a b old : ℕ) → a < 2 ^ 64 → b < 2 ^ 64 → overflow_of SUBQV a b ≡ false → signed (value_of SUBQV a b old) ≡ signed a -ℤ signed b
+unfolding value_of overflow_of
+subq_exact a b old p q e = sub_exact w64 a b p q e
+
+pub mulq_exact : (a b old : ℕ) → a < 2 ^ 64 → b < 2 ^ 64 → overflow_of MULQV a b ≡ false → signed (value_of MULQV a b old) ≡ signed a *ℤ signed b
+unfolding value_of overflow_of
+mulq_exact a b old p q e = mul_exact w64 a b p q e
+
+pub addl_no_fit : (a b : ℕ) → (overflow_of ADDLV a b ≡ true) ↔ (FitsSigned w32 (signed_longword a +ℤ signed_longword b) → ⊥)
+unfolding overflow_of
+addl_no_fit a b = overflows_no_fit w32 (signed_longword a +ℤ signed_longword b)
+
+pub subl_no_fit : (a b : ℕ) → (overflow_of SUBLV a b ≡ true) ↔ (FitsSigned w32 (signed_longword a -ℤ signed_longword b) → ⊥)
+unfolding overflow_of
+subl_no_fit a b = overflows_no_fit w32 (signed_longword a -ℤ signed_longword b)
+
+pub mull_no_fit : (a b : ℕ) → (overflow_of MULLV a b ≡ true) ↔ (FitsSigned w32 (signed_longword a *ℤ signed_longword b) → ⊥)
+unfolding overflow_of
+mull_no_fit a b = overflows_no_fit w32 (signed_longword a *ℤ signed_longword b)
+
+pub addq_no_fit : (a b : ℕ) → (overflow_of ADDQV a b ≡ true) ↔ (FitsSigned w64 (signed a +ℤ signed b) → ⊥)
+unfolding overflow_of
+addq_no_fit a b = overflows_no_fit w64 (signed a +ℤ signed b)
+
+pub subq_no_fit : (a b : ℕ) → (overflow_of SUBQV a b ≡ true) ↔ (FitsSigned w64 (signed a -ℤ signed b) → ⊥)
+unfolding overflow_of
+subq_no_fit a b = overflows_no_fit w64 (signed a -ℤ signed b)
+
+pub mulq_no_fit : (a b : ℕ) → (overflow_of MULQV a b ≡ true) ↔ (FitsSigned w64 (signed a *ℤ signed b) → ⊥)
+unfolding overflow_of
+mulq_no_fit a b = overflows_no_fit w64 (signed a *ℤ signed b)

@@ -1,0 +1,11 @@
+use Rattle.axp_integer.proofs.Arithmetic.{addq_exact, subq_exact, mulq_exact}
+use Rattle.axp_integer.proofs.laws.exact_without_overflow.Goals as goal
+
+pub returns-clause-addq : goal.returns-clause-addq
+returns-clause-addq c = addq_exact
+
+pub returns-clause-subq : goal.returns-clause-subq
+returns-clause-subq c = subq_exact
+
+pub returns-clause-mulq : goal.returns-clause-mulq
+returns-clause-mulq c = mulq_exact

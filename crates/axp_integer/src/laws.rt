@@ -1,0 +1,78 @@
+//! Laws of the rows, each proved as the contract of a function that does nothing.
+ghost use Rattle.std.specs.Prelude.{ℕ, FitsSigned, ◌≡◌, ◌↔◌, ◌<◌, ◌+◌, ◌-◌, ◌*◌, ◌%◌, ◌^◌, ◌+ℤ◌, ◌-ℤ◌, ◌*ℤ◌, true, false, not, ◌&&◌, ◌||◌, nat_le, if◌then◌else◌};
+ghost use Rattle.std.specs.Int.{w32, w64};
+ghost use Rattle.axp_base.specs.Masks.{has_bit};
+ghost use Rattle.axp_base.specs.Numbers.{complement, signed};
+ghost use Rattle.axp_base.specs.Parts.{byte};
+ghost use Rattle.axp_decode.specs.declared.names.Op.TheVariants.{ADDQ, SUBQ, ADDLV, SUBLV, ADDQV, SUBQV, CMPBGE, AND, BIC, BIS, ORNOT, XOR, EQV, CMOVLBS, CMOVLBC, CMOVEQ, CMOVNE, CMOVLT, CMOVGE, CMOVLE, CMOVGT, AMASK, MULQ, UMULH, MULLV, MULQV};
+ghost use Rattle.axp_integer.specs.Moves.{AreOpposite};
+ghost use Rattle.axp_integer.specs.Results.{signed_longword};
+ghost use Rattle.axp_integer.specs.Rows.{value_of, overflow_of};
+
+/// UMULH and MULQ give the high and the low half of the whole product of two quadwords.
+pub fn whole_product()
+    ensures { (a b old : ℕ) → value_of UMULH a b old * 2 ^ 64 + value_of MULQ a b old ≡ a * b }
+{}
+
+/// SUBQ takes back ADDQ, also where the sum passes 2 ^ 64.
+pub fn difference_takes_back_sum()
+    ensures { (a b old : ℕ) → a < 2 ^ 64 → b < 2 ^ 64 → value_of SUBQ (value_of ADDQ a b old) b old ≡ a }
+{}
+
+/// A /V instruction tells an overflow exactly where the exact result does not fit: that of the low
+/// longwords in 32 bits, that of quadwords in 64.
+pub fn overflow_is_no_fit()
+    ensures addl { (a b : ℕ) → (overflow_of ADDLV a b ≡ true) ↔ (FitsSigned w32 (signed_longword a +ℤ signed_longword b) → ⊥) }
+    ensures subl { (a b : ℕ) → (overflow_of SUBLV a b ≡ true) ↔ (FitsSigned w32 (signed_longword a -ℤ signed_longword b) → ⊥) }
+    ensures mull { (a b : ℕ) → (overflow_of MULLV a b ≡ true) ↔ (FitsSigned w32 (signed_longword a *ℤ signed_longword b) → ⊥) }
+    ensures addq { (a b : ℕ) → (overflow_of ADDQV a b ≡ true) ↔ (FitsSigned w64 (signed a +ℤ signed b) → ⊥) }
+    ensures subq { (a b : ℕ) → (overflow_of SUBQV a b ≡ true) ↔ (FitsSigned w64 (signed a -ℤ signed b) → ⊥) }
+    ensures mulq { (a b : ℕ) → (overflow_of MULQV a b ≡ true) ↔ (FitsSigned w64 (signed a *ℤ signed b) → ⊥) }
+{}
+
+/// Where no overflow is told, what a /V instruction writes is the exact result.
+pub fn exact_without_overflow()
+    ensures addq { (a b old : ℕ) → a < 2 ^ 64 → b < 2 ^ 64 → overflow_of ADDQV a b ≡ false
+        → signed (value_of ADDQV a b old) ≡ signed a +ℤ signed b }
+    ensures subq { (a b old : ℕ) → a < 2 ^ 64 → b < 2 ^ 64 → overflow_of SUBQV a b ≡ false
+        → signed (value_of SUBQV a b old) ≡ signed a -ℤ signed b }
+    ensures mulq { (a b old : ℕ) → a < 2 ^ 64 → b < 2 ^ 64 → overflow_of MULQV a b ≡ false
+        → signed (value_of MULQV a b old) ≡ signed a *ℤ signed b }
+{}
+
+/// Bit `n` of what CMPBGE writes is 1 exactly where byte `n` of Ra is at least that of Rb, and the
+/// other bits are 0.
+pub fn bytes_compared()
+    ensures each { (a b old n : ℕ) → n < 8 → has_bit (value_of CMPBGE a b old) n ≡ nat_le (byte b n) (byte a n) }
+    ensures others { (a b old : ℕ) → value_of CMPBGE a b old < 2 ^ 8 }
+{}
+
+/// What the logical instructions do with each bit.
+pub fn logic_by_bits()
+    ensures and { (a b old n : ℕ) → has_bit (value_of AND a b old) n ≡ (has_bit a n && has_bit b n) }
+    ensures bis { (a b old n : ℕ) → has_bit (value_of BIS a b old) n ≡ (has_bit a n || has_bit b n) }
+    ensures xor { (a b old n : ℕ) → has_bit (value_of XOR a b old) n ≡ (if has_bit a n then not (has_bit b n) else has_bit b n) }
+    ensures bic { (a b old n : ℕ) → b < 2 ^ 64 → n < 64 → has_bit (value_of BIC a b old) n ≡ (has_bit a n && not (has_bit b n)) }
+    ensures ornot { (a b old n : ℕ) → b < 2 ^ 64 → n < 64 → has_bit (value_of ORNOT a b old) n ≡ (has_bit a n || not (has_bit b n)) }
+    ensures eqv { (a b old n : ℕ) → b < 2 ^ 64 → n < 64 → has_bit (value_of EQV a b old) n ≡ (if has_bit a n then has_bit b n else not (has_bit b n)) }
+{}
+
+/// EQV is the complement of XOR, and BIC that of ORNOT with the operands the other way round.
+pub fn logic_by_complements()
+    ensures eqv { (a b old : ℕ) → a < 2 ^ 64 → b < 2 ^ 64 → value_of EQV a b old ≡ complement (value_of XOR a b old) }
+    ensures bic { (a b old : ℕ) → a < 2 ^ 64 → b < 2 ^ 64 → value_of BIC a b old ≡ complement (value_of ORNOT b a old) }
+{}
+
+/// Of two conditional moves with opposite conditions one writes Rb, and the other leaves Rc.
+pub fn opposite_moves()
+    ensures low_bit { AreOpposite CMOVLBS CMOVLBC }
+    ensures equal { AreOpposite CMOVEQ CMOVNE }
+    ensures less { AreOpposite CMOVLT CMOVGE }
+    ensures less_or_equal { AreOpposite CMOVLE CMOVGT }
+{}
+
+/// AMASK clears bit 0 alone, the byte and word extension's.
+pub fn amask_clears_the_lowest_bit()
+    ensures lowest { (a b old : ℕ) → has_bit (value_of AMASK a b old) 0 ≡ false }
+    ensures others { (a b old n : ℕ) → 0 < n → has_bit (value_of AMASK a b old) n ≡ has_bit b n }
+{}
