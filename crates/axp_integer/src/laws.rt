@@ -1,5 +1,5 @@
 //! Laws of the rows, each proved as the contract of a function that does nothing.
-ghost use Rattle.std.specs.Prelude.{ℕ, FitsSigned, ◌≡◌, ◌↔◌, ◌<◌, ◌+◌, ◌-◌, ◌*◌, ◌%◌, ◌^◌, ◌+ℤ◌, ◌-ℤ◌, ◌*ℤ◌, true, false, not, ◌&&◌, ◌||◌, nat_le, if◌then◌else◌};
+ghost use Rattle.std.specs.Prelude.{ℕ, FitsSigned, ◌≡◌, ◌↔◌, ◌<◌, ◌+◌, ◌-◌, ◌*◌, ◌%◌, ◌^◌, ◌+ℤ◌, ◌-ℤ◌, ◌*ℤ◌, true, false, not, ◌&&◌, ◌||◌, nat_le, int_lt, pos, if◌then◌else◌};
 ghost use Rattle.std.specs.Int.{w32, w64};
 ghost use Rattle.axp_base.specs.Masks.{has_bit};
 ghost use Rattle.axp_base.specs.Numbers.{complement, signed};
@@ -32,6 +32,12 @@ pub fn overflow_is_no_fit()
 
 /// Where no overflow is told, what a /V instruction writes is the exact result.
 pub fn exact_without_overflow()
+    ensures addl { (a b old : ℕ) → overflow_of ADDLV a b ≡ false
+        → signed (value_of ADDLV a b old) ≡ signed_longword a +ℤ signed_longword b }
+    ensures subl { (a b old : ℕ) → b < 2 ^ 64 → overflow_of SUBLV a b ≡ false
+        → signed (value_of SUBLV a b old) ≡ signed_longword a -ℤ signed_longword b }
+    ensures mull { (a b old : ℕ) → overflow_of MULLV a b ≡ false
+        → signed (value_of MULLV a b old) ≡ signed_longword a *ℤ signed_longword b }
     ensures addq { (a b old : ℕ) → a < 2 ^ 64 → b < 2 ^ 64 → overflow_of ADDQV a b ≡ false
         → signed (value_of ADDQV a b old) ≡ signed a +ℤ signed b }
     ensures subq { (a b old : ℕ) → a < 2 ^ 64 → b < 2 ^ 64 → overflow_of SUBQV a b ≡ false
@@ -69,6 +75,14 @@ pub fn opposite_moves()
     ensures equal { AreOpposite CMOVEQ CMOVNE }
     ensures less { AreOpposite CMOVLT CMOVGE }
     ensures less_or_equal { AreOpposite CMOVLE CMOVGT }
+{}
+
+/// The conditional moves that test the sign compare the integer that Ra is with 0.
+pub fn moves_by_sign()
+    ensures less { (a b old : ℕ) → a < 2 ^ 64 → value_of CMOVLT a b old ≡ (if int_lt (signed a) (pos 0) then b else old) }
+    ensures greater_or_equal { (a b old : ℕ) → a < 2 ^ 64 → value_of CMOVGE a b old ≡ (if int_lt (signed a) (pos 0) then old else b) }
+    ensures less_or_equal { (a b old : ℕ) → a < 2 ^ 64 → value_of CMOVLE a b old ≡ (if int_lt (pos 0) (signed a) then old else b) }
+    ensures greater { (a b old : ℕ) → a < 2 ^ 64 → value_of CMOVGT a b old ≡ (if int_lt (pos 0) (signed a) then b else old) }
 {}
 
 /// AMASK clears bit 0 alone, the byte and word extension's.

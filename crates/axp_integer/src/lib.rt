@@ -10,7 +10,8 @@ mod overflow;
 mod tests;
 
 pub use laws::{
-    amask_clears_the_lowest_bit, bytes_compared, difference_takes_back_sum, exact_without_overflow, logic_by_bits,
-    logic_by_complements, opposite_moves, overflow_is_no_fit, whole_product,
+    amask_clears_the_lowest_bit, bytes_compared, difference_takes_back_sum, exact_without_overflow,
+    logic_by_bits, logic_by_complements, moves_by_sign, opposite_moves, overflow_is_no_fit,
+    whole_product,
 };
 pub use operating::operate;
