@@ -52,7 +52,7 @@ value_of CMOVLT a b old = if is_negative a then b else old
 value_of CMOVGE a b old = if is_negative a then old else b
 value_of CMOVLE a b old = if is_negative a || (a == 0) then b else old
 value_of CMOVGT a b old = if is_negative a || (a == 0) then old else b
--- bit 0 is the byte and word extension, the only one that is implemented
+-- bit 0 is the byte and word extension, the only one that is implemented; version 2 is that of the 21264
 value_of AMASK a b old = b / 2 * 2
 value_of IMPLVER a b old = 2
 -- products

@@ -4,7 +4,7 @@ ghost use Rattle.std.specs.Int.{w32, w64};
 ghost use Rattle.axp_base.specs.Masks.{has_bit};
 ghost use Rattle.axp_base.specs.Numbers.{complement, signed};
 ghost use Rattle.axp_base.specs.Parts.{byte};
-ghost use Rattle.axp_decode.specs.declared.names.Op.TheVariants.{ADDQ, SUBQ, ADDLV, SUBLV, ADDQV, SUBQV, CMPBGE, AND, BIC, BIS, ORNOT, XOR, EQV, CMOVLBS, CMOVLBC, CMOVEQ, CMOVNE, CMOVLT, CMOVGE, CMOVLE, CMOVGT, AMASK, MULQ, UMULH, MULLV, MULQV};
+ghost use Rattle.axp_decode.specs.declared.names.Op.TheVariants.{ADDL, SUBL, ADDQ, SUBQ, ADDLV, SUBLV, ADDQV, SUBQV, CMPBGE, AND, BIC, BIS, ORNOT, XOR, EQV, CMOVLBS, CMOVLBC, CMOVEQ, CMOVNE, CMOVLT, CMOVGE, CMOVLE, CMOVGT, AMASK, MULL, MULQ, UMULH, MULLV, MULQV};
 ghost use Rattle.axp_integer.specs.Moves.{AreOpposite};
 ghost use Rattle.axp_integer.specs.Results.{signed_longword};
 ghost use Rattle.axp_integer.specs.Rows.{value_of, overflow_of};
@@ -19,7 +19,7 @@ pub fn difference_takes_back_sum()
     ensures { (a b old : ℕ) → a < 2 ^ 64 → b < 2 ^ 64 → value_of SUBQ (value_of ADDQ a b old) b old ≡ a }
 {}
 
-/// A /V instruction tells an overflow exactly where the exact result does not fit: that of the low
+/// A /V instruction overflows exactly where the exact result does not fit: that of the low
 /// longwords in 32 bits, that of quadwords in 64.
 pub fn overflow_is_no_fit()
     ensures addl { (a b : ℕ) → (overflow_of ADDLV a b ≡ true) ↔ (FitsSigned w32 (signed_longword a +ℤ signed_longword b) → ⊥) }
@@ -30,7 +30,18 @@ pub fn overflow_is_no_fit()
     ensures mulq { (a b : ℕ) → (overflow_of MULQV a b ≡ true) ↔ (FitsSigned w64 (signed a *ℤ signed b) → ⊥) }
 {}
 
-/// Where no overflow is told, what a /V instruction writes is the exact result.
+/// A /V instruction writes what the instruction without /V writes, also where it overflows.
+#[tactic(auto, unfolding(crate::specs::Rows::value_of))]
+pub fn overflow_keeps_the_value()
+    ensures addl { (a b old : ℕ) → value_of ADDLV a b old ≡ value_of ADDL a b old }
+    ensures subl { (a b old : ℕ) → value_of SUBLV a b old ≡ value_of SUBL a b old }
+    ensures mull { (a b old : ℕ) → value_of MULLV a b old ≡ value_of MULL a b old }
+    ensures addq { (a b old : ℕ) → value_of ADDQV a b old ≡ value_of ADDQ a b old }
+    ensures subq { (a b old : ℕ) → value_of SUBQV a b old ≡ value_of SUBQ a b old }
+    ensures mulq { (a b old : ℕ) → value_of MULQV a b old ≡ value_of MULQ a b old }
+{}
+
+/// Where a /V instruction does not overflow, the integer that it writes is the exact result.
 pub fn exact_without_overflow()
     ensures addl { (a b old : ℕ) → overflow_of ADDLV a b ≡ false
         → signed (value_of ADDLV a b old) ≡ signed_longword a +ℤ signed_longword b }
@@ -69,7 +80,7 @@ pub fn logic_by_complements()
     ensures bic { (a b old : ℕ) → a < 2 ^ 64 → b < 2 ^ 64 → value_of BIC a b old ≡ complement (value_of ORNOT b a old) }
 {}
 
-/// Of two conditional moves with opposite conditions one writes Rb, and the other leaves Rc.
+/// Of two conditional moves with opposite conditions one writes Rb to Rc, and the other leaves Rc.
 pub fn opposite_moves()
     ensures low_bit { AreOpposite CMOVLBS CMOVLBC }
     ensures equal { AreOpposite CMOVEQ CMOVNE }
