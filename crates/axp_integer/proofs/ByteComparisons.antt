@@ -1,15 +1,14 @@
--- The comparison of bytes, one byte more.
-use Rattle.std.proofs.Common.{◌≡◌, ℕ, zero, suc, ◌+◌, ◌^◌, ◌<◌, ◌≤◌, arith, refl, leb, cond, add-one}
-use Rattle.std.proofs.Math.Pow.{pow_mono}
-use Rattle.axp_base.specs.Parts.{byte}
-use Rattle.std.proofs.Common.{Bool, true, false, eqb, sym, ap, ◌∙◌, ◌*◌, ◌-◌, ⊎_elim}
+-- The comparison of bytes: one byte more, and each bit.
+use Rattle.std.proofs.Common.{◌≡◌, ℕ, zero, suc, ◌+◌, ◌-◌, ◌*◌, ◌^◌, ◌<◌, ◌≤◌, Bool, true, false, cond, eqb, leb, arith, refl, sym, ap, ◌∙◌, add-one, ⊎_elim}
 use Rattle.std.specs.Int.{bit_at}
+use Rattle.std.proofs.Math.Pow.{pow_mono}
 use Rattle.std.proofs.lemmas.Bool.{cases_eq}
 use Rattle.std.proofs.lemmas.Nat.Bits.{bit_at_cat_low, bit_at_cat_high}
 use Rattle.axp_base.specs.Masks.{has_bit}
+use Rattle.axp_base.specs.Parts.{byte}
 use Rattle.axp_decode.specs.declared.names.Op.TheVariants.{CMPBGE}
-use Rattle.axp_integer.specs.Rows.{value_of}
 use Rattle.axp_integer.specs.Results.{bytes_at_least}
+use Rattle.axp_integer.specs.Rows.{value_of}
 
 pub bytes_at_least_small : (n a b : ℕ) → bytes_at_least n a b < 2 ^ n
 unfolding bytes_at_least

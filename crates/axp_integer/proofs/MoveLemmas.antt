@@ -1,15 +1,14 @@
--- Of two opposite conditional moves one writes.
-use Rattle.std.proofs.Common.{◌≡◌, ◌⊎◌, ℕ, zero, suc, ◌%◌, ◌<◌, Bool, true, false, cond, eqb, ltb, inl, inr, arith, refl}
+-- Of two opposite conditional moves one writes, and those that test the sign compare integers.
+use Rattle.std.proofs.Common.{◌≡◌, ◌⊎◌, ℕ, zero, suc, pos, negsuc, ◌-◌, ◌%◌, ◌^◌, ◌<◌, ◌≤◌, Bool, true, false, cond, eqb, ltb, inl, inr, arith, refl, sym, ap, ◌∙◌, ⊎_elim}
+use Rattle.std.specs.Prelude.{◌||◌, ◌==◌, not, int_lt, if◌then◌else◌}
+use Rattle.std.specs.Int.{cast_signed, w64}
+use Rattle.std.proofs.lemmas.Bool.{cases_lt, le-leb, lt-leb, lt-ltb, ne_eqb}
+use Rattle.std.proofs.lemmas.Int.{to_z_pos}
 use Rattle.std.proofs.lemmas.Nat.{mod_below}
+use Rattle.std.proofs.Math.Facts.{to_z-neg}
 use Rattle.axp_base.specs.Numbers.{is_negative, signed}
 use Rattle.axp_base.proofs.SignLemmas.{negative_is_below}
-use Rattle.std.specs.Int.{cast_signed, w64}
-use Rattle.std.proofs.lemmas.Int.{to_z_pos}
-use Rattle.std.proofs.Math.Facts.{to_z-neg}
-use Rattle.std.proofs.lemmas.Bool.{cases_lt, le-leb, lt-leb, lt-ltb, ne_eqb}
-use Rattle.std.proofs.Common.{pos, negsuc, ◌-◌, ◌^◌, ◌≤◌, sym, ap, ◌∙◌, ⊎_elim}
 use Rattle.axp_decode.specs.declared.names.Op.TheVariants.{CMOVLBS, CMOVLBC, CMOVEQ, CMOVNE, CMOVLT, CMOVGE, CMOVLE, CMOVGT}
-use Rattle.std.specs.Prelude.{◌||◌, ◌==◌, not, int_lt, if◌then◌else◌}
 use Rattle.axp_integer.specs.Moves.{AreOpposite}
 use Rattle.axp_integer.specs.Rows.{value_of}
 

@@ -4,7 +4,8 @@ ghost use Rattle.std.specs.Int.{w32, w64};
 ghost use Rattle.axp_base.specs.Masks.{has_bit};
 ghost use Rattle.axp_base.specs.Numbers.{complement, signed};
 ghost use Rattle.axp_base.specs.Parts.{byte};
-ghost use Rattle.axp_decode.specs.declared.names.Op.TheVariants.{ADDL, SUBL, ADDQ, SUBQ, ADDLV, SUBLV, ADDQV, SUBQV, CMPBGE, AND, BIC, BIS, ORNOT, XOR, EQV, CMOVLBS, CMOVLBC, CMOVEQ, CMOVNE, CMOVLT, CMOVGE, CMOVLE, CMOVGT, AMASK, MULL, MULQ, UMULH, MULLV, MULQV};
+ghost use Rattle.axp_decode.specs.declared.names.Op.TheVariants.{ADDL, SUBL, S4ADDL, S8ADDL, S4SUBL, S8SUBL, ADDQ, SUBQ, S4ADDQ, S8ADDQ, S4SUBQ, S8SUBQ, ADDLV, SUBLV, ADDQV, SUBQV, CMPBGE, AND, BIC, BIS, ORNOT, XOR, EQV, CMOVLBS, CMOVLBC, CMOVEQ, CMOVNE, CMOVLT, CMOVGE, CMOVLE, CMOVGT, AMASK, MULL, MULQ, UMULH, MULLV, MULQV};
+ghost use Rattle.axp_integer.specs.Longwords.{IsSignExtended};
 ghost use Rattle.axp_integer.specs.Moves.{AreOpposite};
 ghost use Rattle.axp_integer.specs.Results.{signed_longword};
 ghost use Rattle.axp_integer.specs.Rows.{value_of, overflow_of};
@@ -17,6 +18,40 @@ pub fn whole_product()
 /// SUBQ takes back ADDQ, also where the sum passes 2 ^ 64.
 pub fn difference_takes_back_sum()
     ensures { (a b old : ℕ) → a < 2 ^ 64 → b < 2 ^ 64 → value_of SUBQ (value_of ADDQ a b old) b old ≡ a }
+{}
+
+/// The low longword of what a longword instruction writes is that of the exact sum or product. Of a
+/// difference: with the subtrahend added, the low longword is that of the minuend.
+pub fn low_longwords()
+    ensures addl { (a b old : ℕ) → value_of ADDL a b old % 2 ^ 32 ≡ (a + b) % 2 ^ 32 }
+    ensures s4addl { (a b old : ℕ) → value_of S4ADDL a b old % 2 ^ 32 ≡ (4 * a + b) % 2 ^ 32 }
+    ensures s8addl { (a b old : ℕ) → value_of S8ADDL a b old % 2 ^ 32 ≡ (8 * a + b) % 2 ^ 32 }
+    ensures subl { (a b old : ℕ) → b < 2 ^ 64 → (value_of SUBL a b old + b) % 2 ^ 32 ≡ a % 2 ^ 32 }
+    ensures s4subl { (a b old : ℕ) → b < 2 ^ 64 → (value_of S4SUBL a b old + b) % 2 ^ 32 ≡ 4 * a % 2 ^ 32 }
+    ensures s8subl { (a b old : ℕ) → b < 2 ^ 64 → (value_of S8SUBL a b old + b) % 2 ^ 32 ≡ 8 * a % 2 ^ 32 }
+    ensures mull { (a b old : ℕ) → value_of MULL a b old % 2 ^ 32 ≡ a * b % 2 ^ 32 }
+{}
+
+/// Every longword instruction writes a sign-extended longword.
+pub fn longwords_are_sign_extended()
+    ensures addl { IsSignExtended ADDL }
+    ensures subl { IsSignExtended SUBL }
+    ensures s4addl { IsSignExtended S4ADDL }
+    ensures s8addl { IsSignExtended S8ADDL }
+    ensures s4subl { IsSignExtended S4SUBL }
+    ensures s8subl { IsSignExtended S8SUBL }
+    ensures addlv { IsSignExtended ADDLV }
+    ensures sublv { IsSignExtended SUBLV }
+    ensures mull { IsSignExtended MULL }
+    ensures mullv { IsSignExtended MULLV }
+{}
+
+/// The scaled sums and differences of quadwords, modulo 2 ^ 64.
+pub fn scaled_quadwords()
+    ensures s4addq { (a b old : ℕ) → value_of S4ADDQ a b old ≡ (4 * a + b) % 2 ^ 64 }
+    ensures s8addq { (a b old : ℕ) → value_of S8ADDQ a b old ≡ (8 * a + b) % 2 ^ 64 }
+    ensures s4subq { (a b old : ℕ) → b < 2 ^ 64 → (value_of S4SUBQ a b old + b) % 2 ^ 64 ≡ 4 * a % 2 ^ 64 }
+    ensures s8subq { (a b old : ℕ) → b < 2 ^ 64 → (value_of S8SUBQ a b old + b) % 2 ^ 64 ≡ 8 * a % 2 ^ 64 }
 {}
 
 /// A /V instruction overflows exactly where the exact result does not fit: that of the low
@@ -96,7 +131,7 @@ pub fn moves_by_sign()
     ensures greater { (a b old : ℕ) → a < 2 ^ 64 → value_of CMOVGT a b old ≡ (if int_lt (pos 0) (signed a) then b else old) }
 {}
 
-/// AMASK clears bit 0 alone, the byte and word extension's.
+/// AMASK clears bit 0, that of the byte and word extension, and no other.
 pub fn amask_clears_the_lowest_bit()
     ensures lowest { (a b old : ℕ) → has_bit (value_of AMASK a b old) 0 ≡ false }
     ensures others { (a b old n : ℕ) → 0 < n → has_bit (value_of AMASK a b old) n ≡ has_bit b n }

@@ -13,7 +13,7 @@ mod tests;
 
 pub use laws::{
     amask_clears_the_lowest_bit, bytes_compared, difference_takes_back_sum, exact_without_overflow,
-    logic_by_bits, logic_by_complements, moves_by_sign, opposite_moves, overflow_is_no_fit,
-    overflow_keeps_the_value, whole_product,
+    logic_by_bits, logic_by_complements, longwords_are_sign_extended, low_longwords, moves_by_sign,
+    opposite_moves, overflow_is_no_fit, overflow_keeps_the_value, scaled_quadwords, whole_product,
 };
 pub use operating::operate;

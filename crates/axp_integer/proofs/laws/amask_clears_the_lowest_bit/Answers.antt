@@ -1,4 +1,4 @@
-use Rattle.axp_integer.proofs.Bitwise.{amask_lowest, amask_above}
+use Rattle.axp_integer.proofs.LogicLemmas.{amask_lowest, amask_above}
 use Rattle.axp_integer.proofs.laws.amask_clears_the_lowest_bit.Goals as goal
 
 pub returns-clause-lowest : goal.returns-clause-lowest

@@ -1,4 +1,4 @@
-use Rattle.axp_integer.proofs.Arithmetic.{addl_exact, subl_exact, mull_exact, addq_exact, subq_exact, mulq_exact}
+use Rattle.axp_integer.proofs.OverflowLemmas.{addl_exact, subl_exact, mull_exact, addq_exact, subq_exact, mulq_exact}
 use Rattle.axp_integer.proofs.laws.exact_without_overflow.Goals as goal
 
 pub returns-clause-addl : goal.returns-clause-addl

@@ -1,4 +1,4 @@
-use Rattle.axp_integer.proofs.Bitwise.{and_bits, bis_bits, xor_bits, bic_bits, ornot_bits, eqv_bits}
+use Rattle.axp_integer.proofs.LogicLemmas.{and_bits, bis_bits, xor_bits, bic_bits, ornot_bits, eqv_bits}
 use Rattle.axp_integer.proofs.laws.logic_by_bits.Goals as goal
 
 pub returns-clause-and : goal.returns-clause-and

@@ -1,4 +1,4 @@
-use Rattle.axp_integer.proofs.Bitwise.{eqv_complements, bic_complements}
+use Rattle.axp_integer.proofs.LogicLemmas.{eqv_complements, bic_complements}
 use Rattle.axp_integer.proofs.laws.logic_by_complements.Goals as goal
 
 pub returns-clause-eqv : goal.returns-clause-eqv

@@ -1,4 +1,4 @@
-use Rattle.axp_integer.proofs.Arithmetic.{addl_no_fit, subl_no_fit, mull_no_fit, addq_no_fit, subq_no_fit, mulq_no_fit}
+use Rattle.axp_integer.proofs.OverflowLemmas.{addl_no_fit, subl_no_fit, mull_no_fit, addq_no_fit, subq_no_fit, mulq_no_fit}
 use Rattle.axp_integer.proofs.laws.overflow_is_no_fit.Goals as goal
 
 pub returns-clause-addl : goal.returns-clause-addl

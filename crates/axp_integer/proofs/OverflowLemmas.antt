@@ -1,21 +1,14 @@
--- What the rows of sums, differences and products come to.
+-- Where a /V instruction overflows, and what it writes where it does not.
 use Rattle.std.proofs.Common.{◌≡◌, ◌↔◌, ℕ, ◌+◌, ◌-◌, ◌*◌, ◌%◌, ◌^◌, ◌<◌, true, false, ◌+ℤ◌, ◌-ℤ◌, ◌*ℤ◌, FitsSigned, arith, ap, ◌∙◌}
 use Rattle.std.specs.Int.{w32, w64, cast_signed}
-use Rattle.std.proofs.lemmas.Nat.{div-add-mod', mod_below, mul-mod}
+use Rattle.std.proofs.lemmas.Nat.{mod_below, mul-mod}
 use Rattle.axp_base.specs.Numbers.{signed, add, sub, mul}
 use Rattle.axp_base.proofs.SignLemmas.{longword_integer_kept}
-use Rattle.axp_decode.specs.declared.names.Op.TheVariants.{ADDQ, SUBQ, ADDLV, SUBLV, ADDQV, SUBQV, MULQ, UMULH, MULLV, MULQV}
+use Rattle.axp_decode.specs.declared.names.Op.TheVariants.{ADDLV, SUBLV, ADDQV, SUBQV, MULLV, MULQV}
 use Rattle.axp_integer.specs.Results.{signed_longword}
 use Rattle.axp_integer.specs.Rows.{value_of, overflow_of}
 use Rattle.axp_integer.proofs.Flags.{overflows_no_fit, add_exact, sub_exact, mul_exact}
-
-pub whole_product : (a b old : ℕ) → value_of UMULH a b old * 2 ^ 64 + value_of MULQ a b old ≡ a * b
-unfolding value_of
-whole_product a b old = div-add-mod' (a * b) (2 ^ 64)
-
-pub subtracted_again : (a b o : ℕ) → a < 2 ^ 64 → b < 2 ^ 64 → value_of SUBQ (value_of ADDQ a b o) b o ≡ a
-unfolding value_of
-subtracted_again a b o p q = omega arith
+use Rattle.axp_integer.proofs.LongwordLemmas.{low_of_low}
 
 pub addq_exact : (a b old : ℕ) → a < 2 ^ 64 → b < 2 ^ 64 → overflow_of ADDQV a b ≡ false → signed (value_of ADDQV a b old) ≡ signed a +ℤ signed b
 unfolding value_of overflow_of
@@ -35,9 +28,6 @@ low_sum a b = omega arith
 
 low_difference : (a b : ℕ) → b < 2 ^ 64 → sub a b % 2 ^ 32 ≡ (a % 2 ^ 32 + (2 ^ 32 - b % 2 ^ 32)) % 2 ^ 32
 low_difference a b q = omega arith
-
-low_of_low : (n : ℕ) → n % 2 ^ 64 % 2 ^ 32 ≡ n % 2 ^ 32
-low_of_low n = omega arith
 
 low_product : (a b : ℕ) → mul a b % 2 ^ 32 ≡ a % 2 ^ 32 * (b % 2 ^ 32) % 2 ^ 32
 low_product a b = low_of_low (a * b) ∙ mul-mod a b (2 ^ 32)
