@@ -1,5 +1,5 @@
 use super::*;
-use axp_decode::Op;
+use axp_decode::{BYTE_OPCODE, Op, opcode_number};
 use std::process::Abort;
 use std::test::*;
 
@@ -308,37 +308,12 @@ const PRODUCTS: [Row; 28] = [
     (Op::MULQV, MINUS_1, LARGEST, 0, 0x8000_0000_0000_0001, false),
 ];
 
-/// What `operate` answers; nothing for an instruction of opcode 12.
+/// What `operate` answers; nothing for an instruction that is not an integer one.
 fn operate_integer(op: Op, a: u64, b: u64, old: u64) -> Option<(u64, bool)> {
-    match op {
-        Op::EXTBL
-        | Op::EXTWL
-        | Op::EXTLL
-        | Op::EXTQL
-        | Op::EXTWH
-        | Op::EXTLH
-        | Op::EXTQH
-        | Op::INSBL
-        | Op::INSWL
-        | Op::INSLL
-        | Op::INSQL
-        | Op::INSWH
-        | Op::INSLH
-        | Op::INSQH
-        | Op::MSKBL
-        | Op::MSKWL
-        | Op::MSKLL
-        | Op::MSKQL
-        | Op::MSKWH
-        | Op::MSKLH
-        | Op::MSKQH
-        | Op::ZAP
-        | Op::ZAPNOT
-        | Op::SLL
-        | Op::SRL
-        | Op::SRA => None,
-        _ => Some(operate(op, a, b, old)),
+    if opcode_number(op) == BYTE_OPCODE {
+        return None;
     }
+    Some(operate(op, a, b, old))
 }
 
 /// Compares the answers with a table that was worked out by hand.
