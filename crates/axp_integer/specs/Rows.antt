@@ -8,7 +8,7 @@ use Rattle.axp_decode.specs.declared.names.Op.{Op}
 use Rattle.axp_decode.specs.declared.names.Op.TheVariants.{ADDL, SUBL, S4ADDL, S8ADDL, S4SUBL, S8SUBL, ADDQ, SUBQ, S4ADDQ, S8ADDQ, S4SUBQ, S8SUBQ, CMPBGE, CMPULT, CMPULE, CMPEQ, CMPLT, CMPLE, ADDLV, SUBLV, ADDQV, SUBQV, AND, BIC, BIS, ORNOT, XOR, EQV, CMOVLBS, CMOVLBC, CMOVEQ, CMOVNE, CMOVLT, CMOVGE, CMOVLE, CMOVGT, AMASK, IMPLVER, MULL, MULQ, UMULH, MULLV, MULQV, SEXTB, SEXTW}
 use Rattle.axp_integer.specs.Results.{longword, signed_longword, is_less, one_if, overflows, bytes_at_least}
 
--- every instruction of the operate format but the byte manipulations and shifts, whose rows are in axp_bytes
+-- every instruction of the operate format but those of opcode 12 (hexadecimal), whose rows are in axp_bytes
 abbrev pub IsInteger : Op → Type 0
 IsInteger op = operate_opcode op ≢ BYTE_OPCODE
 
