@@ -1,2 +1,4 @@
+pub mod Longwords
+pub mod Moves
 pub mod Results
 pub mod Rows

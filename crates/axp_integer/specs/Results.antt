@@ -1,5 +1,5 @@
 -- What the rows of the integer instructions are made of.
-use Rattle.std.specs.Prelude.{ℕ, zero, suc, ℤ, pos, negsuc, ◌+◌, ◌*◌, ◌/◌, ◌%◌, ◌^◌, Bool, not, if◌then◌else◌, nat_le, int_lt}
+use Rattle.std.specs.Prelude.{ℕ, zero, suc, ℤ, pos, negsuc, ◌+◌, ◌%◌, ◌^◌, Bool, if◌then◌else◌, nat_le, int_lt}
 use Rattle.std.specs.Int.{cast_signed, w32}
 use Rattle.axp_base.specs.Numbers.{sign_extended, signed}
 use Rattle.axp_base.specs.Parts.{byte}

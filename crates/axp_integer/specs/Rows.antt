@@ -3,13 +3,14 @@
 use Rattle.std.specs.Prelude.{◌≢◌, ℕ, ◌*◌, ◌/◌, ◌%◌, ◌^◌, Bool, false, not, if◌then◌else◌, nat_lt, nat_le, ◌==◌, ◌||◌, ◌+ℤ◌, ◌-ℤ◌, ◌*ℤ◌, bit_and, bit_or, bit_xor}
 use Rattle.axp_base.specs.Numbers.{add, sub, mul, complement, signed, is_negative, sign_extended}
 use Rattle.axp_decode.specs.Table.{operate_opcode}
+use Rattle.axp_decode.specs.declared.numbers.TheConstants.{BYTE_OPCODE}
 use Rattle.axp_decode.specs.declared.names.Op.{Op}
 use Rattle.axp_decode.specs.declared.names.Op.TheVariants.{ADDL, SUBL, S4ADDL, S8ADDL, S4SUBL, S8SUBL, ADDQ, SUBQ, S4ADDQ, S8ADDQ, S4SUBQ, S8SUBQ, CMPBGE, CMPULT, CMPULE, CMPEQ, CMPLT, CMPLE, ADDLV, SUBLV, ADDQV, SUBQV, AND, BIC, BIS, ORNOT, XOR, EQV, CMOVLBS, CMOVLBC, CMOVEQ, CMOVNE, CMOVLT, CMOVGE, CMOVLE, CMOVGT, AMASK, IMPLVER, MULL, MULQ, UMULH, MULLV, MULQV, SEXTB, SEXTW}
 use Rattle.axp_integer.specs.Results.{longword, signed_longword, is_less, one_if, overflows, bytes_at_least}
 
--- every instruction of the operate format but those of opcode 12, whose rows are in axp_bytes
+-- every instruction of the operate format but those of opcode 12 (hexadecimal), whose rows are in axp_bytes
 abbrev pub IsInteger : Op → Type 0
-IsInteger op = operate_opcode op ≢ 0x12
+IsInteger op = operate_opcode op ≢ BYTE_OPCODE
 
 unfoldable pub value_of : Op → ℕ → ℕ → ℕ → ℕ
 -- sums and differences, of longwords and of quadwords
@@ -52,7 +53,7 @@ value_of CMOVLT a b old = if is_negative a then b else old
 value_of CMOVGE a b old = if is_negative a then old else b
 value_of CMOVLE a b old = if is_negative a || (a == 0) then b else old
 value_of CMOVGT a b old = if is_negative a || (a == 0) then old else b
--- bit 0 is the byte and word extension, the only one that is implemented
+-- bit 0 is the byte and word extension, the only one that is implemented; version 2 is that of the 21264
 value_of AMASK a b old = b / 2 * 2
 value_of IMPLVER a b old = 2
 -- products

@@ -9,7 +9,11 @@ fn bit_of_byte(a: u64, b: u64, n: u8) -> u64
     requires { n < 8 }
     ensures { result ≡ (if nat_le (byte b n) (byte a n) then 2 ^ n else 0) }
 {
-    if byte_of(a, n) >= byte_of(b, n) { 1 << n } else { 0 }
+    if byte_of(a, n) >= byte_of(b, n) {
+        1 << n
+    } else {
+        0
+    }
 }
 
 /// Bit `n`, for each byte `n` of `a` that is at least that of `b`.

@@ -4,14 +4,15 @@ ghost use Rattle.axp_integer.specs.Rows.{overflow_of};
 
 use axp_decode::Op;
 
-/// The low longword as an integer.
+/// The integer that the low longword is.
 fn low_long(x: u64) -> i32
     ensures { result ≡ signed_longword x }
 {
     ((x & 0xFFFF_FFFF) as u32).cast_signed()
 }
 
-/// Whether an instruction overflows: the exact result of its /V form does not fit.
+/// Whether the exact result of a /V instruction does not fit in its longword or quadword. No other
+/// instruction overflows.
 #[tactic(auto, unfolding(crate::specs::Rows::overflow_of), using(crate::proofs::Flags::flag))]
 pub fn overflows(op: Op, a: u64, b: u64) -> bool
     ensures { result ≡ overflow_of op a b }
