@@ -7,3 +7,6 @@ mod operating;
 mod zapping;
 
 pub use operating::bytes;
+
+#[cfg(test)]
+mod tests;

@@ -2,9 +2,7 @@ ghost use Rattle.std.specs.Prelude.{◌≡◌, ◌<◌};
 ghost use Rattle.axp_bytes.specs.Results.{shifted_signed};
 ghost use Rattle.axp_bytes.specs.Rows.{IsByteOp, value_of};
 
-use crate::data_parts::{
-    extract_high, extract_low, insert_high, insert_low, mask_high, mask_low,
-};
+use crate::data_parts::{extract_high, extract_low, insert_high, insert_low, mask_high, mask_low};
 use crate::zapping::zap;
 use axp_base::{Size, sext};
 use axp_decode::Op;

@@ -10,7 +10,11 @@ fn byte_unless(a: u64, b: u64, n: u8) -> u64
     requires { n < 8 }
     ensures { result ≡ (if has_bit b n then 0 else byte a n * 2 ^ (8 * n)) }
 {
-    if b >> n & 1 == 1 { 0 } else { byte_moved_up(byte_of(a, n), n) }
+    if b >> n & 1 == 1 {
+        0
+    } else {
+        byte_moved_up(byte_of(a, n), n)
+    }
 }
 
 /// `a` with byte `n` cleared where bit `n` of `b` is 1, for `n` from 0 to 7.
