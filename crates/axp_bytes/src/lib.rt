@@ -3,9 +3,11 @@
 #![tactic(auto)]
 
 mod data_parts;
+mod laws;
 mod operating;
 mod zapping;
 
+pub use laws::{unaligned_loads, unaligned_stores};
 pub use operating::bytes;
 
 #[cfg(test)]
