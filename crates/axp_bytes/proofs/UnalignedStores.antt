@@ -1,5 +1,5 @@
 -- Mask, insert and BIS store an unaligned datum.
-use Rattle.std.proofs.Common.{◌≡◌, ℕ, ◌+◌, ◌-◌, ◌*◌, ◌/◌, ◌%◌, ◌^◌, ◌<◌, ◌≤◌, arith, refl, ap, sym, ◌∙◌, ⊎_elim}
+use Rattle.std.proofs.Common.{◌≡◌, ℕ, ◌+◌, ◌-◌, ◌*◌, ◌/◌, ◌%◌, ◌^◌, ◌<◌, ◌≤◌, arith, ap, sym, ◌∙◌, ⊎_elim}
 use Rattle.std.specs.Int.Bits.{bit_or, or_zero_r}
 use Rattle.std.proofs.lemmas.Bool.{cases_lt}
 use Rattle.std.proofs.lemmas.Nat.{pow_pos, pow-add, mod_below, shl_whole, shl_below, shr_split}
@@ -64,8 +64,8 @@ pub store_crossing : (size : Size) (first last datum n : ℕ) → first < 2 ^ 64
 store_crossing size first last datum n small place past =
     let known = bits_by_bytes size in
     crossing_by_bits first last (low_datum size datum) (from_byte first (n + bytes_of size))
-        (8 * n) (64 - 8 * n) (8 * (n + bytes_of size - 8)) (bits_of size) 64 (8 * (n + bytes_of size))
-        (omega arith) (omega (arith, known.0)) (omega arith) small (datum_small size datum) (from_none first (n + bytes_of size) small (omega arith))
+    (8 * n) (64 - 8 * n) (8 * (n + bytes_of size - 8)) (bits_of size) 64 (8 * (n + bytes_of size))
+    (omega arith) (omega (arith, known.0)) (omega arith) small (datum_small size datum) (from_none first (n + bytes_of size) small (omega arith))
 
 -- both, where the datum ends inside of the first
 put_by_bits : (size : Size) (first last datum n : ℕ) → first < 2 ^ 64 → n < 8 → n + bytes_of size ≤ 8
@@ -75,7 +75,7 @@ put_by_bits : (size : Size) (first last datum n : ℕ) → first < 2 ^ 64 → n 
 put_by_bits size first last datum n small place inside =
     let known = bits_by_bytes size in
     inside_by_bits first last (low_datum size datum) (8 * n) (bits_of size) (64 - 8 * (n + bytes_of size)) 64 (8 * (n + bytes_of size))
-        (omega arith) (omega (arith, known.0)) small (datum_small size datum)
+    (omega arith) (omega (arith, known.0)) small (datum_small size datum)
 
 pub store_inside : (size : Size) (first datum n : ℕ) → first < 2 ^ 64 → n < 8 → n + bytes_of size ≤ 8 → stored_first size first datum n ≡ replaced size first datum n
 store_inside size first datum n small place inside = (put_by_bits size first 0 datum n small place inside).0

@@ -3,7 +3,7 @@ use Rattle.std.specs.Prelude.{ℕ, zero, suc, ◌+◌, ◌-◌, ◌*◌, ◌/◌
 use Rattle.axp_base.specs.Masks.{has_bit}
 use Rattle.axp_base.specs.Numbers.{sign_extended}
 use Rattle.axp_base.specs.Parts.{byte}
-use Rattle.axp_base.specs.Sizes.{bits_of, bytes_of, low_datum}
+use Rattle.axp_base.specs.Sizes.{bytes_of, low_datum}
 use Rattle.axp_base.specs.declared.sizes.Size.{Size}
 
 -- the low datum of a shifted right by n bytes, and of a shifted left by the bytes that are left of 8

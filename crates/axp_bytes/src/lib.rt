@@ -7,7 +7,10 @@ mod laws;
 mod operating;
 mod zapping;
 
-pub use laws::{unaligned_loads, unaligned_stores};
+pub use laws::{
+    shifts, single_bytes, unaligned_loads, unaligned_stores, zap_by_bytes,
+    zapnot_is_zap_of_the_complement,
+};
 pub use operating::bytes;
 
 #[cfg(test)]
