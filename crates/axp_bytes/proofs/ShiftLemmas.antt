@@ -3,16 +3,13 @@ use Rattle.std.proofs.Common.{◌≡◌, ℕ, zero, suc, ◌+◌, ◌-◌, ◌*�
 use Rattle.std.specs.Prelude.{◌==◌}
 use Rattle.std.specs.Int.{bit_at}
 use Rattle.std.proofs.lemmas.Bool.{cases_lt, lt-leb, le-leb}
-use Rattle.std.proofs.lemmas.Nat.{shr_below, shr-shr, shl-shr, pow-add, pow_pos, le-div, mod_below, shl_whole}
+use Rattle.std.proofs.lemmas.Nat.{shr_below, shr-shr, shl-shr, pow-add, pow_pos, le-div, mod_below}
 use Rattle.std.proofs.lemmas.Nat.Bits.{bit_at_above, bit_at_cat_low, bit_at_cat_high, bit_at_ones}
 use Rattle.std.proofs.Math.Nat.{mod-eq_of_lt}
 use Rattle.std.proofs.Math.Pow.{pow_mono}
 use Rattle.axp_base.specs.Masks.{has_bit}
 use Rattle.axp_base.specs.Numbers.{sign_extended}
-use Rattle.axp_base.specs.Parts.{byte}
-use Rattle.axp_base.specs.Sizes.{low_datum}
-use Rattle.axp_base.specs.declared.sizes.Size.TheVariants.{Byte}
-use Rattle.axp_decode.specs.declared.names.Op.TheVariants.{EXTBL, INSBL, SLL, SRL, SRA}
+use Rattle.axp_decode.specs.declared.names.Op.TheVariants.{SLL, SRL, SRA}
 use Rattle.axp_bytes.specs.Rows.{value_of}
 
 ones_times : (x q p w : ℕ) → w ≡ q * p → 0 < q → x + (w - p) ≡ (q - 1) * p + x
@@ -30,7 +27,7 @@ pub shift_back : (a b : ℕ) → a * 2 ^ (b % 64) < 2 ^ 64 → value_of SRL (val
 unfolding value_of
 shift_back a b h = ap (λ y. y / 2 ^ (b % 64)) (mod-eq_of_lt h) ∙ shl-shr a (b % 64)
 
--- a number of j bits, extended by its sign
+-- a number of j bits extended by its sign, which is plus or minus
 extended_plus : (x j : ℕ) → x < 2 ^ (j - 1) → x < 2 ^ j → sign_extended j x ≡ x
 unfolding sign_extended
 extended_plus x j low small =
@@ -99,14 +96,3 @@ signed_fits a b =
     let low : a / 2 ^ (b % 64) % 2 ^ j < 2 ^ j = mod_below (a / 2 ^ (b % 64)) (2 ^ j) (pow_pos j) in
     let up : 2 ^ j ≤ 2 ^ 64 = pow_mono {i = j} {j = 64} (omega arith) in
     either_below (nat_lt (a / 2 ^ (b % 64) % 2 ^ j) (2 ^ (j - 1))) (a / 2 ^ (b % 64) % 2 ^ j) (2 ^ j) (2 ^ 64) low up
-
-pub the_byte : (a b : ℕ) → value_of EXTBL a b ≡ byte a (b % 8)
-unfolding value_of
-the_byte a b = refl
-
-pub one_byte : (a b : ℕ) → value_of EXTBL (value_of INSBL a b) b ≡ low_datum Byte a
-unfolding value_of
-one_byte a b =
-    let low : a % 2 ^ 8 < 2 ^ 8 = omega arith in
-    let whole : a % 2 ^ 8 * 2 ^ (8 * (b % 8)) % 2 ^ 64 ≡ a % 2 ^ 8 * 2 ^ (8 * (b % 8)) = shl_whole (a % 2 ^ 8) 8 (8 * (b % 8)) 64 low (omega arith) in
-    ap (λ y. y / 2 ^ (8 * (b % 8)) % 2 ^ 8) whole ∙ ap (λ y. y % 2 ^ 8) (shl-shr (a % 2 ^ 8) (8 * (b % 8))) ∙ mod-eq_of_lt low

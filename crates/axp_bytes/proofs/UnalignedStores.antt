@@ -8,9 +8,8 @@ use Rattle.std.proofs.Math.Pow.{pow_mono}
 use Rattle.axp_base.specs.Sizes.{bits_of, bytes_of, low_datum}
 use Rattle.axp_base.specs.declared.sizes.Size.{Size}
 use Rattle.axp_bytes.specs.Results.{from_byte, masked_high, inserted_high}
-use Rattle.axp_bytes.specs.Unaligned.{both, stored_first, stored_last, replaced}
-use Rattle.axp_bytes.proofs.DataParts.{from_none}
-use Rattle.axp_bytes.proofs.UnalignedLoads.{bits_by_bytes}
+use Rattle.axp_bytes.specs.Unaligned.{joined, stored_first, stored_last, replaced}
+use Rattle.axp_bytes.proofs.DataParts.{from_none, bits_by_bytes}
 use Rattle.axp_bytes.proofs.CrossingData.{moved_low, moved_high, put_low, put_high, put_inside, both_below, both_above, shifted_both}
 
 -- what two quadwords a and b become where a datum x of k bits, i bits up, ends d bits into the second;
@@ -60,7 +59,7 @@ datum_small : (size : Size) (datum : ℕ) → low_datum size datum < 2 ^ bits_of
 datum_small size datum = mod_below datum (2 ^ bits_of size) (pow_pos (bits_of size))
 
 pub store_crossing : (size : Size) (first last datum n : ℕ) → first < 2 ^ 64 → n < 8 → 8 < n + bytes_of size
-    → both (stored_first size first datum n) (stored_last size last datum n) ≡ replaced size (both first last) datum n
+    → joined (stored_first size first datum n) (stored_last size last datum n) ≡ replaced size (joined first last) datum n
 store_crossing size first last datum n small place past =
     let known = bits_by_bytes size in
     crossing_by_bits first last (low_datum size datum) (from_byte first (n + bytes_of size))
@@ -71,7 +70,7 @@ store_crossing size first last datum n small place past =
 put_by_bits : (size : Size) (first last datum n : ℕ) → first < 2 ^ 64 → n < 8 → n + bytes_of size ≤ 8
     → (stored_first size first datum n ≡ replaced size first datum n)
     × (inserted_high size datum n ≡ 0)
-    × (both (replaced size first datum n) last ≡ replaced size (both first last) datum n)
+    × (joined (replaced size first datum n) last ≡ replaced size (joined first last) datum n)
 put_by_bits size first last datum n small place inside =
     let known = bits_by_bytes size in
     inside_by_bits first last (low_datum size datum) (8 * n) (bits_of size) (64 - 8 * (n + bytes_of size)) 64 (8 * (n + bytes_of size))
@@ -87,7 +86,7 @@ last_kept size last datum n place inside =
     ap (bit_or (masked_high size last n)) put ∙ or_zero_r (masked_high size last n) ∙ ap (from_byte last) none ∙ from_start last
 
 pub store_both : (size : Size) (first last datum n : ℕ) → first < 2 ^ 64 → n < 8
-    → both (stored_first size first datum n) (stored_last size last datum n) ≡ replaced size (both first last) datum n
+    → joined (stored_first size first datum n) (stored_last size last datum n) ≡ replaced size (joined first last) datum n
 store_both size first last datum n small place =
     ⊎_elim
     (λ (past : 8 < n + bytes_of size). store_crossing size first last datum n small place past)

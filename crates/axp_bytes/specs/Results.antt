@@ -43,5 +43,5 @@ zapped zero a b = 0
 zapped (suc n) a b = zapped n a b + (if has_bit b n then 0 else byte a n * 2 ^ (8 * n))
 
 -- a shifted right by k bits, with the sign bit repeated above
-abbrev pub shifted_signed : ℕ → ℕ → ℕ
-shifted_signed a k = sign_extended (64 - k) (a / 2 ^ k)
+abbrev pub shifted_arithmetic : ℕ → ℕ → ℕ
+shifted_arithmetic a k = sign_extended (64 - k) (a / 2 ^ k)

@@ -1,3 +1,5 @@
+//! Rows worked out by hand from what sections 4.5 and 4.6 of the Alpha Architecture Reference Manual
+//! say that each instruction does.
 ghost use Rattle.axp_bytes.specs.Rows.{IsByteOp};
 
 use super::*;
@@ -46,6 +48,8 @@ fn extracts_are_those_worked_out_by_hand(rt: HostRuntime) {
             (A, 7, 0x88),
             (A, 8, 0x2211),
             (0x1_8000, 0, 0x8000),
+            (0x8000_0000_0000_7FFF, 6, 0x8000),
+            (0x8000_0000_0000_7FFF, 0, 0x7FFF),
         ],
     );
     assert_rows(
@@ -57,6 +61,8 @@ fn extracts_are_those_worked_out_by_hand(rt: HostRuntime) {
             (A, 6, 0x8877),
             (A, 7, 0x88),
             (u64::MAX, 0, 0xFFFF_FFFF),
+            (0x7FFF_FFFF_8000_0000, 0, 0x8000_0000),
+            (0x7FFF_FFFF_8000_0000, 4, 0x7FFF_FFFF),
         ],
     );
     assert_rows(
@@ -102,6 +108,7 @@ fn extracts_are_those_worked_out_by_hand(rt: HostRuntime) {
             (A, 6, 0x6655_4433_2211_0000),
             (A, 7, 0x7766_5544_3322_1100),
             (A, 8, A),
+            (u64::MAX, 7, 0xFFFF_FFFF_FFFF_FF00),
         ],
     );
 }
@@ -139,6 +146,7 @@ fn inserts_are_those_worked_out_by_hand(rt: HostRuntime) {
             (A, 1, 0x44_3322_1100),
             (A, 6, 0x2211_0000_0000_0000),
             (A, 7, 0x1100_0000_0000_0000),
+            (0x7FFF_FFFF_8000_0000, 4, LEAST),
         ],
     );
     assert_rows(
@@ -166,7 +174,13 @@ fn inserts_are_those_worked_out_by_hand(rt: HostRuntime) {
     assert_rows(
         &rt,
         Op::INSLH,
-        &[(A, 0, 0), (A, 4, 0), (A, 6, 0x4433), (A, 7, 0x44_3322)],
+        &[
+            (A, 0, 0),
+            (A, 4, 0),
+            (A, 6, 0x4433),
+            (A, 7, 0x44_3322),
+            (0x7FFF_FFFF, 7, 0x7F_FFFF),
+        ],
     );
     assert_rows(
         &rt,
@@ -177,6 +191,8 @@ fn inserts_are_those_worked_out_by_hand(rt: HostRuntime) {
             (A, 6, 0x8877_6655_4433),
             (A, 7, 0x0088_7766_5544_3322),
             (A, 8, 0),
+            (0x100, 7, 1),
+            (0xFF, 7, 0),
         ],
     );
 }
@@ -192,6 +208,7 @@ fn cleared_bytes_are_those_worked_out_by_hand(rt: HostRuntime) {
             (A, 6, 0x8800_6655_4433_2211),
             (A, 7, 0x0077_6655_4433_2211),
             (A, 8, 0x8877_6655_4433_2200),
+            (0, 3, 0),
         ],
     );
     assert_rows(
@@ -227,7 +244,12 @@ fn cleared_bytes_are_those_worked_out_by_hand(rt: HostRuntime) {
     assert_rows(
         &rt,
         Op::MSKWH,
-        &[(A, 0, A), (A, 6, A), (A, 7, 0x8877_6655_4433_2200)],
+        &[
+            (A, 0, A),
+            (A, 6, A),
+            (A, 7, 0x8877_6655_4433_2200),
+            (1, 7, 0),
+        ],
     );
     assert_rows(
         &rt,
@@ -248,6 +270,7 @@ fn cleared_bytes_are_those_worked_out_by_hand(rt: HostRuntime) {
             (A, 6, 0x8877_0000_0000_0000),
             (A, 7, 0x8800_0000_0000_0000),
             (A, 8, A),
+            (u64::MAX, 4, 0xFFFF_FFFF_0000_0000),
         ],
     );
     assert_rows(
@@ -289,6 +312,7 @@ fn shifts_are_those_worked_out_by_hand(rt: HostRuntime) {
             (u64::MAX, 1, 0xFFFF_FFFF_FFFF_FFFE),
             (u64::MAX, 63, LEAST),
             (GREATEST, u64::MAX, LEAST),
+            (0, 63, 0),
         ],
     );
     assert_rows(
@@ -301,6 +325,7 @@ fn shifts_are_those_worked_out_by_hand(rt: HostRuntime) {
             (u64::MAX, 1, GREATEST),
             (u64::MAX, 64, u64::MAX),
             (GREATEST, 63, 0),
+            (1, 1, 0),
         ],
     );
     assert_rows(
@@ -314,6 +339,8 @@ fn shifts_are_those_worked_out_by_hand(rt: HostRuntime) {
             (u64::MAX, 1, u64::MAX),
             (GREATEST, 1, 0x3FFF_FFFF_FFFF_FFFF),
             (GREATEST, 63, 0),
+            (0x8000_0000, 31, 1),
+            (1, 1, 0),
         ],
     );
 }

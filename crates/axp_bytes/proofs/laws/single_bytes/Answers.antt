@@ -1,4 +1,4 @@
-use Rattle.axp_bytes.proofs.ShiftLemmas.{the_byte, one_byte}
+use Rattle.axp_bytes.proofs.SingleBytes.{the_byte, one_byte}
 use Rattle.axp_bytes.proofs.laws.single_bytes.Goals as goal
 
 pub returns-clause-extracted : goal.returns-clause-extracted

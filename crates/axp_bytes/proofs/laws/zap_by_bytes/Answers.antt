@@ -1,4 +1,4 @@
-use Rattle.axp_bytes.proofs.Complement.{cleared_byte, cleared_fits, kept_byte, kept_fits}
+use Rattle.axp_bytes.proofs.ClearedBytes.{cleared_byte, cleared_fits, kept_byte, kept_fits}
 use Rattle.axp_bytes.proofs.laws.zap_by_bytes.Goals as goal
 
 pub returns-clause-zap : goal.returns-clause-zap

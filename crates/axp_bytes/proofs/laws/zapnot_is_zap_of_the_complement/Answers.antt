@@ -1,4 +1,4 @@
-use Rattle.axp_bytes.proofs.Complement.{complement_cleared, parts_together}
+use Rattle.axp_bytes.proofs.ClearedBytes.{complement_cleared, parts_together}
 use Rattle.axp_bytes.proofs.laws.zapnot_is_zap_of_the_complement.Goals as goal
 
 pub returns-clause-zapnot : goal.returns-clause-zapnot
