@@ -1,9 +1,9 @@
 -- Bytes that are cleared and bytes that stay.
-use Rattle.std.proofs.Common.{◌≡◌, ℕ, zero, suc, ◌+◌, ◌-◌, ◌*◌, ◌/◌, ◌%◌, ◌^◌, ◌<◌, ◌≤◌, Bool, true, false, not, arith, refl, sym, ap, ◌∙◌, ⊎_elim, cond}
+use Rattle.std.proofs.Common.{◌≡◌, ℕ, zero, suc, ◌+◌, ◌-◌, ◌*◌, ◌%◌, ◌^◌, ◌<◌, ◌≤◌, Bool, true, false, not, arith, refl, ap, ◌∙◌, ⊎_elim, cond}
 use Rattle.std.specs.Prelude.{◌==◌, if◌then◌else◌}
 use Rattle.std.specs.Int.{bit_at, w64}
 use Rattle.std.proofs.lemmas.Bool.{cases_lt}
-use Rattle.std.proofs.lemmas.Nat.{mod_below, mod_low, shr_high, mod-pow-add, field_of}
+use Rattle.std.proofs.lemmas.Nat.{mod_below, mod-pow-add}
 use Rattle.std.proofs.lemmas.Nat.Bits.{bit_at_not, bit_at-lt}
 use Rattle.std.proofs.Math.Nat.{mod-eq_of_lt}
 use Rattle.axp_base.specs.Masks.{has_bit}
@@ -12,7 +12,7 @@ use Rattle.axp_base.specs.Parts.{byte}
 use Rattle.axp_decode.specs.declared.names.Op.TheVariants.{ZAP, ZAPNOT}
 use Rattle.axp_bytes.specs.Results.{zapped}
 use Rattle.axp_bytes.specs.Rows.{value_of}
-use Rattle.axp_bytes.proofs.CrossingData.{mod_within}
+use Rattle.axp_bytes.proofs.ByteLemmas.{step_low, step_top}
 use Rattle.axp_bytes.proofs.ZappedBytes.{zapped_small}
 
 turned : (x y : ℕ) → y < 2 → x ≡ 1 - y → (x == 1) ≡ not (y == 1)
@@ -23,18 +23,6 @@ turned x (suc (suc y)) h e = absurd (omega arith)
 -- each bit of the complement is the other one
 pub complement_bit : (b i : ℕ) → b < 2 ^ 64 → i < 64 → has_bit (complement b) i ≡ not (has_bit b i)
 complement_bit b i h k = turned (bit_at (complement b) i) (bit_at b i) (bit_at-lt b i) (bit_at_not w64 b i h k)
-
--- a byte lies in the bits below any place past its own
-byte_low : (v w n : ℕ) → 8 * n + 8 ≤ w → byte (v % 2 ^ w) n ≡ byte v n
-byte_low v w n h =
-    sym (field_of (v % 2 ^ w) 8 (8 * n)) ∙ ap (λ y. y / 2 ^ (8 * n)) (mod_within v w (8 + 8 * n) (omega arith)) ∙ field_of v 8 (8 * n)
-
-step_low : (z y m n : ℕ) → z < 2 ^ (8 * m) → n < m → byte (y * 2 ^ (8 * m) + z) n ≡ byte z n
-step_low z y m n h k =
-    sym (byte_low (y * 2 ^ (8 * m) + z) (8 * m) n (omega arith)) ∙ ap (λ v. byte v n) (mod_low y (8 * m) z h)
-
-step_top : (z y m : ℕ) → z < 2 ^ (8 * m) → y < 2 ^ 8 → byte (y * 2 ^ (8 * m) + z) m ≡ y
-step_top z y m h k = ap (λ v. v % 2 ^ 8) (shr_high y (8 * m) z h) ∙ omega arith
 
 -- a byte that is put above others, or cleared
 step_byte : (d : Bool) (z x m n : ℕ) → z < 2 ^ (8 * m) → x < 2 ^ 8 → (n < m → byte (z + cond d 0 (x * 2 ^ (8 * m))) n ≡ byte z n) × (byte (z + cond d 0 (x * 2 ^ (8 * m))) m ≡ cond d 0 x)

@@ -1,5 +1,7 @@
+pub mod ByteLemmas
 pub mod ClearedBytes
 pub mod CrossingData
+pub mod DataBytes
 pub mod DataParts
 pub mod ShiftLemmas
 pub mod SingleBytes

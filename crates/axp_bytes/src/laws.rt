@@ -1,15 +1,41 @@
 //! Laws of the byte manipulation instructions and the shifts, each proved as the contract of a function
 //! that does nothing. In each `a` stands for the value of Ra and `b` for that of Rb.
-ghost use Rattle.std.specs.Prelude.{ℕ, ◌≡◌, ◌+◌, ◌*◌, ◌/◌, ◌%◌, ◌^◌, ◌<◌, ◌≤◌, min, if◌then◌else◌};
+ghost use Rattle.std.specs.Prelude.{ℕ, ◌≡◌, ◌+◌, ◌-◌, ◌*◌, ◌/◌, ◌%◌, ◌^◌, ◌<◌, ◌≤◌, min, nat_lt, if◌then◌else◌};
 ghost use Rattle.axp_base.specs.Masks.{has_bit};
 ghost use Rattle.axp_base.specs.Numbers.{complement};
 ghost use Rattle.axp_base.specs.Parts.{byte};
 ghost use Rattle.axp_base.specs.Sizes.{bytes_of, low_datum};
 ghost use Rattle.axp_base.specs.declared.sizes.Size.{Size};
 ghost use Rattle.axp_base.specs.declared.sizes.Size.TheVariants.{Byte};
+ghost use Rattle.axp_bytes.specs.Results.{extracted_low, extracted_high, inserted_low, inserted_high, masked_low, masked_high};
 ghost use Rattle.axp_bytes.specs.Rows.{value_of};
 ghost use Rattle.axp_bytes.specs.Unaligned.{joined, loaded, stored_first, stored_last, replaced};
 ghost use Rattle.axp_decode.specs.declared.names.Op.TheVariants.{EXTBL, INSBL, ZAP, ZAPNOT, SLL, SRL, SRA};
+
+/// Extract, insert and mask byte by byte (section 4.6 of the manual), where `n` is the byte of the
+/// first quadword at which a datum begins. Extract low and extract high give the bytes of the datum
+/// that the first and the last quadword hold, and 0 for the others; extract high at byte 0 gives the
+/// low datum whole. Insert low and insert high give the bytes of the low datum that come into the
+/// first and the last quadword, in their places, and mask low and mask high clear those places.
+pub fn data_by_bytes()
+    ensures extract_low { (size : Size) (a n i : ℕ)
+        → byte (extracted_low size a n) i ≡ (if nat_lt i (bytes_of size) then byte a (i + n) else 0) }
+    ensures extract_high { (size : Size) (a n i : ℕ) → 0 < n → n < 8 → i < 8
+        → byte (extracted_high size a n) i
+        ≡ (if nat_lt (i + n) 8 then 0 else (if nat_lt i (bytes_of size) then byte a (i + n - 8) else 0)) }
+    ensures extract_high_at_0 { (size : Size) (a : ℕ) → extracted_high size a 0 ≡ low_datum size a }
+    ensures insert_low { (size : Size) (a n i : ℕ) → i < 8
+        → byte (inserted_low size a n) i
+        ≡ (if nat_lt i n then 0 else (if nat_lt i (n + bytes_of size) then byte a (i - n) else 0)) }
+    ensures insert_high { (size : Size) (a n i : ℕ) → n < 8
+        → byte (inserted_high size a n) i
+        ≡ (if nat_lt (i + 8) (n + bytes_of size) then byte a (i + 8 - n) else 0) }
+    ensures mask_low { (size : Size) (a n i : ℕ)
+        → byte (masked_low size a n) i
+        ≡ (if nat_lt i n then byte a i else (if nat_lt i (n + bytes_of size) then 0 else byte a i)) }
+    ensures mask_high { (size : Size) (a n i : ℕ)
+        → byte (masked_high size a n) i ≡ (if nat_lt (i + 8) (n + bytes_of size) then 0 else byte a i) }
+{}
 
 /// Unaligned loads (section 4.6 of the manual). Extract low of the first quadword, extract high of the
 /// last one and BIS put together the datum that stands `n` bytes up in the first, whether it crosses

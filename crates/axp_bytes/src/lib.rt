@@ -9,7 +9,7 @@ mod operating;
 mod zapping;
 
 pub use laws::{
-    shifts, single_bytes, unaligned_loads, unaligned_stores, zap_by_bytes,
+    data_by_bytes, shifts, single_bytes, unaligned_loads, unaligned_stores, zap_by_bytes,
     zapnot_is_zap_of_the_complement,
 };
 pub use operating::bytes;
