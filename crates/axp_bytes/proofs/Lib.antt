@@ -1,2 +1,10 @@
+pub mod ByteLemmas
+pub mod ClearedBytes
+pub mod CrossingData
+pub mod DataBytes
 pub mod DataParts
+pub mod ShiftLemmas
+pub mod SingleBytes
+pub mod UnalignedLoads
+pub mod UnalignedStores
 pub mod ZappedBytes

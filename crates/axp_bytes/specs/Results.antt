@@ -3,7 +3,7 @@ use Rattle.std.specs.Prelude.{ℕ, zero, suc, ◌+◌, ◌-◌, ◌*◌, ◌/◌
 use Rattle.axp_base.specs.Masks.{has_bit}
 use Rattle.axp_base.specs.Numbers.{sign_extended}
 use Rattle.axp_base.specs.Parts.{byte}
-use Rattle.axp_base.specs.Sizes.{bits_of, bytes_of, low_datum}
+use Rattle.axp_base.specs.Sizes.{bytes_of, low_datum}
 use Rattle.axp_base.specs.declared.sizes.Size.{Size}
 
 -- the low datum of a shifted right by n bytes, and of a shifted left by the bytes that are left of 8
@@ -43,5 +43,5 @@ zapped zero a b = 0
 zapped (suc n) a b = zapped n a b + (if has_bit b n then 0 else byte a n * 2 ^ (8 * n))
 
 -- a shifted right by k bits, with the sign bit repeated above
-abbrev pub shifted_signed : ℕ → ℕ → ℕ
-shifted_signed a k = sign_extended (64 - k) (a / 2 ^ k)
+abbrev pub shifted_arithmetic : ℕ → ℕ → ℕ
+shifted_arithmetic a k = sign_extended (64 - k) (a / 2 ^ k)

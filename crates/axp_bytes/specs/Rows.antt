@@ -3,11 +3,12 @@
 use Rattle.std.specs.Prelude.{◌≡◌, ℕ, ◌*◌, ◌/◌, ◌%◌, ◌^◌}
 use Rattle.axp_base.specs.Numbers.{complement}
 use Rattle.axp_base.specs.declared.sizes.Size.TheVariants.{Byte, Word, Long, Quad}
-use Rattle.axp_bytes.specs.Results.{extracted_low, extracted_high, inserted_low, inserted_high, masked_low, masked_high, zapped, shifted_signed}
+use Rattle.axp_bytes.specs.Results.{extracted_low, extracted_high, inserted_low, inserted_high, masked_low, masked_high, zapped, shifted_arithmetic}
 use Rattle.axp_decode.specs.Table.{operate_opcode}
 use Rattle.axp_decode.specs.declared.names.Op.{Op}
 use Rattle.axp_decode.specs.declared.names.Op.TheVariants.{EXTBL, EXTWL, EXTLL, EXTQL, EXTWH, EXTLH, EXTQH, INSBL, INSWL, INSLL, INSQL, INSWH, INSLH, INSQH, MSKBL, MSKWL, MSKLL, MSKQL, MSKWH, MSKLH, MSKQH, ZAP, ZAPNOT, SLL, SRL, SRA}
 
+-- the instructions of opcode 12
 abbrev pub IsByteOp : Op → Type 0
 IsByteOp op = operate_opcode op ≡ 0x12
 
@@ -42,5 +43,6 @@ value_of ZAPNOT a b = zapped 8 a (complement b)
 -- shifts
 value_of SLL a b = a * 2 ^ (b % 64) % 2 ^ 64
 value_of SRL a b = a / 2 ^ (b % 64)
-value_of SRA a b = shifted_signed a (b % 64)
+value_of SRA a b = shifted_arithmetic a (b % 64)
+-- the other opcodes have no row here
 value_of _ a b = 0

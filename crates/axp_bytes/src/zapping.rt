@@ -1,3 +1,4 @@
+//! Clearing bytes by a mask of eight bits.
 ghost use Rattle.std.specs.Prelude.{◌≡◌, ◌<◌, ◌*◌, ◌^◌, if◌then◌else◌};
 ghost use Rattle.axp_base.specs.Masks.{has_bit};
 ghost use Rattle.axp_base.specs.Parts.{byte};
@@ -10,7 +11,11 @@ fn byte_unless(a: u64, b: u64, n: u8) -> u64
     requires { n < 8 }
     ensures { result ≡ (if has_bit b n then 0 else byte a n * 2 ^ (8 * n)) }
 {
-    if b >> n & 1 == 1 { 0 } else { byte_moved_up(byte_of(a, n), n) }
+    if b >> n & 1 == 1 {
+        0
+    } else {
+        byte_moved_up(byte_of(a, n), n)
+    }
 }
 
 /// `a` with byte `n` cleared where bit `n` of `b` is 1, for `n` from 0 to 7.
