@@ -6,11 +6,12 @@ use Rattle.axp_base.specs.declared.sizes.Size.TheVariants.{Byte, Word, Long, Qua
 use Rattle.axp_bytes.specs.Results.{extracted_low, extracted_high, inserted_low, inserted_high, masked_low, masked_high, zapped, shifted_arithmetic}
 use Rattle.axp_decode.specs.Table.{operate_opcode}
 use Rattle.axp_decode.specs.declared.names.Op.{Op}
+use Rattle.axp_decode.specs.declared.numbers.TheConstants.{BYTE_OPCODE}
 use Rattle.axp_decode.specs.declared.names.Op.TheVariants.{EXTBL, EXTWL, EXTLL, EXTQL, EXTWH, EXTLH, EXTQH, INSBL, INSWL, INSLL, INSQL, INSWH, INSLH, INSQH, MSKBL, MSKWL, MSKLL, MSKQL, MSKWH, MSKLH, MSKQH, ZAP, ZAPNOT, SLL, SRL, SRA}
 
 -- the instructions of opcode 12
 abbrev pub IsByteOp : Op → Type 0
-IsByteOp op = operate_opcode op ≡ 0x12
+IsByteOp op = operate_opcode op ≡ BYTE_OPCODE
 
 unfoldable pub value_of : Op → ℕ → ℕ → ℕ
 -- extract the part of a datum that one quadword holds
