@@ -1,7 +1,6 @@
 -- A processor stays at its seat, step by step.
-use Rattle.std.proofs.Common.{◌≡◌, ℕ, ◌+◌, ◌%◌, List, [], ◌∷◌, ◌++◌, Option, Some, None, Bool, true, false, rules, refl, sym, ap, ◌∙◌, subst}
+use Rattle.std.proofs.Common.{◌≡◌, ℕ, ◌+◌, List, [], ◌∷◌, ◌++◌, Option, Some, None, rules, refl, sym, ap, ◌∙◌, subst}
 use Rattle.axp_image.specs.Contents.{Contents, IsValid}
-use Rattle.axp_image.specs.declared.limits.TheConstants.{PAGE_BYTES}
 use Rattle.axp_cpu.specs.declared.phases.Phase.{Phase}
 use Rattle.axp_cpu.specs.declared.phases.Phase.TheVariants as phase
 use Rattle.axp_cpu.specs.declared.phases.Then.{Then}
@@ -9,10 +8,10 @@ use Rattle.axp_cpu.specs.declared.processors.Processor.{Processor}
 use Rattle.axp_cpu.specs.declared.tables.Table.{Table}
 use Rattle.axp_cpu.specs.declared.tables.Wanted.{Wanted}
 use Rattle.axp_cpu.specs.Phases.{Fits, PhaseFits, after, plan_of}
-use Rattle.axp_cpu.specs.Plans.{Plan, End, Want, Unbuilt, given, along, is_built}
+use Rattle.axp_cpu.specs.Plans.{Plan, End, Want, given, along, is_built}
 use Rattle.axp_cpu.specs.Rows.{group}
-use Rattle.axp_cpu.specs.Seats.{Seat, first_seat, first_table, leads, leads_by, moved, plan_now, stepped}
-use Rattle.axp_cpu.specs.Soundness.{IsSound, IsInside}
+use Rattle.axp_cpu.specs.Seats.{Seat, first_seat, first_table, leads_by, moved, plan_now, stepped}
+use Rattle.axp_cpu.specs.Soundness.{IsSound}
 use Rattle.axp_cpu.specs.Stands.{GoesOn, IsMakeable, Stands, plan_left}
 use Rattle.axp_cpu.specs.Tables.{core}
 use Rattle.axp_cpu.proofs.PlanLemmas.{group_sound, along_sound}

@@ -1,7 +1,7 @@
 -- The instruction table: the group of accesses that an instruction is, from the table state at its
 -- start. Registers and program counter change at the group's end alone, the count of fetched
 -- instructions with the fetch. What is not built comes to Unbuilt.
-use Rattle.std.specs.Prelude.{ℕ, ◌+◌, ◌*◌, ◌/◌, ◌%◌, ◌^◌, ◌==◌, Bool, true, false, Some, if◌then◌else◌}
+use Rattle.std.specs.Prelude.{ℕ, ◌+◌, ◌*◌, ◌/◌, ◌%◌, ◌^◌, ◌==◌, Some, if◌then◌else◌}
 use Rattle.axp_base.specs.Numbers.{add, mul, sign_extended}
 use Rattle.axp_base.specs.Sizes.{bytes_of, low_datum}
 use Rattle.axp_base.specs.declared.sizes.Size.{Size}

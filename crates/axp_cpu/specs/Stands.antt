@@ -1,5 +1,5 @@
 -- How a processor of the code stands for a seat.
-use Rattle.std.specs.Prelude.{◌≡◌, ℕ, ◌*◌, ◌%◌, ◌^◌, ◌<◌, Bool, true, false, ◌||◌, nat_le, Option, Some, None, is_some}
+use Rattle.std.specs.Prelude.{◌≡◌, ℕ, ◌*◌, ◌%◌, ◌^◌, ◌<◌, true, false, Option, Some, None}
 use Rattle.axp_image.specs.declared.limits.TheConstants.{INSTRUCTION_BYTES, PAGE_BYTES}
 use Rattle.axp_regs.specs.States.{pc_of}
 use Rattle.axp_cpu.specs.declared.phases.Then.{Then}

@@ -1,4 +1,3 @@
-use Rattle.std.proofs.Common.{◌≡◌, sym, ◌∙◌}
 use Rattle.axp_cpu.specs.declared.phases.Phase.TheVariants as phase
 use Rattle.axp_cpu.proofs.SeatLemmas.{goes_on}
 use Rattle.axp_cpu.proofs.processors.Processor.advanced.Goals as goal
