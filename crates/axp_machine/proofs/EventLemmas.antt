@@ -7,7 +7,6 @@ use Rattle.std.proofs.lemmas.List.{length-reverse, reverse-append}
 use Rattle.std.proofs.lemmas.Option.{slice_get-get_or}
 use Rattle.axp_access.specs.declared.Access.{Access}
 use Rattle.axp_access.specs.declared.Event.{Event}
-use Rattle.axp_access.specs.declared.Outcome.{Outcome}
 use Rattle.axp_access.specs.declared.Outcome.TheVariants as outcome
 use Rattle.axp_access.specs.declared.Record.{Record}
 use Rattle.axp_access.specs.Spelling.{IsPlaceOf, Spells}
@@ -25,8 +24,8 @@ use Rattle.axp_regs.specs.declared.asks.Kind.{Kind}
 use Rattle.axp_machine.specs.declared.machine.Machine.TheInside.{Inside}
 use Rattle.axp_machine.specs.declared.steps.Step.{Step}
 use Rattle.axp_machine.specs.Plains.{after_access}
-use Rattle.axp_machine.specs.Runs.{Seen, IsRunOf, seat, seat_of, step_by, step_of, there_after, access_of, given_by, value_given, made_access, outcome_of, after_event}
-use Rattle.axp_machine.specs.Steps.{AreMade, Chooses, IsMade, Sits}
+use Rattle.axp_machine.specs.Runs.{Seen, IsRunOf, seat, seat_of, step_by, there_after, access_of, given_by, value_given, made_access, outcome_of, after_event}
+use Rattle.axp_machine.specs.Steps.{Chooses, IsMade, Sits}
 use Rattle.axp_machine.specs.Ties.{Ties, seen, history}
 use Rattle.axp_machine.proofs.MemoryLemmas.{memory_step}
 use Rattle.axp_machine.proofs.RoomLemmas.{outcome_if, run_fits}

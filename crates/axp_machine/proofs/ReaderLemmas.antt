@@ -11,7 +11,7 @@ use Rattle.axp_machine.specs.declared.machine.Machine.TheInside.{Inside}
 use Rattle.axp_cpu.specs.declared.processors.Processor.{Processor}
 use Rattle.axp_cpu.specs.Seats.{first_seat, is_finished}
 use Rattle.axp_cpu.specs.Stands.{Stands}
-use Rattle.axp_machine.specs.Runs.{Seen, started, seat, seat_of, are_finished, quadword_of}
+use Rattle.axp_machine.specs.Runs.{Seen, started, seat, are_finished, quadword_of}
 use Rattle.axp_machine.specs.Steps.{StartsAll}
 use Rattle.axp_machine.specs.Ties.{Ties, MemoryIs, seen, history}
 use Rattle.axp_machine.specs.Plains.{Plain, IsLoaded}

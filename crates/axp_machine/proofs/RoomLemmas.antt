@@ -1,5 +1,5 @@
 -- A run is no longer than its processors' budgets allow.
-use Rattle.std.proofs.Common.{◌≡◌, ℕ, zero, suc, ◌+◌, ◌*◌, ◌<◌, ◌≤◌, ◌&&◌, ◌||◌, not, Bool, true, false, cond, eqb, ltb, leb, List, [], ◌∷◌, length, Option, Some, None, arith, refl, sym, ◌∙◌, subst, ⊎_elim}
+use Rattle.std.proofs.Common.{◌≡◌, ℕ, zero, suc, ◌+◌, ◌*◌, ◌<◌, ◌≤◌, ◌||◌, Bool, true, false, cond, eqb, ltb, leb, List, [], ◌∷◌, length, Option, Some, None, arith, refl, sym, ◌∙◌, subst, ⊎_elim}
 use Rattle.std.proofs.lemmas.Bool.{cases_eq, eq-eqb, ne_eqb, ltb-true, le-leb, cases_lt}
 use Rattle.axp_access.specs.declared.Event.{Event}
 use Rattle.axp_access.specs.declared.Outcome.{Outcome}
@@ -9,9 +9,8 @@ use Rattle.axp_image.specs.Contents.{Contents}
 use Rattle.axp_base.specs.declared.processors.Cpu.{Cpu}
 use Rattle.axp_cpu.specs.declared.tables.Wanted.{Wanted}
 use Rattle.axp_cpu.specs.Plans.{Plan, End, Want, Unbuilt}
-use Rattle.axp_access.specs.declared.Access.{Access}
-use Rattle.axp_cpu.specs.Seats.{Seat, is_finished, moved, plan_now, stepped, wanted, wanted_by}
-use Rattle.axp_machine.specs.Runs.{Seen, seat, seat_of, step_by, step_of, there_after, made_access, outcome_of, IsRunOf, given_by_outcome}
+use Rattle.axp_cpu.specs.Seats.{Seat, moved, plan_now, stepped, wanted, wanted_by}
+use Rattle.axp_machine.specs.Runs.{Seen, seat, seat_of, step_by, there_after, made_access, outcome_of, IsRunOf, given_by_outcome}
 use Rattle.axp_model.specs.Turns.{turns}
 
 -- how many records a processor has

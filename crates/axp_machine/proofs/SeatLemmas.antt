@@ -1,5 +1,5 @@
 -- A machine's processors stay at their seats, and their steps are the events' outcomes.
-use Rattle.std.proofs.Common.{◌≡◌, ◌≢◌, ℕ, zero, suc, ◌+◌, ◌%◌, ◌<◌, ◌≤◌, Bool, true, false, cond, ltb, List, [], ◌∷◌, ◌++◌, length, set, slice_get, Option, Some, None, arith, refl, sym, ap, ◌∙◌, subst, ⊎_elim}
+use Rattle.std.proofs.Common.{◌≡◌, ◌≢◌, ℕ, zero, suc, ◌<◌, ◌≤◌, Bool, true, false, cond, List, [], ◌∷◌, length, set, slice_get, Option, Some, None, arith, refl, sym, ap, ◌∙◌, subst, ⊎_elim}
 use Rattle.std.proofs.Common.{get_or-set_other}
 use Rattle.std.proofs.Math.ListN.{length-set}
 use Rattle.std.proofs.lemmas.Grind.{get_or-set_at}
@@ -13,8 +13,7 @@ use Rattle.axp_base.specs.declared.processors.Cpu.{Cpu}
 use Rattle.axp_base.specs.Cpus.{cpu_number}
 use Rattle.axp_cpu.specs.declared.processors.Processor.{Processor}
 use Rattle.axp_cpu.specs.declared.tables.Wanted.{Wanted}
-use Rattle.axp_cpu.specs.Plans.{Plan, End, Want, Unbuilt, along}
-use Rattle.axp_cpu.specs.Rows.{group}
+use Rattle.axp_cpu.specs.Plans.{Plan, End, Want, Unbuilt}
 use Rattle.axp_cpu.specs.Seats.{Seat, is_finished, leads, moved, plan_now, stepped, wanted, wanted_by}
 use Rattle.axp_cpu.specs.Soundness.{IsSound}
 use Rattle.axp_cpu.specs.Stands.{Stands}
@@ -23,7 +22,7 @@ use Rattle.axp_image.specs.Contents.{Contents}
 use Rattle.axp_model.specs.Turns.{turns}
 use Rattle.axp_machine.specs.declared.steps.Step.{Step}
 use Rattle.axp_machine.specs.Plains.{Plain}
-use Rattle.axp_machine.specs.Runs.{seat, given_by, given_by_outcome, value_given, access_of, step_by, step_of, there_after, made_access, outcome_of}
+use Rattle.axp_machine.specs.Runs.{seat, given_by, given_by_outcome, value_given, access_of, step_by, step_of, there_after, outcome_of}
 use Rattle.axp_machine.specs.Steps.{number_there, Chooses, Does, Sits}
 use Rattle.axp_machine.specs.Ties.{AreSeated, MemoryIs}
 use Rattle.axp_machine.proofs.MemoryLemmas.{number_there-after}

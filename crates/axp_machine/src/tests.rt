@@ -189,7 +189,7 @@ fn instructions_end_where_they_should(rt: HostRuntime) -> Result<(), Fail> {
     let cpu = Cpu::new(0).ok_or("0 is a processor's number")?;
     for (first, second, events, pc, n, value) in [
         // a floating instruction
-        (NOT_BUILT, 0, 0, 0x2000, 0, 0),
+        (NOT_BUILT, 0, 0, 0x2000_u16, 0, 0),
         // LDA R2, 1(R31), and BIS R31, R2, R3 with bits 15:13 set
         (0x205F_0001, 0x47E2_E403, 2, 0x2008, 3, 1),
         // LDQ R31, 1(R30), which makes no access
@@ -228,7 +228,11 @@ fn instructions_end_where_they_should(rt: HostRuntime) -> Result<(), Fail> {
         assert!(rt; cpu.number() < machine.cpus());
         assert!(rt; usize::from(n) < REGISTERS);
         assert_eq!(rt; machine.register(cpu, n), value, "{first:08X}");
-        assert_eq!(rt; machine.pc(cpu), 0xFFFF_FC00_0000_0000 + pc, "{first:08X}");
+        assert_eq!(rt;
+            machine.pc(cpu),
+            0xFFFF_FC00_0000_0000 + u64::from(pc),
+            "{first:08X}"
+        );
     }
     Ok(())
 }

@@ -1,4 +1,4 @@
-use Rattle.std.proofs.Common.{sym, subst}
+use Rattle.std.proofs.Common.{subst}
 use Rattle.axp_cpu.specs.Seats.{first_seat}
 use Rattle.axp_cpu.specs.Stands.{Stands}
 use Rattle.axp_machine.proofs.ReaderLemmas.{started_more}

@@ -1,4 +1,3 @@
-use Rattle.axp_cpu.specs.Seats.{Seat}
 use Rattle.axp_machine.specs.Runs.{seat}
 use Rattle.axp_machine.specs.Ties.{history}
 use Rattle.axp_machine.proofs.ReaderLemmas.{finished_more}

@@ -1,12 +1,11 @@
-use Rattle.std.proofs.Common.{◌≡◌, ◌∙◌, List, Some, None, length, set, arith, refl, sym, ap, subst}
+use Rattle.std.proofs.Common.{◌≡◌, ◌∙◌, Some, None, set, arith, refl, sym, ap, subst}
 use Rattle.std.specs.Vec.{with_item}
 use Rattle.std.proofs.Math.ListN.{length-set}
 use Rattle.axp_access.specs.declared.Outcome.TheVariants as outcome
 use Rattle.axp_base.specs.Cpus.{cpu_number}
 use Rattle.axp_machine.specs.declared.machine.Machine.TheInside.{Inside}
 use Rattle.axp_machine.specs.Runs.{Seen, outcome_of, answer_of, after_event}
-use Rattle.axp_machine.specs.Ties.{seen}
-use Rattle.axp_machine.proofs.EventLemmas.{Taken, chosen, few_turns, has_room, runs, seated, shows, spells, stays, taken, ties_step}
+use Rattle.axp_machine.proofs.EventLemmas.{Taken, chosen, few_turns, has_room, seated, shows, spells, stays, taken, ties_step}
 use Rattle.axp_machine.proofs.machine.Machine.event.Goals as goal
 
 pub next_step-requires-clause-seated : goal.next_step-requires-clause-seated

@@ -1,4 +1,4 @@
-use Rattle.std.proofs.Common.{◌∙◌, ap, subst}
+use Rattle.std.proofs.Common.{◌∙◌, subst}
 use Rattle.axp_base.specs.Cpus.{cpu_number}
 use Rattle.axp_cpu.specs.Stands.{Stands}
 use Rattle.axp_machine.specs.Runs.{Seen, seat_of}
