@@ -1,5 +1,5 @@
 -- What branches test, and where they go.
-use Rattle.std.proofs.Common.{◌≡◌, ℕ, pos, negsuc, zero, suc, ◌+◌, ◌-◌, ◌*◌, ◌%◌, ◌^◌, ◌<◌, ◌≤◌, ◌||◌, not, Bool, true, false, eqb, ltb, leb, arith, refl, sym, ap, ◌∙◌, ⊎_elim}
+use Rattle.std.proofs.Common.{◌≡◌, ℕ, pos, negsuc, zero, suc, ◌-◌, ◌*◌, ◌%◌, ◌^◌, ◌<◌, ◌≤◌, ◌||◌, not, Bool, true, false, eqb, arith, refl, sym, ap, ◌∙◌, ⊎_elim}
 use Rattle.std.specs.Prelude.{◌==◌, int_lt}
 use Rattle.std.specs.Int.{cast_signed, w64}
 use Rattle.std.proofs.lemmas.Bool.{cases_lt, lt-ltb, le-ltb, le-leb, lt-leb, ne_eqb}
@@ -7,7 +7,7 @@ use Rattle.std.proofs.lemmas.Int.{to_z_pos}
 use Rattle.std.proofs.lemmas.Nat.{mod_below}
 use Rattle.std.proofs.Math.Facts.{to_z-neg}
 use Rattle.std.proofs.Math.Nat.{mod-mod}
-use Rattle.axp_base.specs.Numbers.{add, sub, mul, signed, sign_extended, is_negative}
+use Rattle.axp_base.specs.Numbers.{add, sub, signed, sign_extended, is_negative}
 use Rattle.axp_base.proofs.SignLemmas.{negative_is_below}
 use Rattle.axp_branch.specs.Branches.{is_taken, target_of}
 use Rattle.axp_decode.specs.declared.names.BranchOp.TheVariants.{BLBC, BLBS, BEQ, BNE, BLT, BLE, BGE, BGT}
