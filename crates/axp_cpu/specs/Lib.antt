@@ -2,6 +2,7 @@ pub mod Tables
 pub mod Plans
 pub mod Addresses
 pub mod Rows
+pub mod Refusals
 pub mod Phases
 pub mod Seats
 pub mod Soundness

@@ -5,10 +5,12 @@
 //! phases. A processor stands for a seat, where the definitions have it (`specs/Seats.antt`).
 #![tactic(auto)]
 
+mod laws;
 mod phases;
 mod processors;
 mod rows;
 mod tables;
 
+pub use laws::what_is_not_built;
 pub use processors::Processor;
 pub use tables::Wanted;
