@@ -5,3 +5,4 @@ pub mod RoomLemmas
 pub mod EventLemmas
 pub mod ReaderLemmas
 pub mod RunLemmas
+pub mod RefusalLemmas

@@ -1,4 +1,5 @@
 pub mod Runs
+pub mod Refusals
 pub mod Plains
 pub mod PlainParts
 pub mod Steps

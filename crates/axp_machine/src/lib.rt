@@ -11,7 +11,7 @@ mod plain_memory;
 mod steps;
 
 pub use axp_regs::{REGISTERS, ZERO_REGISTER};
-pub use laws::records_are_a_run;
+pub use laws::{records_are_a_run, refused_events};
 pub use machine::{Machine, NotBuilt};
 
 #[cfg(test)]
