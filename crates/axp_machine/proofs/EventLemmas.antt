@@ -8,15 +8,13 @@ use Rattle.std.proofs.lemmas.Option.{slice_get-get_or}
 use Rattle.axp_access.specs.declared.Access.{Access}
 use Rattle.axp_access.specs.declared.Event.{Event}
 use Rattle.axp_access.specs.declared.Outcome.TheVariants as outcome
-use Rattle.axp_access.specs.declared.Record.{Record}
 use Rattle.axp_access.specs.Spelling.{IsPlaceOf, Spells}
 use Rattle.axp_base.specs.declared.processors.Cpu.{Cpu}
 use Rattle.axp_base.specs.declared.processors.TheConstants.{MAX_CPUS, MAX_BUDGET}
 use Rattle.axp_base.specs.Cpus.{cpu_number}
 use Rattle.axp_cpu.specs.declared.processors.Processor.{Processor}
 use Rattle.axp_cpu.specs.declared.tables.Wanted.{Wanted}
-use Rattle.axp_cpu.specs.Seats.{Seat, leads, stepped, wanted}
-use Rattle.axp_cpu.specs.Stands.{Stands}
+use Rattle.axp_cpu.specs.Seats.{Seat, leads, wanted}
 use Rattle.axp_model.specs.Turns.{turns, turns_of_kind}
 use Rattle.axp_model.specs.Places.{place_at}
 use Rattle.axp_model.proofs.Turns.{turns_of_kind-le, turns-le}
@@ -24,8 +22,8 @@ use Rattle.axp_regs.specs.declared.asks.Kind.{Kind}
 use Rattle.axp_machine.specs.declared.machine.Machine.TheInside.{Inside}
 use Rattle.axp_machine.specs.declared.steps.Step.{Step}
 use Rattle.axp_machine.specs.Plains.{after_access}
-use Rattle.axp_machine.specs.Runs.{Seen, IsRunOf, seat, seat_of, step_by, there_after, access_of, given_by, value_given, made_access, outcome_of, after_event}
-use Rattle.axp_machine.specs.Steps.{Chooses, IsMade, Sits}
+use Rattle.axp_machine.specs.Runs.{Seen, IsRunOf, seat_of, step_by, there_after, access_of, value_given, made_access, outcome_of, with_record}
+use Rattle.axp_machine.specs.Steps.{AreMade, Chooses, IsChosen, IsMade, IsStepOf, Sits, record_of}
 use Rattle.axp_machine.specs.Ties.{Ties, seen, history}
 use Rattle.axp_machine.proofs.MemoryLemmas.{memory_step}
 use Rattle.axp_machine.proofs.RoomLemmas.{outcome_if, run_fits}
@@ -54,31 +52,29 @@ chosen a ps e o ties is chooses =
     let now = subst (λ t. Chooses a.memory.bytes t e.cpu (slice_get a.processors.items (cpu_number e.cpu)) o) ties.turns here in
     comes a.image a.memory a.processors.items a.budget (history a) e o ties.memory ties.seats now
 
--- a step that is chosen, by the machine's parts
-pub record Taken (a : Inside) (e : Event) (s : Step) : Type 0 where
-  pub gave : outcome_of (seen a) e ≡ Some (outcome.Access s.access)
-  pub stands : Stands s.processor (stepped (seat a.image a.budget (cpu_number e.cpu) (history a)) (given_by s.access.kind s.access.value))
-  pub below : cpu_number e.cpu < length a.processors.items
-  pub made : IsMade a.image.size s.access
+chosen_by : (a : Inside) (e : Event) (o : Option Step) → length a.memory.bytes ≡ a.image.size → Comes a.image (length a.processors.items) a.budget (history a) e o → AreMade (length a.memory.bytes) o → IsChosen (seen a) e o
+chosen_by a e None size come made = come
+chosen_by a e (Some s) size come made = record { gave = come.0; stands = come.1; below = come.2; made = subst (λ n. IsMade n s.access) size made }
 
-pub taken : (a : Inside) (ps : List Processor) (e : Event) (s : Step) → Ties a → ps ≡ a.processors.items → Chooses a.memory.bytes a.turns e.cpu (slice_get ps (cpu_number e.cpu)) (Some s) → IsMade (length a.memory.bytes) s.access → Taken a e s
-taken a ps e s ties is chooses made =
-    let come = chosen a ps e (Some s) ties is chooses in
-    record { gave = come.0; stands = come.1; below = come.2; made = subst (λ n. IsMade n s.access) ties.memory.size made }
+-- the step that the code chose is the event's
+pub is_chosen : (a : Inside) (m : Seen) (ps : List Processor) (e : Event) (o : Option Step) → Ties a → seen a ≡ m → ps ≡ a.processors.items → Chooses a.memory.bytes a.turns e.cpu (slice_get ps (cpu_number e.cpu)) o → AreMade (length a.memory.bytes) o
+    → IsChosen m e o
+is_chosen a m ps e o ties shown is chooses made = subst (λ (x : Seen). IsChosen x e o) shown (chosen_by a e o ties.memory.size (chosen a ps e o ties is chooses) made)
 
-abbrev pub record_of : Event → Step → Record
-record_of e s = record { event = e; outcome = outcome.Access s.access }
+-- a step of the machine that callers see is one of its parts
+pub taken : (a : Inside) (m : Seen) (e : Event) (s : Step) → seen a ≡ m → IsStepOf m e s → IsStepOf (seen a) e s
+taken a m e s shown t = subst (λ (x : Seen). IsStepOf x e s) (sym shown) t
 
 -- the run goes on with the step's record
-pub runs : (a : Inside) (e : Event) (s : Step) → Ties a → Taken a e s → IsRunOf a.image (length a.processors.items) a.budget (record_of e s ∷ history a)
+pub runs : (a : Inside) (e : Event) (s : Step) → Ties a → IsStepOf (seen a) e s → IsRunOf a.image (length a.processors.items) a.budget (record_of e s ∷ history a)
 runs a e s ties t = (t.gave, ties.run)
 
-pub has_room : (a : Inside) (e : Event) (s : Step) → Ties a → Taken a e s → vec_len a.records < vec_capacity a.records
+pub has_room : (a : Inside) (e : Event) (s : Step) → Ties a → IsStepOf (seen a) e s → vec_len a.records < vec_capacity a.records
 has_room a e s ties t =
     omega (arith, run_fits a.image (length a.processors.items) a.budget (record_of e s ∷ history a) (runs a e s ties t), a.records.ok.0, length-reverse a.records.items, ties.room)
 
 -- the machine's parts after the step
-pub ties_step : (a a' : Inside) (e : Event) (s : Step) → Ties a → Taken a e s
+pub ties_step : (a a' : Inside) (e : Event) (s : Step) → Ties a → IsStepOf (seen a) e s
     → a'.image ≡ a.image → a'.memory ≡ after_access s.access a.memory → a'.processors.items ≡ set a.processors.items (cpu_number e.cpu) s.processor → a'.budget ≡ a.budget
     → a'.turns ≡ turns_of_kind s.access.kind + a.turns → a'.records.items ≡ a.records.items ++ record_of e s ∷ [] → vec_capacity a'.records ≡ vec_capacity a.records → Ties a'
 ties_step a a' e s ties t image memory processors budget counted records room =
@@ -96,16 +92,11 @@ ties_step a a' e s ties t image memory processors budget counted records room =
     }
 
 -- the machine shows one record more
-pub shows : (a a' : Inside) (e : Event) (s : Step) → outcome_of (seen a) e ≡ Some (outcome.Access s.access) → a'.image ≡ a.image → length a'.processors.items ≡ length a.processors.items → a'.budget ≡ a.budget
-    → a'.records.items ≡ a.records.items ++ record_of e s ∷ [] → seen a' ≡ after_event (seen a) e
-unfolding after_event
-shows a a' e s gave image count budget records =
+pub shows : (a a' : Inside) (m : Seen) (e : Event) (s : Step) → seen a ≡ m → a'.image ≡ a.image → length a'.processors.items ≡ length a.processors.items → a'.budget ≡ a.budget
+    → a'.records.items ≡ a.records.items ++ record_of e s ∷ [] → seen a' ≡ with_record m (record_of e s)
+shows a a' m e s is image count budget records =
     let shown : history a' ≡ record_of e s ∷ history a = ap reverse records ∙ reverse-append a.records.items (record_of e s ∷ []) in
-    rw (image, count, budget, shown, gave) refl
-
-pub stays : (m : Seen) (e : Event) → outcome_of m e ≡ None → m ≡ after_event m e
-unfolding after_event
-stays m e none = rw none refl
+    rw (image, count, budget, shown, ← is) refl
 
 -- a step's access is its processor's, at its place
 step_is_by : (built : Bool) (cpu : Cpu) (t : ℕ) (w : Wanted) (n : ℕ) (a : Access) → cond built (Some (access_of cpu t w n)) None ≡ Some a → (a.cpu ≡ cpu) × (a.place ≡ place_at t a.kind)
@@ -131,7 +122,7 @@ place_fits : (kind : Kind) (t : ℕ) → t < 2 ^ 31 → IsPlaceOf kind (place_at
 place_fits kind t few = omega (arith, turns_of_kind-le kind)
 
 -- one line of a trace spells the event and its outcome
-pub spells : (a : Inside) (e : Event) (s : Step) → Ties a → Taken a e s → Spells e (outcome.Access s.access)
+pub spells : (a : Inside) (e : Event) (s : Step) → Ties a → IsStepOf (seen a) e s → Spells e (outcome.Access s.access)
 spells a e s ties t =
     let own = outcome_is (seen a) e s.access t.gave in (
       own.0,

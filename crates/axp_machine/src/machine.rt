@@ -6,7 +6,7 @@ ghost use Rattle.axp_machine.specs.Steps.{StartsAll};
 ghost use Rattle.axp_model.specs.Turns.{turns_of_kind};
 
 use crate::plain_memory::PlainMemory;
-use crate::steps::next_step;
+use crate::steps::{Step, next_step};
 use axp_access::{Access, Act, Event, Kind, Outcome, Record};
 use axp_base::{Cpu, MAX_BUDGET, MAX_CPUS, MIN_CPUS, NoMemory, QUADWORD_BYTES};
 use axp_cpu::Processor;
@@ -43,14 +43,15 @@ impl Model for Machine {
 }
 
 impl Machine {
-    ghost use Rattle.std.specs.Prelude.{◌≡◌, ◌*◌, ◌^◌, ◌<◌, ◌≤◌, length, IfOk};
+    ghost use Rattle.std.specs.Prelude.{◌≡◌, ◌*◌, ◌^◌, ◌<◌, ◌≤◌, length, IfOk, Some};
     ghost use Rattle.axp_access.specs.Spelling.{Spells};
     ghost use Rattle.axp_base.specs.Cpus.{cpu_number};
     ghost use Rattle.axp_image.specs.Contents.{IsValid};
     ghost use Rattle.axp_model.specs.Sources.{is_touched};
     ghost use Rattle.axp_regs.specs.States.{pc_of, register};
     ghost use Rattle.axp_cpu.specs.Stands.{Stands};
-    ghost use Rattle.axp_machine.specs.Runs.{started, outcome_of, answer_of, after_event, IsRun, is_complete, seat_of, table_of, steps_of, quadword_of};
+    ghost use Rattle.axp_machine.specs.Runs.{started, outcome_of, answer_of, after_event, with_record, IsRun, is_complete, seat_of, table_of, steps_of, quadword_of};
+    ghost use Rattle.axp_machine.specs.Steps.{IsChosen, IsStepOf, record_of};
 
     /// A machine at the start: `cpus` processors, 2 to 8, each with a budget of steps, 1 to 32,768,
     /// over the image's memory. All room that the records take is taken here.
@@ -178,6 +179,7 @@ impl Machine {
     /// Does an event. It is accepted exactly where the processor is one of the machine's and not
     /// finished, and all that the step leads to is built; a refused event leaves the machine as it
     /// was.
+    #[tactic(auto, unfolding(crate::specs::Runs::after_event))]
     pub fn event(&mut self, event: Event) -> Result<Outcome, NotBuilt>
         ensures answer { result ≡ answer_of (outcome_of self.old event) }
         ensures after { self.new ≡ after_event self.old event }
@@ -185,15 +187,34 @@ impl Machine {
         ensures spelled { IfOk result (Spells event) }
     {
         let Act::Step = event.act;
+        match self.choose(event) {
+            Some(step) => Ok(self.make(event, step)),
+            None => Err(NotBuilt),
+        }
+    }
+
+    /// The step that an event makes; `None` where it is refused.
+    fn choose(&self, event: Event) -> Option<Step>
+        ensures chosen { IsChosen self.now event result }
+        ensures run { IsRun self.now }
+    {
         let processors = self.processors.as_slice();
-        let Some(step) = next_step(processors, &self.memory, self.turns, event.cpu) else {
-            return Err(NotBuilt);
-        };
-        make(&mut self.memory, &mut self.turns, &step.access);
+        next_step(processors, &self.memory, self.turns, event.cpu)
+    }
+
+    /// Makes the step of an event.
+    fn make(&mut self, event: Event, step: Step) -> Outcome
+        requires { IsStepOf self.old event step }
+        ensures outcome { Some result ≡ outcome_of self.old event }
+        ensures after { self.new ≡ with_record self.old (record_of event step) }
+        ensures run { IsRun self.new }
+        ensures spelled { Spells event result }
+    {
+        make_access(&mut self.memory, &mut self.turns, &step.access);
         self.processors[usize::from(event.cpu.number())] = step.processor;
         let outcome = Outcome::Access(step.access);
         self.records.push_reserved(Record { event, outcome });
-        Ok(outcome)
+        outcome
     }
 }
 
@@ -218,7 +239,7 @@ fn start_all(
 }
 
 /// Makes an access on memory: a write is a turn.
-fn make(memory: &mut PlainMemory, turns: &mut u64, access: &Access)
+fn make_access(memory: &mut PlainMemory, turns: &mut u64, access: &Access)
     requires inside { IsInside (length memory.old.bytes) access.now.kind access.now.address access.now.size }
     requires turns { turns.old < 2 ^ 32 }
     ensures memory { memory.new ≡ after_access access.now memory.old }
