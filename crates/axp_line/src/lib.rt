@@ -1,0 +1,11 @@
+//! The data of a line of memory, and how data are merged into it byte by byte.
+#![tactic(auto)]
+
+mod contents;
+mod laws;
+
+pub use contents::{LineData, NoRoom};
+pub use laws::{line_is_whole, merged_bytes};
+
+#[cfg(test)]
+mod tests;
