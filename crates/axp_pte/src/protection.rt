@@ -1,0 +1,78 @@
+ghost use Rattle.std.specs.Prelude.{◌≡◌, ◌↔◌, ◌^◌, true, false, Err, Ok};
+ghost use Rattle.axp_pte.specs.Entries.{is_set, pfn_of, pte_word, set_bits, fault_on_execute_bit, fault_on_read_bit, fault_on_write_bit, valid_bit};
+ghost use Rattle.axp_pte.specs.Protection.{allows, fault_bit, fault_of, right_bit, rights_of, upper_of};
+ghost use Rattle.axp_pte.specs.declared.faults.MmFault.TheVariants.{Tnv, Acv, For, Foe, Fow};
+ghost use Rattle.axp_pte.specs.declared.faults.Way.TheVariants.{Fetch, Load, Store};
+
+use crate::{MmFault, Mode, Pte, PteBits, Way};
+
+/// The bit that gives the right to an access: read enable for fetches and loads, write enable for
+/// stores, of the mode.
+fn right(mode: Mode, way: Way) -> PteBits
+    ensures { set_bits result ≡ 2 ^ right_bit mode way }
+{
+    match (mode, way) {
+        (Mode::Kernel, Way::Store) => PteBits::KWE,
+        (Mode::User, Way::Store) => PteBits::UWE,
+        (Mode::Kernel, Way::Fetch | Way::Load) => PteBits::KRE,
+        (Mode::User, Way::Fetch | Way::Load) => PteBits::URE,
+    }
+}
+
+/// The bit that asks for a fault at each access of this way, and that fault.
+fn asked(way: Way) -> (PteBits, MmFault)
+    ensures bit { set_bits result.0 ≡ 2 ^ fault_bit way }
+    ensures fault { result.1 ≡ fault_of way }
+{
+    match way {
+        Way::Fetch => (PteBits::FOE, MmFault::Foe),
+        Way::Load => (PteBits::FOR, MmFault::For),
+        Way::Store => (PteBits::FOW, MmFault::Fow),
+    }
+}
+
+/// The page frame number of the next level's table, from an entry of the first two levels; `Tnv`
+/// where the entry has V = 0. No other bit matters at these levels.
+#[tactic(auto, unfolding(crate::specs::Protection::upper_of))]
+pub fn upper(pte: Pte) -> Result<u64, MmFault>
+    ensures value { result ≡ upper_of (pte_word pte) }
+    ensures tnv { (result ≡ Err Tnv) ↔ (is_set (pte_word pte) valid_bit ≡ false) }
+    ensures ok { (result ≡ Ok (pfn_of (pte_word pte))) ↔ (is_set (pte_word pte) valid_bit ≡ true) }
+{
+    if pte.is_valid() {
+        Ok(pte.pfn())
+    } else {
+        Err(MmFault::Tnv)
+    }
+}
+
+/// The page frame number of the page, from an entry of the third level, for an access. Of the faults
+/// the first that stands comes: `Acv` where the mode's right is missing, also at an entry that is not
+/// valid; `Tnv` where the entry has V = 0; then `Foe` for a fetch at FOE, `For` for a load at FOR, and
+/// `Fow` for a store at FOW.
+#[tactic(auto, unfolding(crate::specs::Protection::rights_of), using(crate::proofs::BitLemmas::right_tested, crate::proofs::BitLemmas::fault_tested))]
+pub fn rights(pte: Pte, mode: Mode, way: Way) -> Result<u64, MmFault>
+    ensures value { result ≡ rights_of (pte_word pte) mode way }
+    ensures acv { (result ≡ Err Acv) ↔ (allows (pte_word pte) mode way ≡ false) }
+    ensures tnv { (result ≡ Err Tnv) ↔ ((allows (pte_word pte) mode way ≡ true) × (is_set (pte_word pte) valid_bit ≡ false)) }
+    ensures foe { (result ≡ Err Foe) ↔ ((allows (pte_word pte) mode way ≡ true) × (is_set (pte_word pte) valid_bit ≡ true)
+        × (way ≡ Fetch) × (is_set (pte_word pte) fault_on_execute_bit ≡ true)) }
+    ensures fault_on_read { (result ≡ Err For) ↔ ((allows (pte_word pte) mode way ≡ true) × (is_set (pte_word pte) valid_bit ≡ true)
+        × (way ≡ Load) × (is_set (pte_word pte) fault_on_read_bit ≡ true)) }
+    ensures fow { (result ≡ Err Fow) ↔ ((allows (pte_word pte) mode way ≡ true) × (is_set (pte_word pte) valid_bit ≡ true)
+        × (way ≡ Store) × (is_set (pte_word pte) fault_on_write_bit ≡ true)) }
+    ensures ok { (result ≡ Ok (pfn_of (pte_word pte))) ↔ ((allows (pte_word pte) mode way ≡ true) × (is_set (pte_word pte) valid_bit ≡ true)
+        × (is_set (pte_word pte) (fault_bit way) ≡ false)) }
+{
+    if !pte.has(right(mode, way)) {
+        return Err(MmFault::Acv);
+    }
+    if !pte.is_valid() {
+        return Err(MmFault::Tnv);
+    }
+    let (bit, fault) = asked(way);
+    if pte.has(bit) {
+        return Err(fault);
+    }
+    Ok(pte.pfn())
+}

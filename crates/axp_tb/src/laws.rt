@@ -1,0 +1,44 @@
+//! Laws of the translation buffer, each proved as the contract of a function that does nothing.
+ghost use Rattle.std.specs.Prelude.{ℕ, List, ◌≡◌, ◌≢◌, ◌↔◌, [], true, false, length, All, Contains, None, Some};
+ghost use Rattle.axp_pte.specs.declared.entries.Pte.{Pte};
+ghost use Rattle.axp_tb.specs.Buffers.{found, has_asm, is_match, with_put, without_page, without_process, IsLastMatch};
+ghost use Rattle.axp_tb.specs.declared.buffers.TheConstants.{TB_ENTRIES};
+ghost use Rattle.axp_tb.specs.declared.entries.TbEntry.{TbEntry};
+
+/// What is found is exactly the entry that was put last of those that match.
+pub fn finds_the_last()
+    ensures some { (entries : List TbEntry) (page asn : ℕ) (pte : Pte)
+        → (found entries page asn ≡ Some pte) ↔ IsLastMatch entries page asn pte }
+    ensures none { (entries : List TbEntry) (page asn : ℕ)
+        → (found entries page asn ≡ None) ↔ All (λ entry. is_match page asn entry ≡ false) entries }
+    ensures empty { (page asn : ℕ) → found [] page asn ≡ None }
+{}
+
+/// An entry that was put is found, and with ASM in every address space. Everything else is found as
+/// before, unless the buffer was full: then nothing else is.
+pub fn finds_after_put()
+    ensures same { (entries : List TbEntry) (page asn : ℕ) (pte : Pte)
+        → found (with_put entries page asn pte) page asn ≡ Some pte }
+    ensures in_every_address_space { (entries : List TbEntry) (page asn other : ℕ) (pte : Pte) → has_asm pte ≡ true
+        → found (with_put entries page asn pte) page other ≡ Some pte }
+    ensures other_page { (entries : List TbEntry) (page asn p a : ℕ) (pte : Pte) → length entries ≢ TB_ENTRIES → p ≢ page
+        → found (with_put entries page asn pte) p a ≡ found entries p a }
+    ensures other_address_space { (entries : List TbEntry) (page asn p a : ℕ) (pte : Pte) → length entries ≢ TB_ENTRIES → a ≢ asn → has_asm pte ≡ false
+        → found (with_put entries page asn pte) p a ≡ found entries p a }
+    ensures full { (entries : List TbEntry) (page asn p a : ℕ) (pte : Pte) → length entries ≡ TB_ENTRIES → p ≢ page
+        → found (with_put entries page asn pte) p a ≡ None }
+{}
+
+/// Which entries are dropped, and what is found then. Without the entries of processes it does not
+/// matter in which address space a page is looked for.
+pub fn finds_after_drops()
+    ensures process_keeps { (entries : List TbEntry) (entry : TbEntry)
+        → Contains (without_process entries) entry ↔ (Contains entries entry × (has_asm entry.pte ≡ true)) }
+    ensures process_in_every_address_space { (entries : List TbEntry) (page asn other : ℕ)
+        → found (without_process entries) page asn ≡ found (without_process entries) page other }
+    ensures page_keeps { (entries : List TbEntry) (page asn : ℕ) (entry : TbEntry)
+        → Contains (without_page entries page asn) entry ↔ (Contains entries entry × (is_match page asn entry ≡ false)) }
+    ensures page_gone { (entries : List TbEntry) (page asn : ℕ) → found (without_page entries page asn) page asn ≡ None }
+    ensures other_page { (entries : List TbEntry) (page asn p a : ℕ) → p ≢ page
+        → found (without_page entries page asn) p a ≡ found entries p a }
+{}

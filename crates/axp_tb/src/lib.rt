@@ -1,0 +1,14 @@
+//! The translation buffer (TB), which keeps page table entries that were used. `specs/Buffers.antt`
+//! says what it gives.
+#![tactic(auto)]
+
+mod buffers;
+mod entries;
+mod laws;
+
+pub use buffers::{TB_ENTRIES, Tb};
+pub use entries::TbEntry;
+pub use laws::{finds_after_drops, finds_after_put, finds_the_last};
+
+#[cfg(test)]
+mod tests;
