@@ -5,7 +5,7 @@ use Rattle.std.proofs.lemmas.Bool.{eq-eqb, ne_eqb, cases_eq, cases_lt}
 use Rattle.std.proofs.lemmas.Nat.{and_assoc, pow_pos}
 use Rattle.std.proofs.lemmas.Nat.Bits.{and_pow, bit_at-lt, bit_at_and, bit_at_above}
 use Rattle.std.specs.Int.{bit_at}
-use Rattle.axp_pte.specs.Entries.{is_set, is_named, named_bits, valid_bit, address_space_match_bit}
+use Rattle.axp_pte.specs.Entries.{is_set, is_named, is_valid, has_asm, named_bits, valid_bit, address_space_match_bit}
 use Rattle.axp_pte.specs.Protection.{allows, right_bit, fault_bit}
 use Rattle.axp_pte.specs.declared.faults.Mode.{Mode}
 use Rattle.axp_pte.specs.declared.faults.Mode.TheVariants.{Kernel, User}
@@ -26,10 +26,10 @@ masked_bit w mask n h =
     ap (λ x. x == 2 ^ n) (and_assoc (2 ^ n) w mask ∙ ap (bit_and w) h ∙ and_pow w n) ∙ whole_or_none (w / 2 ^ n % 2) (2 ^ n) (bit_at-lt w n) (pow_pos n)
 
 -- the tests of the bits that are asked for
-pub valid_tested : (w : ℕ) → (bit_and (bit_and w named_bits) (2 ^ valid_bit) == 2 ^ valid_bit) ≡ is_set w valid_bit
+pub valid_tested : (w : ℕ) → (bit_and (bit_and w named_bits) (2 ^ valid_bit) == 2 ^ valid_bit) ≡ is_valid w
 valid_tested w = masked_bit w named_bits valid_bit refl
 
-pub address_space_match_tested : (w : ℕ) → (bit_and (bit_and w named_bits) (2 ^ address_space_match_bit) == 2 ^ address_space_match_bit) ≡ is_set w address_space_match_bit
+pub address_space_match_tested : (w : ℕ) → (bit_and (bit_and w named_bits) (2 ^ address_space_match_bit) == 2 ^ address_space_match_bit) ≡ has_asm w
 address_space_match_tested w = masked_bit w named_bits address_space_match_bit refl
 
 right_named : (mode : Mode) (way : Way) → bit_and named_bits (2 ^ right_bit mode way) ≡ 2 ^ right_bit mode way

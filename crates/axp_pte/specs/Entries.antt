@@ -1,10 +1,13 @@
 -- A page table entry is seen as its quadword, and a set of its named bits as the number of these bits.
-use Rattle.std.specs.Prelude.{ℕ, ◌+◌, ◌/◌, ◌%◌, ◌^◌, Bool, ◌==◌, ◌||◌}
+use Rattle.std.specs.Prelude.{ℕ, ◌/◌, ◌%◌, ◌^◌, Bool, ◌==◌, ◌||◌}
 use Rattle.axp_pte.specs.declared.entries.Pte.{Pte}
 use Rattle.axp_pte.specs.declared.entries.PteBits.{PteBits}
 
 abbrev pub pte_word : Pte → ℕ
 pte_word p = p.0
+
+abbrev pub pte_of : ℕ → Pte
+pte_of w = record { 0 = w }
 
 abbrev pub set_bits : PteBits → ℕ
 set_bits b = b.0
@@ -50,6 +53,13 @@ is_named n =
 -- the number in which exactly the named bits are 1
 abbrev pub named_bits : ℕ
 named_bits = 0x331F
+
+-- V is 1, and ASM is 1
+abbrev pub is_valid : ℕ → Bool
+is_valid w = is_set w valid_bit
+
+abbrev pub has_asm : ℕ → Bool
+has_asm w = is_set w address_space_match_bit
 
 -- the page frame number, bits 63:32
 abbrev pub pfn_of : ℕ → ℕ

@@ -1,6 +1,6 @@
 -- What an entry allows, and its faults in their order. w is the entry's quadword.
 use Rattle.std.specs.Prelude.{ℕ, Bool, not, if◌then◌else◌, Result, Ok, Err}
-use Rattle.axp_pte.specs.Entries.{is_set, pfn_of, valid_bit, fault_on_read_bit, fault_on_write_bit, fault_on_execute_bit, kernel_read_enable_bit, user_read_enable_bit, kernel_write_enable_bit, user_write_enable_bit}
+use Rattle.axp_pte.specs.Entries.{is_set, is_valid, pfn_of, fault_on_read_bit, fault_on_write_bit, fault_on_execute_bit, kernel_read_enable_bit, user_read_enable_bit, kernel_write_enable_bit, user_write_enable_bit}
 use Rattle.axp_pte.specs.declared.faults.MmFault.{MmFault}
 use Rattle.axp_pte.specs.declared.faults.MmFault.TheVariants.{Tnv, Acv, For, Foe, Fow}
 use Rattle.axp_pte.specs.declared.faults.Mode.{Mode}
@@ -36,10 +36,10 @@ fault_of Store = Fow
 unfoldable pub rights_of : ℕ → Mode → Way → Result ℕ MmFault
 rights_of w mode way =
     if not (allows w mode way) then Err Acv
-    else if not (is_set w valid_bit) then Err Tnv
+    else if not (is_valid w) then Err Tnv
     else if is_set w (fault_bit way) then Err (fault_of way)
     else Ok (pfn_of w)
 
 -- at the first two levels: the frame of the next level's table
 unfoldable pub upper_of : ℕ → Result ℕ MmFault
-upper_of w = if not (is_set w valid_bit) then Err Tnv else Ok (pfn_of w)
+upper_of w = if not (is_valid w) then Err Tnv else Ok (pfn_of w)

@@ -30,7 +30,7 @@ pub enum Where {
 }
 
 /// The parts of an address.
-fn divide(va: u64) -> Parts
+fn split_parts(va: u64) -> Parts
     ensures { result ≡ parts_of va }
 {
     Parts {
@@ -41,15 +41,18 @@ fn divide(va: u64) -> Parts
     }
 }
 
-/// Where a virtual address leads in a mode: `Acv` where bits 63:43 do not all equal bit 42, and, in
-/// user mode, where the address is in KSEG, that is where bits 42:41 are 10.
+/// Where a virtual address leads in a mode. `Acv` where bits 63:43 do not all equal bit 42, and in user
+/// mode where the address is in KSEG, which is where bits 42:41 are 10; there is no other fault.
 #[tactic(auto, unfolding(crate::specs::Addresses::split_of))]
 pub fn split(va: u64, mode: Mode) -> Result<Where, MmFault>
     ensures value { result ≡ split_of va mode }
-    ensures acv { (result ≡ Err Acv) ↔ ((is_extended va ≡ false) ⊎ ((is_kseg va ≡ true) × (mode ≡ User))) }
+    ensures acv { (result ≡ Err Acv)
+        ↔ ((is_extended va ≡ false) ⊎ ((is_kseg va ≡ true) × (mode ≡ User))) }
     ensures no_other_fault { IfErr result (λ fault. fault ≡ Acv) }
-    ensures direct { (result ≡ Ok (Direct (va % 2 ^ 41))) ↔ ((is_extended va ≡ true) × (is_kseg va ≡ true) × (mode ≡ Kernel)) }
-    ensures mapped { (result ≡ Ok (Mapped (parts_of va))) ↔ ((is_extended va ≡ true) × (is_kseg va ≡ false)) }
+    ensures direct { (result ≡ Ok (Direct (va % 2 ^ 41)))
+        ↔ ((is_extended va ≡ true) × (is_kseg va ≡ true) × (mode ≡ Kernel)) }
+    ensures mapped { (result ≡ Ok (Mapped (parts_of va)))
+        ↔ ((is_extended va ≡ true) × (is_kseg va ≡ false)) }
 {
     let high = va >> 42;
     if high != 0 && high != 0x3F_FFFF {
@@ -61,5 +64,5 @@ pub fn split(va: u64, mode: Mode) -> Result<Where, MmFault>
             Mode::Kernel => Ok(Where::Direct(va & 0x1FF_FFFF_FFFF)),
         };
     }
-    Ok(Where::Mapped(divide(va)))
+    Ok(Where::Mapped(split_parts(va)))
 }

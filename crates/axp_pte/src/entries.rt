@@ -1,5 +1,5 @@
 ghost use Rattle.std.specs.Prelude.{⊤, ◌≡◌, ◌==◌, ◌∷◌, [], ℕ, bit_and, codes};
-ghost use Rattle.axp_pte.specs.Entries.{address_space_match_bit, is_set, named_bits, pfn_of, pte_word, set_bits, valid_bit};
+ghost use Rattle.axp_pte.specs.Entries.{has_asm, is_valid, named_bits, pfn_of, pte_of, pte_word, set_bits};
 
 use bitflags::{Flag, Flags, bitflag_items};
 
@@ -49,21 +49,23 @@ impl Flags for PteBits {
 }
 
 /// A page table entry, one quadword of a page table: its named bits, and in bits 63:32 the page frame
-/// number (PFN) of what it leads to. The other bits are kept, and mean nothing here.
+/// number (PFN) of the page or table that it leads to. The other bits are kept, and mean nothing here.
 #[derive(Clone, Copy, Debug, Default, PartialEq, Eq)]
 pub struct Pte(u64);
 
 impl Pte {
     /// The entry that this quadword is.
     pub fn of(word: u64) -> Pte
-        ensures { pte_word result ≡ word }
+        ensures value { result ≡ pte_of word }
+        ensures word { pte_word result ≡ word }
     {
         Pte(word)
     }
 
     /// The quadword that the entry is, every bit of it.
     pub fn word(self) -> u64
-        ensures { result ≡ pte_word self }
+        ensures value { result ≡ pte_word self }
+        ensures whole { pte_of result ≡ self }
     {
         self.0
     }
@@ -86,7 +88,7 @@ impl Pte {
     /// space number.
     #[tactic(auto, using(crate::proofs::BitLemmas::address_space_match_tested))]
     pub fn matches_every_asn(self) -> bool
-        ensures { result ≡ is_set (pte_word self) address_space_match_bit }
+        ensures { result ≡ has_asm (pte_word self) }
     {
         self.has(PteBits::ASM)
     }
@@ -94,7 +96,7 @@ impl Pte {
     /// Whether the entry has V, the valid bit.
     #[tactic(auto, using(crate::proofs::BitLemmas::valid_tested))]
     pub(crate) fn is_valid(self) -> bool
-        ensures { result ≡ is_set (pte_word self) valid_bit }
+        ensures { result ≡ is_valid (pte_word self) }
     {
         self.has(PteBits::V)
     }

@@ -1,5 +1,5 @@
 ghost use Rattle.std.specs.Prelude.{◌≡◌, ◌↔◌, ◌^◌, true, false, Err, Ok};
-ghost use Rattle.axp_pte.specs.Entries.{is_set, pfn_of, pte_word, set_bits, fault_on_execute_bit, fault_on_read_bit, fault_on_write_bit, valid_bit};
+ghost use Rattle.axp_pte.specs.Entries.{is_set, pfn_of, pte_word, set_bits, fault_on_execute_bit, fault_on_read_bit, fault_on_write_bit, is_valid};
 ghost use Rattle.axp_pte.specs.Protection.{allows, fault_bit, fault_of, right_bit, rights_of, upper_of};
 ghost use Rattle.axp_pte.specs.declared.faults.MmFault.TheVariants.{Tnv, Acv, For, Foe, Fow};
 ghost use Rattle.axp_pte.specs.declared.faults.Way.TheVariants.{Fetch, Load, Store};
@@ -8,7 +8,7 @@ use crate::{MmFault, Mode, Pte, PteBits, Way};
 
 /// The bit that gives the right to an access: read enable for fetches and loads, write enable for
 /// stores, of the mode.
-fn right(mode: Mode, way: Way) -> PteBits
+fn right_to(mode: Mode, way: Way) -> PteBits
     ensures { set_bits result ≡ 2 ^ right_bit mode way }
 {
     match (mode, way) {
@@ -20,7 +20,7 @@ fn right(mode: Mode, way: Way) -> PteBits
 }
 
 /// The bit that asks for a fault at each access of this way, and that fault.
-fn asked(way: Way) -> (PteBits, MmFault)
+fn fault_on(way: Way) -> (PteBits, MmFault)
     ensures bit { set_bits result.0 ≡ 2 ^ fault_bit way }
     ensures fault { result.1 ≡ fault_of way }
 {
@@ -36,8 +36,8 @@ fn asked(way: Way) -> (PteBits, MmFault)
 #[tactic(auto, unfolding(crate::specs::Protection::upper_of))]
 pub fn upper(pte: Pte) -> Result<u64, MmFault>
     ensures value { result ≡ upper_of (pte_word pte) }
-    ensures tnv { (result ≡ Err Tnv) ↔ (is_set (pte_word pte) valid_bit ≡ false) }
-    ensures ok { (result ≡ Ok (pfn_of (pte_word pte))) ↔ (is_set (pte_word pte) valid_bit ≡ true) }
+    ensures tnv { (result ≡ Err Tnv) ↔ (is_valid (pte_word pte) ≡ false) }
+    ensures ok { (result ≡ Ok (pfn_of (pte_word pte))) ↔ (is_valid (pte_word pte) ≡ true) }
 {
     if pte.is_valid() {
         Ok(pte.pfn())
@@ -54,23 +54,28 @@ pub fn upper(pte: Pte) -> Result<u64, MmFault>
 pub fn rights(pte: Pte, mode: Mode, way: Way) -> Result<u64, MmFault>
     ensures value { result ≡ rights_of (pte_word pte) mode way }
     ensures acv { (result ≡ Err Acv) ↔ (allows (pte_word pte) mode way ≡ false) }
-    ensures tnv { (result ≡ Err Tnv) ↔ ((allows (pte_word pte) mode way ≡ true) × (is_set (pte_word pte) valid_bit ≡ false)) }
-    ensures foe { (result ≡ Err Foe) ↔ ((allows (pte_word pte) mode way ≡ true) × (is_set (pte_word pte) valid_bit ≡ true)
+    ensures tnv { (result ≡ Err Tnv)
+        ↔ ((allows (pte_word pte) mode way ≡ true) × (is_valid (pte_word pte) ≡ false)) }
+    ensures foe { (result ≡ Err Foe)
+        ↔ ((allows (pte_word pte) mode way ≡ true) × (is_valid (pte_word pte) ≡ true)
         × (way ≡ Fetch) × (is_set (pte_word pte) fault_on_execute_bit ≡ true)) }
-    ensures fault_on_read { (result ≡ Err For) ↔ ((allows (pte_word pte) mode way ≡ true) × (is_set (pte_word pte) valid_bit ≡ true)
+    ensures fault_on_read { (result ≡ Err For)
+        ↔ ((allows (pte_word pte) mode way ≡ true) × (is_valid (pte_word pte) ≡ true)
         × (way ≡ Load) × (is_set (pte_word pte) fault_on_read_bit ≡ true)) }
-    ensures fow { (result ≡ Err Fow) ↔ ((allows (pte_word pte) mode way ≡ true) × (is_set (pte_word pte) valid_bit ≡ true)
+    ensures fow { (result ≡ Err Fow)
+        ↔ ((allows (pte_word pte) mode way ≡ true) × (is_valid (pte_word pte) ≡ true)
         × (way ≡ Store) × (is_set (pte_word pte) fault_on_write_bit ≡ true)) }
-    ensures ok { (result ≡ Ok (pfn_of (pte_word pte))) ↔ ((allows (pte_word pte) mode way ≡ true) × (is_set (pte_word pte) valid_bit ≡ true)
+    ensures ok { (result ≡ Ok (pfn_of (pte_word pte)))
+        ↔ ((allows (pte_word pte) mode way ≡ true) × (is_valid (pte_word pte) ≡ true)
         × (is_set (pte_word pte) (fault_bit way) ≡ false)) }
 {
-    if !pte.has(right(mode, way)) {
+    if !pte.has(right_to(mode, way)) {
         return Err(MmFault::Acv);
     }
     if !pte.is_valid() {
         return Err(MmFault::Tnv);
     }
-    let (bit, fault) = asked(way);
+    let (bit, fault) = fault_on(way);
     if pte.has(bit) {
         return Err(fault);
     }

@@ -4,8 +4,9 @@ use Rattle.std.specs.Prelude.{◌==◌, ◌↔◌, fold, All, Option, Some, None
 use Rattle.std.proofs.lemmas.Bool.{ne_eqb, cond-true, cond-false}
 use Rattle.std.proofs.lemmas.List.Elements.{All-nil, All-cons, All-head, All-tail}
 use Rattle.std.proofs.lemmas.List.Sums.{fold-append}
+use Rattle.axp_pte.specs.Entries.{has_asm, pte_word}
 use Rattle.axp_pte.specs.declared.entries.Pte.{Pte}
-use Rattle.axp_tb.specs.Buffers.{found, has_asm, is_match, IsLastMatch}
+use Rattle.axp_tb.specs.Buffers.{found, is_match, IsLastMatch}
 use Rattle.axp_tb.specs.declared.entries.TbEntry.{TbEntry}
 
 -- what is found with one entry more
@@ -98,4 +99,4 @@ result_last (Some pte) xs page asn h = found_some_to xs page asn pte (sym h)
 
 -- an entry of another page does not match
 pub other_page_differs : (p a : ℕ) (x : TbEntry) → x.page ≢ p → is_match p a x ≡ false
-other_page_differs p a x h = ap (λ b. b && ((x.asn == a) || has_asm x.pte)) (ne_eqb x.page p h)
+other_page_differs p a x h = ap (λ b. b && ((x.asn == a) || has_asm (pte_word x.pte))) (ne_eqb x.page p h)

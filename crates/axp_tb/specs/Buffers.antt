@@ -1,17 +1,13 @@
 -- A translation buffer is seen as the list of its entries, in the order in which they were put.
 use Rattle.std.specs.Prelude.{ℕ, List, ◌≡◌, ◌∷◌, [], ◌++◌, Bool, true, false, not, ◌==◌, ◌&&◌, ◌||◌, if◌then◌else◌, length, filter, fold, All, Option, Some, None}
-use Rattle.axp_pte.specs.Entries.{address_space_match_bit, is_set, pte_word}
+use Rattle.axp_pte.specs.Entries.{has_asm, pte_word}
 use Rattle.axp_pte.specs.declared.entries.Pte.{Pte}
 use Rattle.axp_tb.specs.declared.buffers.TheConstants.{TB_ENTRIES}
 use Rattle.axp_tb.specs.declared.entries.TbEntry.{TbEntry}
 
--- the page is the same in every address space
-abbrev pub has_asm : Pte → Bool
-has_asm pte = is_set (pte_word pte) address_space_match_bit
-
--- an entry of this page that serves this address space
+-- an entry of this page that serves this address space: it was put for it, or has ASM
 abbrev pub is_match : ℕ → ℕ → TbEntry → Bool
-is_match page asn entry = (entry.page == page) && ((entry.asn == asn) || has_asm entry.pte)
+is_match page asn entry = (entry.page == page) && ((entry.asn == asn) || has_asm (pte_word entry.pte))
 
 -- of the entries that match, the one that was put last takes the place of those before it
 abbrev pub found : List TbEntry → ℕ → ℕ → Option Pte
@@ -30,7 +26,7 @@ with_put entries page asn pte =
 
 -- only the entries with ASM
 abbrev pub without_process : List TbEntry → List TbEntry
-without_process entries = filter (λ entry. has_asm entry.pte) entries
+without_process entries = filter (λ entry. has_asm (pte_word entry.pte)) entries
 
 -- only the entries that do not match
 abbrev pub without_page : List TbEntry → ℕ → ℕ → List TbEntry

@@ -35,9 +35,9 @@ impl Tb {
         }
     }
 
-    /// The page table entry of a page in an address space, where the buffer has it: of the entries of
-    /// this page that were put for this address space number or have ASM, the one that was put last.
-    /// `None` where there is none of them.
+    /// The page table entry of a page in an address space: of the entries of this page that were put
+    /// for this address space number or have ASM, the one that was put last. `None` where there is no
+    /// such entry.
     pub fn find(&self, page: u64, asn: u32) -> Option<Pte>
         ensures value { result ≡ found self.now page asn }
         ensures none { IsNone result ↔ All (λ entry. is_match page asn entry ≡ false) self.now }
@@ -52,11 +52,11 @@ impl Tb {
         found
     }
 
-    /// Puts an entry last. Where the buffer keeps [`TB_ENTRIES`] entries already, they are all dropped
-    /// first.
+    /// Puts an entry last, of a page that is not found in its address space. Where [`TB_ENTRIES`] entries
+    /// are kept already, they are all dropped first.
     pub fn put(&mut self, page: u64, asn: u32, pte: Pte)
         requires { found self.old page asn ≡ None }
-        ensures kept { self.new ≡ with_put self.old page asn pte }
+        ensures value { self.new ≡ with_put self.old page asn pte }
         ensures fits { length self.new ≤ TB_ENTRIES }
     {
         if self.entries.is_full() {
@@ -73,14 +73,16 @@ impl Tb {
     }
 
     /// Drops the entries of processes, which are those without ASM; the others stay in their order.
+    #[tactic(auto, using(crate::proofs::DropLemmas::process_retained))]
     pub fn drop_process(&mut self)
         ensures { self.new ≡ without_process self.old }
     {
         self.entries.retain(|entry| entry.pte.matches_every_asn());
     }
 
-    /// Drops the entries of a page that were put for an address space number or have ASM; the others
+    /// Drops the entries of a page that were put for this address space number or have ASM; the others
     /// stay in their order.
+    #[tactic(auto, using(crate::proofs::DropLemmas::page_retained))]
     pub fn drop_page(&mut self, page: u64, asn: u32)
         ensures { self.new ≡ without_page self.old page asn }
     {

@@ -1,5 +1,5 @@
-//! The translation buffer (TB), which keeps page table entries that were used. `specs/Buffers.antt`
-//! says what it gives.
+//! The translation buffer (TB), which keeps page table entries between the accesses that need them.
+//! `specs/Buffers.antt` says what it gives.
 #![tactic(auto)]
 
 mod buffers;
