@@ -1,0 +1,3 @@
+pub mod Queues
+pub mod QueueParts
+pub mod Steps

@@ -1,0 +1,12 @@
+//! The lock register of a processor: which block of memory it has locked, so that a conditional
+//! store there may succeed.
+#![tactic(auto)]
+
+mod laws;
+mod registers;
+
+pub use laws::{allowed_is_still_locked, block_is_in_one_line};
+pub use registers::{LOCK_BYTES, LockReg};
+
+#[cfg(test)]
+mod tests;

@@ -1,0 +1,4 @@
+pub mod LoadLemmas
+pub mod MergingLemmas
+pub mod ReadingLemmas
+pub mod WriteLemmas
