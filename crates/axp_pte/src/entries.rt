@@ -1,4 +1,4 @@
-ghost use Rattle.std.specs.Prelude.{⊤, ◌≡◌, ◌==◌, ◌∷◌, [], ℕ, bit_and, codes};
+ghost use Rattle.std.specs.Prelude.{⊤, ◌≡◌, ◌==◌, ◌<◌, ◌^◌, ◌∷◌, [], ℕ, bit_and, codes};
 ghost use Rattle.axp_pte.specs.Entries.{has_asm, is_valid, named_bits, pfn_of, pte_of, pte_word, set_bits};
 
 use bitflags::{Flag, Flags, bitflag_items};
@@ -79,7 +79,8 @@ impl Pte {
 
     /// The page frame number, below 2^32.
     pub fn pfn(self) -> u64
-        ensures { result ≡ pfn_of (pte_word self) }
+        ensures value { result ≡ pfn_of (pte_word self) }
+        ensures small { result < 2 ^ 32 }
     {
         self.0 >> 32
     }

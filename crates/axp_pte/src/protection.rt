@@ -1,4 +1,4 @@
-ghost use Rattle.std.specs.Prelude.{◌≡◌, ◌↔◌, ◌^◌, true, false, Err, Ok};
+ghost use Rattle.std.specs.Prelude.{◌≡◌, ◌<◌, ◌↔◌, ◌^◌, true, false, Err, Ok, IfOk};
 ghost use Rattle.axp_pte.specs.Entries.{is_set, pfn_of, pte_word, set_bits, fault_on_execute_bit, fault_on_read_bit, fault_on_write_bit, is_valid};
 ghost use Rattle.axp_pte.specs.Protection.{allows, fault_bit, fault_of, right_bit, rights_of, upper_of};
 ghost use Rattle.axp_pte.specs.declared.faults.MmFault.TheVariants.{Tnv, Acv, For, Foe, Fow};
@@ -31,13 +31,14 @@ fn fault_on(way: Way) -> (PteBits, MmFault)
     }
 }
 
-/// The page frame number of the next level's table, from an entry of the first two levels; `Tnv`
-/// where the entry has V = 0. No other bit matters at these levels.
+/// The page frame number, below 2^32, of the next level's table, from an entry of the first two levels;
+/// `Tnv` where the entry has V = 0. No other bit matters at these levels.
 #[tactic(auto, unfolding(crate::specs::Protection::upper_of))]
 pub fn upper(pte: Pte) -> Result<u64, MmFault>
     ensures value { result ≡ upper_of (pte_word pte) }
     ensures tnv { (result ≡ Err Tnv) ↔ (is_valid (pte_word pte) ≡ false) }
     ensures ok { (result ≡ Ok (pfn_of (pte_word pte))) ↔ (is_valid (pte_word pte) ≡ true) }
+    ensures small { IfOk result (λ frame. frame < 2 ^ 32) }
 {
     if pte.is_valid() {
         Ok(pte.pfn())
@@ -46,7 +47,7 @@ pub fn upper(pte: Pte) -> Result<u64, MmFault>
     }
 }
 
-/// The page frame number of the page, from an entry of the third level, for an access. Of the faults
+/// The page frame number, below 2^32, of the page, from an entry of the third level, for an access. Of the faults
 /// the first that stands comes: `Acv` where the mode's right is missing, also at an entry that is not
 /// valid; `Tnv` where the entry has V = 0; then `Foe` for a fetch at FOE, `For` for a load at FOR, and
 /// `Fow` for a store at FOW.
@@ -68,6 +69,7 @@ pub fn rights(pte: Pte, mode: Mode, way: Way) -> Result<u64, MmFault>
     ensures ok { (result ≡ Ok (pfn_of (pte_word pte)))
         ↔ ((allows (pte_word pte) mode way ≡ true) × (is_valid (pte_word pte) ≡ true)
         × (is_set (pte_word pte) (fault_bit way) ≡ false)) }
+    ensures small { IfOk result (λ frame. frame < 2 ^ 32) }
 {
     if !pte.has(right_to(mode, way)) {
         return Err(MmFault::Acv);

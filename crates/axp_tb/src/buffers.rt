@@ -52,8 +52,8 @@ impl Tb {
         found
     }
 
-    /// Puts an entry last, of a page that is not found in its address space. Where [`TB_ENTRIES`] entries
-    /// are kept already, they are all dropped first.
+    /// Keeps the entry of a page that is not found yet in this address space, as the one put last. Where
+    /// [`TB_ENTRIES`] entries are kept already, they are all dropped first.
     pub fn put(&mut self, page: u64, asn: u32, pte: Pte)
         requires { found self.old page asn ≡ None }
         ensures value { self.new ≡ with_put self.old page asn pte }
