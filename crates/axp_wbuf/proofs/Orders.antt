@@ -1,11 +1,11 @@
 -- The rules of a buffer's entries hold after each change.
-use Rattle.std.proofs.Common.{◌≡◌, ℕ, zero, suc, ◌+◌, ◌/◌, ◌%◌, ◌<◌, ◌≤◌, Bool, true, false, cond, eqb, List, [], ◌∷◌, ◌++◌, ◌||◌, ◌&&◌, length, get_or, set, map, nat_lt, arith, refl, ap, sym, subst, ◌∙◌, replicate}
+use Rattle.std.proofs.Common.{◌≡◌, ℕ, zero, suc, ◌+◌, ◌/◌, ◌%◌, ◌<◌, ◌≤◌, Bool, true, false, cond, eqb, List, [], ◌∷◌, ◌||◌, ◌&&◌, length, nat_lt, arith, refl, ap, sym, subst, ◌∙◌, replicate}
 use Rattle.std.specs.List.{list_any, remove}
 use Rattle.std.proofs.lemmas.Bool.{eqb-true, eq-eqb, and_from, ltb-true, true≢false, false≢true}
 use Rattle.std.proofs.lemmas.List.{length-replicate}
 use Rattle.axp_base.specs.declared.lines.TheConstants.{LINE_BYTES}
 use Rattle.axp_base.proofs.PartLemmas.{length-with_part}
-use Rattle.axp_wbuf.specs.Pending.{Pending, Buffer, AreInOrder, IsMade, IsTidy, Precedes, PrecedesAll, closed, is_at, is_of_group, made_by, merges, no_entries, put_into, stored, takes, with_store}
+use Rattle.axp_wbuf.specs.Pending.{Pending, Buffer, AreInOrder, IsMade, IsTidy, Precedes, PrecedesAll, closed, is_at, is_of_group, made_by, merges, put_into, stored, takes, with_store}
 use Rattle.axp_wbuf.specs.Drains.{without}
 use Rattle.axp_wbuf.specs.Views.{pending, all_pending, buffer_of}
 use Rattle.axp_wbuf.specs.declared.entries.Entry.{Entry}
@@ -47,9 +47,9 @@ unfolding put_into
 all_put group line address size value new e [] fresh h = (fresh refl, tt)
 all_put group line address size value new e (f ∷ fs) fresh h =
     by (is_at group line f) fresh (λ k. all_put group line address size value new e fs k h.1) where
-  by : (b : Bool) → ((b || list_any (is_at group line) fs) ≡ false → Precedes e new) → ((list_any (is_at group line) fs ≡ false → Precedes e new) → PrecedesAll e (put_into group line (with_store address size value) new fs)) → PrecedesAll e (cond b (with_store address size value f ∷ fs) (f ∷ put_into group line (with_store address size value) new fs))
-  by true k rest = (precedes_merged_second address size value e f h.0, h.1)
-  by false k rest = (h.0, rest k)
+      by : (b : Bool) → ((b || list_any (is_at group line) fs) ≡ false → Precedes e new) → ((list_any (is_at group line) fs ≡ false → Precedes e new) → PrecedesAll e (put_into group line (with_store address size value) new fs)) → PrecedesAll e (cond b (with_store address size value f ∷ fs) (f ∷ put_into group line (with_store address size value) new fs))
+      by true k rest = (precedes_merged_second address size value e f h.0, h.1)
+      by false k rest = (h.0, rest k)
 
 -- an entry that is not of the newest group and the line precedes a new one of them
 precedes_new : (made newest address size value : ℕ) (e : Pending) → IsMade made newest e → is_at newest (address / LINE_BYTES) e ≡ false → Precedes e (made_by (made + 1) newest address size value)
@@ -57,29 +57,33 @@ precedes_new made newest address size value e m is =
     record {
       number = omega (arith, m.number);
       group = m.group;
-      apart = λ group line. (by (eqb e.group newest) (eqb e.line (address / LINE_BYTES)) (eq-eqb _ _ group) (eq-eqb _ _ line) is)
+      apart = λ group line. (by (eqb e.group newest) (eqb e.line (address / LINE_BYTES)) (eq-eqb _ _ group) (eq-eqb _ _ line) is);
     } where
-  by : (b c : Bool) → b ≡ true → c ≡ true → (b && c) ≡ false → ⊥
-  by b c hb hc h = true≢false (sym (and_from b c hb hc) ∙ h)
+      by : (b c : Bool) → b ≡ true → c ≡ true → (b && c) ≡ false → ⊥
+      by b c hb hc h = true≢false (sym (and_from b c hb hc) ∙ h)
 
 pub order_put : (made next newest address size value : ℕ) (es : List Pending) → made ≤ next → newest ≤ made → (list_any (is_at newest (address / LINE_BYTES)) es ≡ false → made + 1 ≤ next) → AreInOrder made newest es → AreInOrder next newest (put_into newest (address / LINE_BYTES) (with_store address size value) (made_by (made + 1) newest address size value) es)
 unfolding put_into
-order_put made next newest address size value [] more up room h =
-    (record {
-      number = room refl;
-      group = omega arith;
-      begun = omega arith;
-      whole = length-with_part (replicate LINE_BYTES 0) (address % LINE_BYTES) size value ∙ length-replicate {A = ℕ} LINE_BYTES 0
-    }, (tt, tt))
+order_put made next newest address size value [] more up room h = (
+  record {
+    number = room refl;
+    group = omega arith;
+    begun = omega arith;
+    whole = length-with_part (replicate LINE_BYTES 0) (address % LINE_BYTES) size value ∙ length-replicate {A = ℕ} LINE_BYTES 0;
+  },
+  (tt, tt),
+)
 order_put made next newest address size value (e ∷ es) more up room h =
     by (is_at newest (address / LINE_BYTES) e) refl room (λ k. order_put made next newest address size value es more up k h.1.1) where
-  by : (b : Bool) → is_at newest (address / LINE_BYTES) e ≡ b → ((b || list_any (is_at newest (address / LINE_BYTES)) es) ≡ false → made + 1 ≤ next) → ((list_any (is_at newest (address / LINE_BYTES)) es ≡ false → made + 1 ≤ next) → AreInOrder next newest (put_into newest (address / LINE_BYTES) (with_store address size value) (made_by (made + 1) newest address size value) es)) → AreInOrder next newest (cond b (with_store address size value e ∷ es) (e ∷ put_into newest (address / LINE_BYTES) (with_store address size value) (made_by (made + 1) newest address size value) es))
-  by true is k rest =
-      (made_merged next newest address size value e (made_longer made next newest newest e more (omega arith) h.0),
-      (all_merged_first address size value e es h.1.0, order_longer made next newest newest es more (omega arith) h.1.1))
-  by false is k rest =
-      (made_longer made next newest newest e more (omega arith) h.0,
-      (all_put newest (address / LINE_BYTES) address size value (made_by (made + 1) newest address size value) e es (λ _. precedes_new made newest address size value e h.0 is) h.1.0, rest k))
+      by : (b : Bool) → is_at newest (address / LINE_BYTES) e ≡ b → ((b || list_any (is_at newest (address / LINE_BYTES)) es) ≡ false → made + 1 ≤ next) → ((list_any (is_at newest (address / LINE_BYTES)) es ≡ false → made + 1 ≤ next) → AreInOrder next newest (put_into newest (address / LINE_BYTES) (with_store address size value) (made_by (made + 1) newest address size value) es)) → AreInOrder next newest (cond b (with_store address size value e ∷ es) (e ∷ put_into newest (address / LINE_BYTES) (with_store address size value) (made_by (made + 1) newest address size value) es))
+      by true is k rest = (
+        made_merged next newest address size value e (made_longer made next newest newest e more (omega arith) h.0),
+        (all_merged_first address size value e es h.1.0, order_longer made next newest newest es more (omega arith) h.1.1),
+      )
+      by false is k rest = (
+        made_longer made next newest newest e more (omega arith) h.0,
+        (all_put newest (address / LINE_BYTES) address size value (made_by (made + 1) newest address size value) e es (λ _. precedes_new made newest address size value e h.0 is) h.1.0, rest k),
+      )
 
 few_by : (any : Bool) (n most : ℕ) → (any || nat_lt n most) ≡ true → n ≤ most → cond any n (n + 1) ≤ most
 few_by true n most room few = few
@@ -103,7 +107,7 @@ tidy_stored address size value b room h =
     record {
       few = few_put b.newest (address / LINE_BYTES) (with_store address size value) (made_by (b.made + 1) b.newest address size value) b.kept WBUF_ENTRIES room h.few;
       groups = omega (arith, more, h.groups);
-      order = order_put b.made _ b.newest address size value b.kept more h.groups (next_room (merges (address / LINE_BYTES) b) b.made) h.order
+      order = order_put b.made _ b.newest address size value b.kept more h.groups (next_room (merges (address / LINE_BYTES) b) b.made) h.order;
     }
 
 -- a group is begun by an entry

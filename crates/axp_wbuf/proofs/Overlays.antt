@@ -1,5 +1,5 @@
 -- An overlay, byte by byte.
-use Rattle.std.proofs.Common.{◌≡◌, ◌≢◌, ℕ, zero, suc, ◌+◌, ◌/◌, ◌%◌, ◌<◌, ◌≤◌, Bool, true, false, cond, eqb, List, [], ◌∷◌, ◌&&◌, ◌⊎◌, length, get_or, replicate, max, bit_or, arith, refl, ap, sym, subst, ◌∙◌, Some, None, Option, inl, inr, ⊎_elim}
+use Rattle.std.proofs.Common.{◌≡◌, ◌≢◌, ℕ, zero, suc, ◌+◌, ◌/◌, ◌%◌, ◌<◌, ◌≤◌, Bool, true, false, cond, eqb, List, [], ◌∷◌, ◌&&◌, ◌⊎◌, length, get_or, replicate, max, bit_or, arith, refl, ap, sym, ◌∙◌, Some, inl, inr, ⊎_elim}
 use Rattle.std.specs.Prelude.{slice_get, slice_index}
 use Rattle.std.specs.Int.{bit_at}
 use Rattle.std.proofs.lemmas.Bool.{and_from, and_left, and_parts, and_right, cases_Bool, cases_lt, cond-false, eq-eqb, eqb-false, eqb-true, ne_eqb, true≢false}
@@ -13,7 +13,7 @@ use Rattle.axp_base.proofs.PartLemmas.{get_or-with_part, outside-with_part}
 use Rattle.axp_base.proofs.SpanLemmas.{byte_place, span_has, span_inside}
 use Rattle.axp_line.specs.Lines.{merged}
 use Rattle.axp_line.proofs.MergeLemmas.{length-merged_below, merged_each}
-use Rattle.axp_wbuf.specs.Pending.{AreInOrder, Buffer, IsMade, IsTidy, Pending, Precedes, PrecedesAll, has_byte, is_at, made_by, overlaid, put_into, stored, with_store}
+use Rattle.axp_wbuf.specs.Pending.{AreInOrder, Buffer, IsTidy, Pending, PrecedesAll, has_byte, is_at, made_by, overlaid, put_into, stored, with_store}
 use Rattle.axp_wbuf.proofs.Pairs.{precedes_at, same_entry}
 
 -- byte n of a line after an entry was put over it, where it was v
@@ -62,12 +62,12 @@ last_gives made newest line n (g ∷ gs) zero v e h is has last =
     let one : g ≡ e = same_entry g e is in
     ap (λ b. bytes_over line n gs (cond b (get_or g.bytes n 0) v)) (ap (has_byte line n) one ∙ has)
     ∙ quiet line n gs _ (λ j f at.
-        ⊎_elim
-        (λ (yes_has : has_byte line n f ≡ true).
-            let p = precedes_at g gs j f h.1.0 at in
-            absurd (omega (arith, p.number, last (suc j) f at yes_has, ap (λ x. x.number) one)))
-        (λ (not_has : has_byte line n f ≡ false). not_has)
-        (cases_Bool (has_byte line n f)))
+    ⊎_elim
+    (λ (yes_has : has_byte line n f ≡ true).
+    let p = precedes_at g gs j f h.1.0 at in
+    absurd (omega (arith, p.number, last (suc j) f at yes_has, ap (λ x. x.number) one)))
+    (λ (not_has : has_byte line n f ≡ false). not_has)
+    (cases_Bool (has_byte line n f)))
     ∙ ap (λ x. get_or x.bytes n 0) one
 last_gives made newest line n (g ∷ gs) (suc k) v e h is has last =
     last_gives made newest line n gs k _ e h.1.1 is has (λ j f at. last (suc j) f at)
@@ -150,20 +150,20 @@ over_other : (line n address size value v : ℕ) (e : Pending) → e.line ≡ ad
 over_other line n address size value v e at other =
     ⊎_elim
     (λ (apart : line ≢ address / LINE_BYTES).
-        let none : eqb e.line line ≡ false = ne_eqb _ _ (λ is. apart (sym is ∙ at)) in
-        cond-false _ _ v (and_left _ _ none) ∙ sym (cond-false _ _ v (and_left _ _ none)))
+    let none : eqb e.line line ≡ false = ne_eqb _ _ (λ is. apart (sym is ∙ at)) in
+    cond-false _ _ v (and_left _ _ none) ∙ sym (cond-false _ _ v (and_left _ _ none)))
     (λ (outside : has_bit (span_of address size) n ≡ false).
-        ap (λ b. cond (eqb e.line line && b) (get_or (with_part e.bytes (address % LINE_BYTES) size value) n 0) v) (has_other e.bits address size n outside)
-        ∙ ap (λ x. cond (eqb e.line line && has_bit e.bits n) x v) (byte_left e.bytes address size value n outside))
+    ap (λ b. cond (eqb e.line line && b) (get_or (with_part e.bytes (address % LINE_BYTES) size value) n 0) v) (has_other e.bits address size n outside)
+    ∙ ap (λ x. cond (eqb e.line line && has_bit e.bits n) x v) (byte_left e.bytes address size value n outside))
     other
 
 over_new : (line n number group address size value v : ℕ) → (line ≢ address / LINE_BYTES) ⊎ (has_bit (span_of address size) n ≡ false) → byte_over line n (made_by number group address size value) v ≡ v
 over_new line n number group address size value v other =
     let none : has_byte line n (made_by number group address size value) ≡ false =
-        ⊎_elim
-        (λ (apart : line ≢ address / LINE_BYTES). and_left _ _ (ne_eqb _ _ (λ is. apart (sym is))))
-        (λ (outside : has_bit (span_of address size) n ≡ false). and_right _ _ outside)
-        other in
+    ⊎_elim
+    (λ (apart : line ≢ address / LINE_BYTES). and_left _ _ (ne_eqb _ _ (λ is. apart (sym is))))
+    (λ (outside : has_bit (span_of address size) n ≡ false). and_right _ _ outside)
+    other in
     cond-false _ _ v none
 
 other_by : (b : Bool) (newest line n address size value v : ℕ) (e : Pending) (es fs : List Pending) → is_at newest (address / LINE_BYTES) e ≡ b → (line ≢ address / LINE_BYTES) ⊎ (has_bit (span_of address size) n ≡ false)

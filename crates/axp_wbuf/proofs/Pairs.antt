@@ -1,9 +1,8 @@
 -- Two entries that are kept, and the front of the entries.
-use Rattle.std.proofs.Common.{◌≡◌, ◌≢◌, ℕ, zero, suc, ◌+◌, ◌/◌, ◌<◌, ◌≤◌, Bool, true, false, cond, eqb, List, [], ◌∷◌, ◌||◌, ◌&&◌, ◌⊎◌, length, arith, refl, ap, sym, subst, ◌∙◌, Some, None, Option, ⊎_elim}
+use Rattle.std.proofs.Common.{◌≡◌, ◌≢◌, ℕ, zero, suc, ◌+◌, ◌/◌, ◌<◌, ◌≤◌, Bool, true, false, cond, eqb, List, [], ◌∷◌, ◌⊎◌, arith, refl, ap, sym, subst, ◌∙◌, Some, None, Option, ⊎_elim}
 use Rattle.std.specs.Prelude.{slice_get}
 use Rattle.std.proofs.lemmas.Bool.{and_left, and_parts, and_right, cases_lt, cases_order, eq-eqb, eqb-true, ne_eqb, true≢false}
 use Rattle.axp_base.specs.declared.lines.TheConstants.{LINE_BYTES}
-use Rattle.axp_base.specs.Masks.{has_bit}
 use Rattle.axp_wbuf.specs.Pending.{AreInOrder, Buffer, IsMade, IsTidy, Pending, Precedes, PrecedesAll, has_byte, is_at, made_by, put_into, stored, with_store}
 use Rattle.axp_wbuf.specs.Drains.{first_group, in_front, oldest_group}
 

@@ -1,5 +1,5 @@
 -- Where a store's bytes go.
-use Rattle.std.proofs.Common.{◌≡◌, ℕ, map, zero, suc, ◌+◌, ◌<◌, ◌≤◌, Bool, true, false, cond, List, [], ◌∷◌, ◌++◌, ◌||◌, length, get_or, set, arith, refl, ap, sym, subst, ◌∙◌, Some, None, Option}
+use Rattle.std.proofs.Common.{◌≡◌, ℕ, suc, ◌+◌, ◌<◌, Bool, true, false, cond, List, [], ◌∷◌, ◌++◌, ◌||◌, length, get_or, set, arith, refl, ap, sym, subst, ◌∙◌, Some, None, Option}
 use Rattle.std.specs.List.{list_any, position_from}
 use Rattle.std.proofs.lemmas.Bool.{or_parts}
 use Rattle.std.proofs.lemmas.List.{map-set, get_or-map}
@@ -21,7 +21,7 @@ found_here group line e es is =
       inside = omega arith;
       any = ap (λ b. b || list_any (is_at group line) es) is;
       number = λ next d. ap (λ b. cond b e.number (number_at_line group line next es)) is;
-      put = λ change new d. ap (λ b. cond b (change e ∷ es) (e ∷ put_into group line change new es)) is
+      put = λ change new d. ap (λ b. cond b (change e ∷ es) (e ∷ put_into group line change new es)) is;
     }
 
 found_later : (group line : ℕ) (e : Pending) (es : List Pending) (k : ℕ) → is_at group line e ≡ false → Found group line es k → Found group line (e ∷ es) (suc k)
@@ -31,7 +31,7 @@ found_later group line e es k is later =
       inside = omega (arith, later.inside);
       any = ap (λ b. b || list_any (is_at group line) es) is ∙ later.any;
       number = λ next d. ap (λ b. cond b e.number (number_at_line group line next es)) is ∙ later.number next d;
-      put = λ change new d. ap (λ b. cond b (change e ∷ es) (e ∷ put_into group line change new es)) is ∙ ap (λ fs. e ∷ fs) (later.put change new d)
+      put = λ change new d. ap (λ b. cond b (change e ∷ es) (e ∷ put_into group line change new es)) is ∙ ap (λ fs. e ∷ fs) (later.put change new d);
     }
 
 abbrev pub PlaceFrom : ℕ → ℕ → List Pending → ℕ → Option ℕ → Type 0

@@ -1,10 +1,10 @@
 -- A store's steps in the code are the store.
-use Rattle.std.proofs.Common.{◌≡◌, ℕ, ◌+◌, ◌/◌, ◌<◌, ◌≤◌, Bool, true, false, cond, eqb, List, [], ◌∷◌, ◌++◌, ◌||◌, length, take, drop, map, nat_lt, ◌==◌, arith, refl, ap, sym, subst, ◌∙◌}
+use Rattle.std.proofs.Common.{◌≡◌, ℕ, ◌+◌, ◌/◌, ◌<◌, ◌≤◌, Bool, true, false, cond, List, [], ◌∷◌, ◌++◌, length, drop, nat_lt, ◌==◌, arith, refl, ap, sym, subst, ◌∙◌}
 use Rattle.std.specs.List.{list_any, refill}
 use Rattle.std.proofs.lemmas.Bool.{eqb-false, lt-ltb, or_left, or_right}
 use Rattle.std.proofs.lemmas.List.{take_at, map_push, length-map}
 use Rattle.axp_base.specs.declared.lines.TheConstants.{LINE_BYTES}
-use Rattle.axp_wbuf.specs.Pending.{Pending, Buffer, IsTidy, is_at, made_by, merges, put_into, store_number, stored, takes, with_store}
+use Rattle.axp_wbuf.specs.Pending.{Pending, Buffer, IsTidy, is_at, made_by, put_into, store_number, stored, with_store}
 use Rattle.axp_wbuf.specs.Views.{pending, all_pending, buffer_of}
 use Rattle.axp_wbuf.specs.declared.entries.Entry.{Entry}
 use Rattle.axp_wbuf.specs.declared.limits.TheConstants.{WBUF_ENTRIES}

@@ -1,5 +1,5 @@
 -- What a write buffer keeps, and what a store does to it.
-use Rattle.std.specs.Prelude.{◌≡◌, ◌≢◌, ℕ, suc, ◌+◌, ◌/◌, ◌%◌, ◌<◌, ◌≤◌, Bool, ◌&&◌, ◌||◌, ◌==◌, nat_lt, if◌then◌else◌, List, [], ◌∷◌, length, replicate, bit_or, slice_index}
+use Rattle.std.specs.Prelude.{◌≡◌, ◌≢◌, ℕ, ◌+◌, ◌/◌, ◌%◌, ◌<◌, ◌≤◌, Bool, ◌&&◌, ◌||◌, ◌==◌, nat_lt, if◌then◌else◌, List, [], ◌∷◌, length, replicate, bit_or}
 use Rattle.std.specs.List.{list_any}
 use Rattle.axp_base.specs.Masks.{span_of, has_bit}
 use Rattle.axp_base.specs.Parts.{with_part}
@@ -49,7 +49,7 @@ with_store address size value e =
       line = e.line;
       bits = bit_or e.bits (span_of address size);
       bytes = with_part e.bytes (address % LINE_BYTES) size value;
-      group = e.group
+      group = e.group;
     }
 
 -- an entry that has a store's bytes alone
@@ -60,7 +60,7 @@ made_by number group address size value =
       line = address / LINE_BYTES;
       bits = span_of address size;
       bytes = with_part (replicate LINE_BYTES 0) (address % LINE_BYTES) size value;
-      group = group
+      group = group;
     }
 
 -- the number of the entry of this group and line, or `next` where there is none
@@ -91,7 +91,7 @@ stored address size value b =
     record {
       kept = put_into b.newest (address / LINE_BYTES) (with_store address size value) (made_by (b.made + 1) b.newest address size value) b.kept;
       made = if merges (address / LINE_BYTES) b then b.made else b.made + 1;
-      newest = b.newest
+      newest = b.newest;
     }
 
 -- the newest group is closed, where it has an entry
@@ -100,7 +100,7 @@ closed b =
     record {
       kept = b.kept;
       made = b.made;
-      newest = if list_any (is_of_group b.newest) b.kept then b.newest + 1 else b.newest
+      newest = if list_any (is_of_group b.newest) b.kept then b.newest + 1 else b.newest;
     }
 
 -- whether an entry has byte n of a line

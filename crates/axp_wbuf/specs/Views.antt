@@ -13,7 +13,7 @@ pending e =
       line = line_number e.line;
       bits = mask_bits e.mask;
       bytes = bytes_of_line e.data;
-      group = e.group
+      group = e.group;
     }
 
 abbrev pub all_pending : List Entry → List Pending

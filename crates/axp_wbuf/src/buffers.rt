@@ -8,7 +8,9 @@ ghost use Rattle.axp_wbuf.specs.Drains.{oldest_group, told, without};
 ghost use Rattle.axp_wbuf.specs.Pending.{IsTidy, closed, is_before, is_of_line, no_entries, overlaid, store_number, stored, takes};
 
 use crate::entries::Entry;
-use crate::lists::{Entries, any_before, any_of_group, any_of_line, merge_into, oldest_count, overlay_each};
+use crate::lists::{
+    Entries, any_before, any_of_group, any_of_line, merge_into, oldest_count, overlay_each,
+};
 use arrayvec::ArrayVec;
 use axp_base::{Line, Mask};
 use axp_line::LineData;
@@ -63,7 +65,13 @@ impl Wbuf {
         ensures stored { OnOk result (self.new ≡ stored address size value self.old) }
         ensures one_more { self.new.made ≤ self.old.made + 1 }
     {
-        match merge_into(self.entries.as_mut_slice(), self.newest, address, size, value) {
+        match merge_into(
+            self.entries.as_mut_slice(),
+            self.newest,
+            address,
+            size,
+            value,
+        ) {
             Some(number) => Ok(number),
             None => {
                 if self.entries.is_full() {

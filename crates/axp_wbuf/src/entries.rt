@@ -56,4 +56,3 @@ impl Entry {
         self.group == group && self.line == line
     }
 }
-

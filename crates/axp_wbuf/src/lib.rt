@@ -10,8 +10,8 @@ mod lists;
 
 pub use buffers::{Full, Wbuf};
 pub use laws::{
-    newest_is_overlaid, oldest_group_is_in_front, own_writes_leave_in_order, store_keeps_other_entries,
-    stored_is_overlaid,
+    newest_is_overlaid, oldest_group_is_in_front, own_writes_leave_in_order,
+    store_keeps_other_entries, stored_is_overlaid,
 };
 pub use limits::WBUF_ENTRIES;
 

@@ -108,7 +108,13 @@ pub(crate) fn overlay_each(entries: &[Entry], line: Line, onto: &mut LineData)
 
 /// Puts a store's bytes into the entry of this group and the address's line, and gives its number,
 /// where there is one.
-pub(crate) fn merge_into(entries: &mut [Entry], group: u32, address: u64, size: u8, value: u64) -> Option<u32>
+pub(crate) fn merge_into(
+    entries: &mut [Entry],
+    group: u32,
+    address: u64,
+    size: u8,
+    value: u64,
+) -> Option<u32>
     requires sized { IsSize size }
     requires aligned { address % size ≡ 0 }
     ensures merges { is_some result ≡ list_any (is_at group (address / LINE_BYTES)) (all_pending entries.old) }

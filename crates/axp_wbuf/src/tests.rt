@@ -47,8 +47,14 @@ fn stores_to_one_line_merge(rt: HostRuntime) {
     assert_eq!(rt; buffer.store(0x4040, 8, 6), Ok(2));
     assert_eq!(rt; buffer.store(0x4000, 8, 7), Ok(1));
     assert_eq!(rt; buffer.drains(), 2);
-    assert_eq!(rt; buffer.oldest(0), (1, Line::of(0x4000), span(0x4000, 8), line_with(7)));
-    assert_eq!(rt; buffer.oldest(1), (2, Line::of(0x4040), span(0x4040, 8), line_with(6)));
+    assert_eq!(rt;
+        buffer.oldest(0),
+        (1, Line::of(0x4000), span(0x4000, 8), line_with(7))
+    );
+    assert_eq!(rt;
+        buffer.oldest(1),
+        (2, Line::of(0x4040), span(0x4040, 8), line_with(6))
+    );
 }
 
 #[test]
@@ -59,20 +65,31 @@ fn groups_leave_in_order(rt: HostRuntime) {
     assert_eq!(rt; buffer.store(0x4000, 8, 6), Ok(2));
     assert_eq!(rt; buffer.store(0x4040, 8, 7), Ok(3));
     assert_eq!(rt; buffer.drains(), 1);
-    assert_eq!(rt; buffer.oldest(0), (1, Line::of(0x4000), span(0x4000, 8), line_with(5)));
+    assert_eq!(rt;
+        buffer.oldest(0),
+        (1, Line::of(0x4000), span(0x4000, 8), line_with(5))
+    );
     buffer.remove(0);
     assert_eq!(rt; buffer.drains(), 2);
     buffer.remove(1);
     assert_eq!(rt; buffer.drains(), 1);
-    assert_eq!(rt; buffer.oldest(0), (2, Line::of(0x4000), span(0x4000, 8), line_with(6)));
+    assert_eq!(rt;
+        buffer.oldest(0),
+        (2, Line::of(0x4000), span(0x4000, 8), line_with(6))
+    );
 }
 
 #[test]
 fn a_full_buffer_merges_still(rt: HostRuntime) {
     let mut buffer = Wbuf::empty();
-    for n in 0..8u32 {
-        assert_eq!(rt; buffer.store(0x4000 + 0x40 * u64::from(n), 8, u64::from(n)), Ok(n + 1));
-    }
+    assert_eq!(rt; buffer.store(0x4000, 8, 0), Ok(1));
+    assert_eq!(rt; buffer.store(0x4040, 8, 1), Ok(2));
+    assert_eq!(rt; buffer.store(0x4080, 8, 2), Ok(3));
+    assert_eq!(rt; buffer.store(0x40C0, 8, 3), Ok(4));
+    assert_eq!(rt; buffer.store(0x4100, 8, 4), Ok(5));
+    assert_eq!(rt; buffer.store(0x4140, 8, 5), Ok(6));
+    assert_eq!(rt; buffer.store(0x4180, 8, 6), Ok(7));
+    assert_eq!(rt; buffer.store(0x41C0, 8, 7), Ok(8));
     assert_eq!(rt; buffer.store(0x8000, 8, 9), Err(Full));
     assert_eq!(rt; buffer.store(0x4048, 8, 9), Ok(2));
     assert_eq!(rt; buffer.drains(), 8);

@@ -1,4 +1,4 @@
-use Rattle.std.proofs.Common.{◌≡◌, arith, sym, ◌∙◌}
+use Rattle.std.proofs.Common.{arith}
 use Rattle.axp_wbuf.proofs.Fronts.{front_more, front_stop}
 use Rattle.axp_wbuf.proofs.lists.front_count.Goals as goal
 

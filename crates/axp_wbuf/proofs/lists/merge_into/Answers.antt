@@ -1,8 +1,4 @@
-use Rattle.std.proofs.Common.{◌≡◌, ◌/◌, sym, ap, ◌∙◌, Some, None}
-use Rattle.std.specs.List.{position_from}
-use Rattle.axp_base.specs.declared.lines.TheConstants.{LINE_BYTES}
-use Rattle.axp_wbuf.specs.Pending.{is_at, with_store}
-use Rattle.axp_wbuf.specs.Views.{all_pending}
+use Rattle.axp_wbuf.specs.Pending.{with_store}
 use Rattle.axp_wbuf.proofs.Places.{merged_any, merged_number, merged_put, absent_any}
 use Rattle.axp_wbuf.proofs.lists.merge_into.Goals as goal
 

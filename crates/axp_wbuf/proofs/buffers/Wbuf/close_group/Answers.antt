@@ -1,4 +1,4 @@
-use Rattle.std.proofs.Common.{◌≡◌, ◌+◌, ◌<◌, arith, rules, sym, ◌∙◌, Fits, w32}
+use Rattle.std.proofs.Common.{arith, rules, sym, ◌∙◌, Fits, w32}
 use Rattle.axp_wbuf.proofs.Orders.{newest_begun, tidy_next}
 use Rattle.axp_wbuf.proofs.buffers.Wbuf.close_group.Goals as goal
 

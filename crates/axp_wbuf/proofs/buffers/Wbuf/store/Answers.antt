@@ -1,4 +1,4 @@
-use Rattle.std.proofs.Common.{◌≡◌, ◌+◌, ◌/◌, sym, subst}
+use Rattle.std.proofs.Common.{◌≡◌, ◌+◌, ◌/◌, subst}
 use Rattle.axp_base.specs.declared.lines.TheConstants.{LINE_BYTES}
 use Rattle.axp_wbuf.specs.Pending.{Buffer, store_number, stored}
 use Rattle.axp_wbuf.specs.Views.{buffer_of}
@@ -19,11 +19,11 @@ invariant_of-self-in-None c =
 pub returns-else-is_full-clause-number : goal.returns-else-is_full-clause-number
 returns-else-is_full-clause-number c =
     let pushed : Appended c.args.address c.args.size c.args.value c.self.inside.made c.self.inside.newest c.self.inside.entries.items c.as_mut_slice.result.now c.merge_into.new.entries c.push.new.self.items c.of_store.result =
-        record { begins = c.as_mut_slice.ensures.value; unchanged = c.in-None.ensures.absent; none = c.in-None.ensures.merges; pushed = c.push.ensures.items; new = c.of_store.ensures } in
+    record { begins = c.as_mut_slice.ensures.value; unchanged = c.in-None.ensures.absent; none = c.in-None.ensures.merges; pushed = c.push.ensures.items; new = c.of_store.ensures } in
     subst (λ (b : Buffer). c.self.inside.made + 1 ≡ store_number (c.args.address / LINE_BYTES) b) c.self.view_is (store_number_new _ _ _ _ _ _ _ _ _ _ pushed)
 
 pub returns-else-is_full-clause-stored : goal.returns-else-is_full-clause-stored
 returns-else-is_full-clause-stored c =
     let pushed : Appended c.args.address c.args.size c.args.value c.self.inside.made c.self.inside.newest c.self.inside.entries.items c.as_mut_slice.result.now c.merge_into.new.entries c.push.new.self.items c.of_store.result =
-        record { begins = c.as_mut_slice.ensures.value; unchanged = c.in-None.ensures.absent; none = c.in-None.ensures.merges; pushed = c.push.ensures.items; new = c.of_store.ensures } in
+    record { begins = c.as_mut_slice.ensures.value; unchanged = c.in-None.ensures.absent; none = c.in-None.ensures.merges; pushed = c.push.ensures.items; new = c.of_store.ensures } in
     subst (λ (b : Buffer). buffer_of c.push.new.self.items (c.self.inside.made + 1) c.self.inside.newest ≡ stored c.args.address c.args.size c.args.value b) c.self.view_is (appended_is _ _ _ _ _ _ _ _ _ _ pushed)
