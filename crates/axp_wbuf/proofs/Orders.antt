@@ -157,21 +157,22 @@ removed_pending (e ∷ es) zero = refl
 removed_pending (e ∷ es) (suc k) = ap (λ fs. pending e ∷ fs) (removed_pending es k)
 
 -- the same over the entries of the code
-pub newest_begun : (es ds : List Entry) (made newest : ℕ) → IsTidy (buffer_of es made newest) → ds ≡ es → true ≡ list_any (is_of_group newest) (all_pending ds) → newest < made
+pub newest_begun : (es ds : List Entry) (made newest : ℕ) → IsTidy (buffer_of es made newest) → ds ≡ es → list_any (is_of_group newest) (all_pending ds) ≡ true → newest < made
 newest_begun es ds made newest h begins any =
-    group_begun made newest newest (all_pending es) h.order (sym (subst (λ xs. true ≡ list_any (is_of_group newest) (all_pending xs)) begins any))
+    group_begun made newest newest (all_pending es) h.order (subst (λ xs. list_any (is_of_group newest) (all_pending xs) ≡ true) begins any)
 
-pub tidy_next : (es ds : List Entry) (made newest : ℕ) → IsTidy (buffer_of es made newest) → ds ≡ es → true ≡ list_any (is_of_group newest) (all_pending ds) → IsTidy (buffer_of es made (newest + 1))
-tidy_next es ds made newest h begins any =
-    let below = newest_begun es ds made newest h begins any in
-    record { few = h.few; groups = omega (arith, below); order = order_longer made made newest (newest + 1) (all_pending es) (omega arith) (omega arith) h.order }
+pub closed_is : (es ds : List Entry) (made newest next : ℕ) → ds ≡ es → next ≡ cond (list_any (is_of_group newest) (all_pending ds)) (newest + 1) newest → buffer_of es made next ≡ closed (buffer_of es made newest)
+closed_is es ds made newest next begins is =
+    ap (buffer_of es made) (is ∙ ap (λ xs. cond (list_any (is_of_group newest) (all_pending xs)) (newest + 1) newest) begins)
+
+pub tidy_next : (es ds : List Entry) (made newest next : ℕ) → IsTidy (buffer_of es made newest) → ds ≡ es → next ≡ cond (list_any (is_of_group newest) (all_pending ds)) (newest + 1) newest → IsTidy (buffer_of es made next)
+tidy_next es ds made newest next h begins is = subst IsTidy (sym (closed_is es ds made newest next begins is)) (tidy_closed (buffer_of es made newest) h)
 
 abbrev with_kept : ℕ → ℕ → List Pending → Buffer
 with_kept made newest xs = record { kept = xs; made = made; newest = newest }
 
-pub removed_is : (es gs : List Entry) (k n made newest : ℕ) → gs ≡ remove es n → n ≡ k → buffer_of gs made newest ≡ without k (buffer_of es made newest)
-removed_is es gs k n made newest is at =
-    ap (λ xs. buffer_of xs made newest) (is ∙ ap (remove es) at) ∙ ap (with_kept made newest) (removed_pending es k)
+pub removed_is : (es gs : List Entry) (k made newest : ℕ) → all_pending gs ≡ remove (all_pending es) k → buffer_of gs made newest ≡ without k (buffer_of es made newest)
+removed_is es gs k made newest is = ap (with_kept made newest) is
 
-pub tidy_removed : (es gs : List Entry) (k n made newest : ℕ) → IsTidy (buffer_of es made newest) → gs ≡ remove es n → n ≡ k → IsTidy (buffer_of gs made newest)
-tidy_removed es gs k n made newest h is at = subst IsTidy (sym (removed_is es gs k n made newest is at)) (tidy_without k (buffer_of es made newest) h)
+pub tidy_removed : (es gs : List Entry) (k made newest : ℕ) → IsTidy (buffer_of es made newest) → all_pending gs ≡ remove (all_pending es) k → IsTidy (buffer_of gs made newest)
+tidy_removed es gs k made newest h is = subst IsTidy (sym (removed_is es gs k made newest is)) (tidy_without k (buffer_of es made newest) h)

@@ -7,9 +7,9 @@ ghost use Rattle.axp_line.specs.Lines.{bytes_of_line};
 ghost use Rattle.axp_wbuf.specs.Drains.{oldest_group, told, without};
 ghost use Rattle.axp_wbuf.specs.Pending.{IsTidy, closed, is_before, is_of_line, no_entries, overlaid, store_number, stored, takes};
 
-use crate::entries::Entry;
 use crate::lists::{
-    Entries, any_before, any_of_group, any_of_line, merge_into, oldest_count, overlay_each,
+    Entries, any_before, any_of_line, append, has_room, merge_into, newest_after, oldest_count,
+    overlay_each, remove_at,
 };
 use arrayvec::ArrayVec;
 use axp_base::{Line, Mask};
@@ -74,12 +74,17 @@ impl Wbuf {
         ) {
             Some(number) => Ok(number),
             None => {
-                if self.entries.is_full() {
+                if !has_room(&self.entries) {
                     return Err(Full);
                 }
-                self.made += 1;
-                self.entries.push(Entry::of_store(self.made, self.newest, address, size, value));
-                Ok(self.made)
+                Ok(append(
+                    &mut self.entries,
+                    &mut self.made,
+                    self.newest,
+                    address,
+                    size,
+                    value,
+                ))
             }
         }
     }
@@ -88,9 +93,7 @@ impl Wbuf {
     pub fn close_group(&mut self)
         ensures { self.new ≡ closed self.old }
     {
-        if any_of_group(self.entries.as_slice(), self.newest) {
-            self.newest += 1;
-        }
+        self.newest = newest_after(self.entries.as_slice(), self.newest);
     }
 
     /// How many entries are of the oldest group: these may leave.
@@ -114,7 +117,7 @@ impl Wbuf {
         requires { k < length (oldest_group self.old.kept) }
         ensures { self.new ≡ without k self.old }
     {
-        self.entries.remove(usize::from(k));
+        remove_at(&mut self.entries, k);
     }
 
     /// Gives each byte of the line that an entry has from the newest entry that has it.

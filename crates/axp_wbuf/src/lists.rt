@@ -1,14 +1,15 @@
 //! Searches through entries, oldest first.
-ghost use Rattle.std.specs.Prelude.{◌≡◌, ◌<◌, ◌≤◌, ◌/◌, ◌%◌, ℕ, length, is_some, IfNone, IfSome, OnSome};
-ghost use Rattle.std.specs.List.{list_any, position_from};
+ghost use Rattle.std.specs.Prelude.{◌+◌, ◌^◌, ◌++◌, ◌∷◌, [], true, nat_lt, if◌then◌else◌, ◌≡◌, ◌<◌, ◌≤◌, ◌/◌, ◌%◌, ℕ, length, is_some, IfNone, IfSome, OnSome};
+ghost use Rattle.std.specs.List.{list_any, position_from, remove};
 ghost use Rattle.arrayvec.specs.ArrayVec.{array_vec_len};
 ghost use Rattle.axp_base.specs.Lines.{line_number};
 ghost use Rattle.axp_base.specs.Masks.{IsSize};
 ghost use Rattle.axp_base.specs.declared.lines.TheConstants.{LINE_BYTES};
 ghost use Rattle.axp_line.specs.Lines.{bytes_of_line};
-ghost use Rattle.axp_wbuf.specs.Pending.{Pending, is_at, is_before, is_of_group, is_of_line, number_at_line, overlaid, put_into, with_store};
+ghost use Rattle.axp_wbuf.specs.Pending.{Pending, is_at, is_before, is_of_group, is_of_line, made_by, number_at_line, overlaid, put_into, with_store};
 ghost use Rattle.axp_wbuf.specs.Drains.{in_front, oldest_group};
 ghost use Rattle.axp_wbuf.specs.Views.{all_pending};
+ghost use Rattle.axp_wbuf.specs.declared.limits.TheConstants.{WBUF_ENTRIES};
 
 use crate::WBUF_ENTRIES;
 use crate::entries::Entry;
@@ -45,7 +46,7 @@ pub(crate) fn any_of_line(entries: &[Entry], line: Line) -> bool
 }
 
 /// An entry is of this group.
-pub(crate) fn any_of_group(entries: &[Entry], group: u32) -> bool
+fn any_of_group(entries: &[Entry], group: u32) -> bool
     ensures { result ≡ list_any (is_of_group group) (all_pending entries.now) }
 {
     for entry in entries {
@@ -99,7 +100,8 @@ pub(crate) fn oldest_count(entries: &[Entry]) -> usize
 pub(crate) fn overlay_each(entries: &[Entry], line: Line, onto: &mut LineData)
     ensures { bytes_of_line onto.new ≡ overlaid (line_number line) (all_pending entries.now) (bytes_of_line onto.old) }
 {
-    for entry in entries {
+    for n in 0..entries.len() {
+        let entry = &entries[n];
         if entry.line == line {
             onto.merge(entry.mask, &entry.data);
         }
@@ -129,5 +131,58 @@ pub(crate) fn merge_into(
             Some(number)
         }
         None => None,
+    }
+}
+
+/// There is room for one entry more.
+#[tactic(auto, using(crate::proofs::Stores::as_many_pending))]
+pub(crate) fn has_room(entries: &Entries) -> bool
+    ensures { result ≡ nat_lt (length (all_pending entries.now.items)) WBUF_ENTRIES }
+{
+    entries.len() < WBUF_ENTRIES
+}
+
+/// Keeps a new entry that has a store's bytes alone as the newest one, counts it, and gives its number.
+#[tactic(auto, using(crate::proofs::Stores::pushed_pending, crate::proofs::Stores::as_many_pending))]
+pub(crate) fn append(
+    entries: &mut Entries,
+    made: &mut u32,
+    group: u32,
+    address: u64,
+    size: u8,
+    value: u64,
+) -> u32
+    requires sized { IsSize size }
+    requires aligned { address % size ≡ 0 }
+    requires few_made { made.old + 1 < 2 ^ 32 }
+    requires room { length (all_pending entries.old.items) < WBUF_ENTRIES }
+    ensures number { result ≡ made.old + 1 }
+    ensures made { made.new ≡ made.old + 1 }
+    ensures kept { all_pending entries.new.items ≡ all_pending entries.old.items ++ made_by (made.old + 1) group address size value ∷ [] }
+{
+    *made += 1;
+    let number = *made;
+    entries.push(Entry::of_store(number, group, address, size, value));
+    number
+}
+
+/// Removes the entry at this place.
+#[tactic(auto, using(crate::proofs::Orders::removed_pending))]
+pub(crate) fn remove_at(entries: &mut Entries, k: u8)
+    requires { k < array_vec_len entries.old }
+    ensures { all_pending entries.new.items ≡ remove (all_pending entries.old.items) k }
+{
+    entries.remove(usize::from(k));
+}
+
+/// The newest group's number after this group is closed, where it has an entry.
+pub(crate) fn newest_after(entries: &[Entry], newest: u32) -> u32
+    requires { list_any (is_of_group newest) (all_pending entries.now) ≡ true → newest + 1 < 2 ^ 32 }
+    ensures { result ≡ (if list_any (is_of_group newest) (all_pending entries.now) then newest + 1 else newest) }
+{
+    if any_of_group(entries, newest) {
+        newest + 1
+    } else {
+        newest
     }
 }

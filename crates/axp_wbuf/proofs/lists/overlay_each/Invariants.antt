@@ -5,5 +5,5 @@ use Rattle.axp_wbuf.specs.Pending.{overlaid}
 use Rattle.axp_wbuf.specs.Views.{all_pending}
 use Rattle.axp_wbuf.proofs.lists.overlay_each.Given as goal
 
-abbrev pub invariant-loop-entry : goal.invariant-loop-entry
-invariant-loop-entry l = overlaid (line_number l.line) (all_pending (drop l.entry-index l.entries)) (bytes_of_line l.onto) ≡ overlaid (line_number l.line) (all_pending l.entries) (bytes_of_line l.fn.onto)
+abbrev pub invariant-loop-n : goal.invariant-loop-n
+invariant-loop-n l = overlaid (line_number l.line) (all_pending (drop l.n l.entries)) (bytes_of_line l.onto) ≡ overlaid (line_number l.line) (all_pending l.entries) (bytes_of_line l.fn.onto)
