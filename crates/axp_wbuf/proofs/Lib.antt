@@ -3,4 +3,5 @@ pub mod Orders
 pub mod Overlays
 pub mod Pairs
 pub mod Places
+pub mod RunLemmas
 pub mod Stores

@@ -5,7 +5,7 @@ use Rattle.std.proofs.lemmas.Bool.{eqb-true, eq-eqb, and_from, ltb-true, true≢
 use Rattle.std.proofs.lemmas.List.{length-replicate}
 use Rattle.axp_base.specs.declared.lines.TheConstants.{LINE_BYTES}
 use Rattle.axp_base.proofs.PartLemmas.{length-with_part}
-use Rattle.axp_wbuf.specs.Pending.{Pending, Buffer, AreInOrder, IsMade, IsTidy, Precedes, PrecedesAll, closed, is_at, is_of_group, made_by, merges, put_into, stored, takes, with_store}
+use Rattle.axp_wbuf.specs.Pending.{Pending, Buffer, AreInOrder, IsMade, IsTidy, Precedes, PrecedesAll, closed, is_at, is_of_group, made_by, merges, no_entries, put_into, stored, takes, with_store}
 use Rattle.axp_wbuf.specs.Drains.{without}
 use Rattle.axp_wbuf.specs.Views.{pending, all_pending, buffer_of}
 use Rattle.axp_wbuf.specs.declared.entries.Entry.{Entry}
@@ -109,6 +109,10 @@ tidy_stored address size value b room h =
       groups = omega (arith, more, h.groups);
       order = order_put b.made _ b.newest address size value b.kept more h.groups (next_room (merges (address / LINE_BYTES) b) b.made) h.order;
     }
+
+-- an empty buffer keeps the rules
+pub tidy_none : IsTidy no_entries
+tidy_none = record { few = omega arith; groups = omega arith; order = tt }
 
 -- a group is begun by an entry
 pub group_begun : (made newest group : ℕ) (es : List Pending) → AreInOrder made newest es → list_any (is_of_group group) es ≡ true → group < made

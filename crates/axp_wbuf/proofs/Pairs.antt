@@ -7,14 +7,10 @@ use Rattle.axp_wbuf.specs.Pending.{AreInOrder, Buffer, IsMade, IsTidy, Pending, 
 use Rattle.axp_wbuf.specs.Drains.{first_group, in_front, oldest_group}
 
 -- an entry that is there is the one that was asked for
-payload : Pending → Option Pending → Pending
-payload d None = d
-payload d (Some e) = e
-
 pub same_entry : (e f : Pending) → Some e ≡ Some f → e ≡ f
 same_entry e f h = cc
 
-no_entry : (e : Pending) → ◌≡◌ {A = Option Pending} None (Some e) → ⊥
+pub no_entry : (e : Pending) → ◌≡◌ {A = Option Pending} None (Some e) → ⊥
 no_entry e h = cc
 
 pub precedes_at : (e : Pending) (es : List Pending) (j : ℕ) (f : Pending) → PrecedesAll e es → slice_get es j ≡ Some f → Precedes e f
@@ -44,7 +40,7 @@ by_number made newest es i j e f h at_i at_j less =
     (λ (after : j < i). let other = in_turn made newest es j i f e h after at_j at_i in absurd (omega (arith, less, other.number))))
     (cases_order i j)
 
-line_of : (line n : ℕ) (e : Pending) → has_byte line n e ≡ true → e.line ≡ line
+pub line_of : (line n : ℕ) (e : Pending) → has_byte line n e ≡ true → e.line ≡ line
 line_of line n e h = eqb-true _ _ (and_parts _ _ h).0
 
 pub older_group : (b : Buffer) (i j line n : ℕ) (e f : Pending) → IsTidy b → slice_get b.kept i ≡ Some e → slice_get b.kept j ≡ Some f → has_byte line n e ≡ true → has_byte line n f ≡ true → e.number < f.number → e.group < f.group

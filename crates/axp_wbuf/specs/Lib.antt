@@ -1,3 +1,4 @@
-pub mod Pending
 pub mod Drains
+pub mod Pending
+pub mod Runs
 pub mod Views

@@ -148,7 +148,7 @@ impl Wbuf {
         self.entries.is_empty()
     }
 
-    /// The buffer keeps its rules.
+    /// Tells a caller's proof that the buffer keeps its rules; nothing is done.
     pub fn is_tidy(&self)
         ensures { IsTidy self.now }
     {

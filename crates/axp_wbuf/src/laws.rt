@@ -3,8 +3,9 @@ ghost use Rattle.std.specs.Prelude.{ℕ, List, ◌≡◌, ◌≢◌, ◌+◌, �
 ghost use Rattle.axp_base.specs.Masks.{IsSize, span_of, has_bit};
 ghost use Rattle.axp_base.specs.Parts.{byte};
 ghost use Rattle.axp_base.specs.declared.lines.TheConstants.{LINE_BYTES};
-ghost use Rattle.axp_wbuf.specs.Pending.{Buffer, IsTidy, Pending, has_byte, overlaid, stored};
-ghost use Rattle.axp_wbuf.specs.Drains.{first_group, oldest_group};
+ghost use Rattle.axp_wbuf.specs.Pending.{Buffer, IsTidy, Pending, closed, has_byte, no_entries, overlaid, stored, takes};
+ghost use Rattle.axp_wbuf.specs.Drains.{first_group, oldest_group, without};
+ghost use Rattle.axp_wbuf.specs.Runs.{Step, run};
 
 /// An overlay takes each byte that entries have from the one of them that was made last, and keeps
 /// every byte that none has.
@@ -46,9 +47,18 @@ pub fn oldest_group_is_in_front()
     ensures oldest { (b : Buffer) (k : ℕ) (e : Pending) → IsTidy b → slice_get b.kept k ≡ Some e → first_group b.kept ≤ e.group }
 {}
 
+/// Each step of a buffer keeps its rules.
+pub fn rules_are_kept()
+    ensures none { IsTidy no_entries }
+    ensures stored { (b : Buffer) (address size value : ℕ) → IsTidy b → takes (address / LINE_BYTES) b ≡ true → IsTidy (stored address size value b) }
+    ensures closed { (b : Buffer) → IsTidy b → IsTidy (closed b) }
+    ensures without { (b : Buffer) (k : ℕ) → IsTidy b → IsTidy (without k b) }
+{}
+
 /// Own writes of one byte leave in the order of issue, whatever drains are chosen: of two entries
 /// that have the byte the one made first is in an older group, so no entry that may leave has a byte
-/// that an entry made before it has too.
+/// that an entry made before it has too. From the start on, of two entries that left and had the
+/// byte, the one that left later was made later.
 pub fn own_writes_leave_in_order()
     ensures older_group { (b : Buffer) (i j line n : ℕ) (e f : Pending) → IsTidy b → slice_get b.kept i ≡ Some e → slice_get b.kept j ≡ Some f
         → has_byte line n e ≡ true → has_byte line n f ≡ true → e.number < f.number
@@ -56,4 +66,7 @@ pub fn own_writes_leave_in_order()
     ensures first_leaves_first { (b : Buffer) (i k line n : ℕ) (e f : Pending) → IsTidy b → slice_get b.kept i ≡ Some e → slice_get (oldest_group b.kept) k ≡ Some f
         → has_byte line n e ≡ true → has_byte line n f ≡ true
         → f.number ≤ e.number }
+    ensures in_every_run { (steps : List Step) (i j line n : ℕ) (e f : Pending) → slice_get (run steps).gone i ≡ Some e → slice_get (run steps).gone j ≡ Some f
+        → has_byte line n e ≡ true → has_byte line n f ≡ true → i < j
+        → f.number < e.number }
 {}

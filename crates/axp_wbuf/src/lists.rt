@@ -1,4 +1,4 @@
-//! Searches through entries, oldest first.
+//! Lists of entries, oldest first: what is looked for in them, and how they change.
 ghost use Rattle.std.specs.Prelude.{◌+◌, ◌^◌, ◌++◌, ◌∷◌, [], true, nat_lt, if◌then◌else◌, ◌≡◌, ◌<◌, ◌≤◌, ◌/◌, ◌%◌, ℕ, length, is_some, IfNone, IfSome, OnSome};
 ghost use Rattle.std.specs.List.{list_any, position_from, remove};
 ghost use Rattle.arrayvec.specs.ArrayVec.{array_vec_len};
