@@ -1,11 +1,10 @@
 -- In every run the entries of one line leave in the order in which they were made.
-use Rattle.std.proofs.Common.{◌≡◌, ◌≢◌, ℕ, zero, suc, ◌+◌, ◌/◌, ◌<◌, ◌≤◌, Bool, true, false, cond, List, [], ◌∷◌, arith, refl, ap, sym, subst, ◌∙◌, Some, None, Option, ⊎_elim}
+use Rattle.std.proofs.Common.{◌≡◌, ℕ, zero, suc, ◌+◌, ◌/◌, ◌<◌, ◌≤◌, Bool, true, false, cond, List, [], ◌∷◌, arith, refl, sym, subst, ◌∙◌, Some, None, Option}
 use Rattle.std.specs.Prelude.{slice_get}
-use Rattle.std.specs.List.{list_any, remove}
-use Rattle.std.proofs.lemmas.Bool.{and_parts, cases_lt, eqb-true}
+use Rattle.std.specs.List.{remove}
 use Rattle.axp_base.specs.declared.lines.TheConstants.{LINE_BYTES}
-use Rattle.axp_wbuf.specs.Drains.{first_group, oldest_group, without}
-use Rattle.axp_wbuf.specs.Pending.{AreInOrder, Buffer, IsMade, IsTidy, Pending, Precedes, PrecedesAll, closed, has_byte, is_at, made_by, merges, no_entries, put_into, stored, takes, with_store}
+use Rattle.axp_wbuf.specs.Drains.{first_group, oldest_group}
+use Rattle.axp_wbuf.specs.Pending.{AreInOrder, IsTidy, Pending, PrecedesAll, has_byte, is_at, made_by, merges, put_into, stored, takes, with_store}
 use Rattle.axp_wbuf.specs.Runs.{Leaves, Stores, Closes, Run, Step, after_step, left_by, run}
 use Rattle.axp_wbuf.proofs.Orders.{tidy_closed, tidy_none, tidy_stored, tidy_without}
 use Rattle.axp_wbuf.proofs.Pairs.{first_oldest, line_of, made_at, no_entry, oldest_entry, precedes_at, same_entry}
@@ -87,7 +86,7 @@ holds_stored : (address size value : ℕ) (r : Run) (b : Bool) → takes (addres
 holds_stored address size value r true is h =
     record {
       tidy = tidy_stored address size value r.buffer is h.tidy;
-      gone = gone_put r.buffer.made _ r.buffer.newest (address / LINE_BYTES) address size value (made_by (r.buffer.made + 1) r.buffer.newest address size value) r.buffer.kept r.gone (more_made (merges (address / LINE_BYTES) r.buffer) r.buffer.made) (omega arith) h.gone
+      gone = gone_put r.buffer.made _ r.buffer.newest (address / LINE_BYTES) address size value (made_by (r.buffer.made + 1) r.buffer.newest address size value) r.buffer.kept r.gone (more_made (merges (address / LINE_BYTES) r.buffer) r.buffer.made) (omega arith) h.gone;
     }
 holds_stored address size value r false is h = h
 
@@ -100,7 +99,8 @@ holds_left k r (Some e) is h =
       tidy = tidy_without k r.buffer h.tidy;
       gone = (
         (made.number, stays_after r.buffer.made r.buffer.newest (first_group r.buffer.kept) r.buffer.kept k e h.tidy.order (λ j f is_f. first_oldest r.buffer.made r.buffer.newest r.buffer.kept j f h.tidy.order is_f) at.0 at.1),
-        (all_before r.buffer.made r.buffer.kept r.gone k e h.gone at.0, gone_without r.buffer.made r.buffer.kept r.gone k h.gone))
+        (all_before r.buffer.made r.buffer.kept r.gone k e h.gone at.0, gone_without r.buffer.made r.buffer.kept r.gone k h.gone),
+      );
     }
 
 holds_after : (step : Step) (r : Run) → Holds r → Holds (after_step step r)
