@@ -1,0 +1,9 @@
+use Rattle.std.proofs.Common.{◌≡◌, drop}
+use Rattle.std.specs.List.{list_any}
+use Rattle.axp_base.specs.Lines.{line_number}
+use Rattle.axp_wbuf.specs.Pending.{is_of_line}
+use Rattle.axp_wbuf.specs.Views.{all_pending}
+use Rattle.axp_wbuf.proofs.lists.any_of_line.Given as goal
+
+abbrev pub invariant-loop-entry : goal.invariant-loop-entry
+invariant-loop-entry l = list_any (is_of_line (line_number l.line)) (all_pending (drop l.entry-index l.entries)) ≡ list_any (is_of_line (line_number l.line)) (all_pending l.entries)

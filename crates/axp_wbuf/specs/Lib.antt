@@ -1,0 +1,4 @@
+pub mod Drains
+pub mod Pending
+pub mod Runs
+pub mod Views
