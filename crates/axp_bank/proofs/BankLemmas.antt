@@ -1,19 +1,18 @@
 -- Lists of copies that ascend, and what a change at one place makes of them.
-use Rattle.std.proofs.Common.{◌≡◌, ◌≢◌, ℕ, zero, suc, ◌+◌, ◌<◌, ◌≤◌, Bool, true, false, cond, not, ◌||◌, nat_lt, ◌==◌, List, [], ◌∷◌, ◌++◌, map, length, get_or, set, take, drop, Some, None, refl, sym, ap, subst, ◌∙◌, arith, ⊎_elim, add-one}
-use Rattle.std.specs.List.{find, filter, list_any, position, position_or_len, insert, remove, AllByRecursion}
+use Rattle.std.proofs.Common.{◌≡◌, ◌≢◌, ℕ, zero, suc, ◌+◌, ◌<◌, ◌≤◌, Bool, true, false, cond, not, ◌||◌, nat_lt, ◌==◌, List, [], ◌∷◌, length, get_or, set, Some, None, refl, sym, ap, subst, ◌∙◌, arith, ⊎_elim}
+use Rattle.std.specs.List.{find, list_any, position, position_or_len, insert, remove}
 use Rattle.std.specs.Option.{option_map, unwrap_or}
-use Rattle.std.specs.declared.option.Option.{Option}
-use Rattle.std.proofs.lemmas.Bool.{or_parts, or_right, cases_lt, cases_Bool, eqb-true, ltb-true, ltb-false}
+use Rattle.std.proofs.lemmas.Bool.{or_parts, or_right, cases_Bool, eqb-true, ltb-true, ltb-false}
 use Rattle.std.proofs.lemmas.List.Sums.{passes_at_first, prefix_len-le-length}
 use Rattle.std.proofs.lemmas.List.Folds.{find_at}
 use Rattle.std.proofs.lemmas.Option.{slice_get-get_or}
-use Rattle.axp_line.specs.declared.contents.LineData.{LineData}
 use Rattle.axp_bank.specs.declared.copies.LineCopy.{LineCopy}
 use Rattle.axp_bank.specs.declared.copies.TheConstants.{BANK_COPIES}
-use Rattle.axp_bank.specs.Copies.{line_of, is_of, is_above, Above, Ascending, Whole, IsPlace, IsPlaceFor, PlaceOf, is_held, get_of, has_room, refreshed, inserted, put, dropped, is_older, has_older, invalidated, held_lines}
+use Rattle.axp_bank.specs.Places.{is_above, IsPlace, IsPlaceFor, PlaceOf}
+use Rattle.axp_bank.specs.Copies.{line_of, is_of, Above, Ascending, Whole, is_held, shown, get_of, refreshed, inserted, dropped}
 
 -- a test of two numbers that differ
-apart : (a b : ℕ) → a ≢ b → (a == b) ≡ false
+pub apart : (a b : ℕ) → a ≢ b → (a == b) ≡ false
 apart a b ne = grind arith
 
 above_none : (n m : ℕ) (cs : List LineCopy) → n ≤ m → Above m cs → list_any (is_of n) cs ≡ false
@@ -41,10 +40,10 @@ unfolding is_held get_of
 get_none n [] h = refl
 get_none n (d ∷ ds) h =
     let parts = or_parts (is_of n d) (list_any (is_of n) ds) h in
-    (λ i. option_map (λ c. (c.stamp, c.bytes)) (cond (parts.0 i) (Some d) (find (is_of n) ds))) ∙ get_none n ds parts.1
+    (λ i. option_map shown (cond (parts.0 i) (Some d) (find (is_of n) ds))) ∙ get_none n ds parts.1
 
 -- the copy at a place is above what all are above
-above_at : (m : ℕ) (cs : List LineCopy) (i : ℕ) (d : LineCopy) → Above m cs → i < length cs → m < line_of (get_or cs i d)
+pub above_at : (m : ℕ) (cs : List LineCopy) (i : ℕ) (d : LineCopy) → Above m cs → i < length cs → m < line_of (get_or cs i d)
 above_at m [] i d above inside = absurd (omega arith)
 above_at m (c ∷ cs) zero d above inside = above.0
 above_at m (c ∷ cs) (suc i) d above inside = above_at m cs i d above.1 (omega arith)
@@ -54,7 +53,6 @@ above_at m (c ∷ cs) (suc i) d above inside = above_at m cs i d above.1 (omega 
 head_apart : (n : ℕ) (c : LineCopy) (cs : List LineCopy) (i : ℕ) → Above (line_of c) cs → i < length cs → is_of n (get_or cs i c) ≡ true → is_of n c ≡ false
 head_apart n c cs i above inside here =
     apart (line_of c) n (λ e. absurd (omega (arith, e, eqb-true _ _ here, above_at (line_of c) cs i c above inside)))
-
 
 refreshed_place : (c : LineCopy) (cs : List LineCopy) (i : ℕ) → Ascending cs → i < length cs → ((d : LineCopy) → is_of (line_of c) (get_or cs i d) ≡ true) → refreshed c cs ≡ set cs i c
 unfolding Ascending refreshed is_held
@@ -80,7 +78,7 @@ held_place n (d ∷ ds) (suc k) inside here = or_right (is_of n d) (list_any (is
 
 pub get_place : (n : ℕ) (cs : List LineCopy) (i : ℕ) (d : LineCopy) → find (is_of n) cs ≡ Some (get_or cs i d) → get_of n cs ≡ Some ((get_or cs i d).stamp, (get_or cs i d).bytes)
 unfolding get_of
-get_place n cs i d e = ap (option_map (λ c. (c.stamp, c.bytes))) e
+get_place n cs i d e = ap (option_map shown) e
 
 -- the same for a place as the code finds it
 pub refreshed_at : (c : LineCopy) (cs : List LineCopy) (i : ℕ) → Whole cs → IsPlace (line_of c) cs i → refreshed c cs ≡ set cs i c

@@ -1,11 +1,10 @@
 -- The copies of a bank: a list in ascending order of lines.
-use Rattle.std.specs.Prelude.{◌≡◌, ℕ, ◌<◌, ◌≤◌, ◌==◌, ◌*◌, ◌||◌, nat_lt, Bool, true, false, not, if◌then◌else◌, List, [], ◌∷◌, map, length, slice_index_or, Some, None, ⊤}
+use Rattle.std.specs.Prelude.{ℕ, ◌<◌, ◌≤◌, ◌==◌, ◌||◌, nat_lt, Bool, false, not, if◌then◌else◌, List, [], ◌∷◌, map, length, Some, None, ⊤}
 use Rattle.std.specs.Option.{option_map}
 use Rattle.std.specs.declared.option.Option.{Option}
-use Rattle.std.specs.List.{find, filter, list_any, insert, AllByRecursion}
+use Rattle.std.specs.List.{find, filter, list_any, AllByRecursion}
 use Rattle.axp_base.specs.Lines.{line_number}
 use Rattle.axp_base.specs.declared.lines.Line.{Line}
-use Rattle.axp_base.specs.declared.lines.TheConstants.{LINE_BYTES}
 use Rattle.axp_line.specs.declared.contents.LineData.{LineData}
 use Rattle.axp_bank.specs.declared.copies.LineCopy.{LineCopy}
 use Rattle.axp_bank.specs.declared.copies.TheConstants.{BANK_COPIES}
@@ -20,10 +19,6 @@ line_of c = line_number c.line
 
 abbrev pub is_of : ℕ → LineCopy → Bool
 is_of n c = line_of c == n
-
--- a copy is of a line of a greater number, by the first bytes of the lines
-abbrev pub is_above : ℕ → LineCopy → Bool
-is_above n c = nat_lt (n * LINE_BYTES) (line_of c * LINE_BYTES)
 
 -- each copy is of a line of a greater number
 abbrev pub Above : ℕ → List LineCopy → Type 0
@@ -43,9 +38,13 @@ pub record Whole (cs : List LineCopy) : Type 0 where
 unfoldable pub is_held : ℕ → List LineCopy → Bool
 is_held n cs = list_any (is_of n) cs
 
--- the stamp and the data of the copy of this line, if there is one
+-- what a copy shows: its stamp and its data
+abbrev pub shown : LineCopy → ℕ × LineData
+shown c = (c.stamp, c.bytes)
+
+-- what the copy of this line shows, if there is one
 unfoldable pub get_of : ℕ → List LineCopy → Option (ℕ × LineData)
-get_of n cs = option_map (λ c. (c.stamp, c.bytes)) (find (is_of n) cs)
+get_of n cs = option_map shown (find (is_of n) cs)
 
 -- the copy of this line is held, or one more fits
 abbrev pub has_room : ℕ → List LineCopy → Bool
@@ -81,30 +80,17 @@ has_older n turn cs = is_older turn (get_of n cs)
 unfoldable pub invalidated : ℕ → ℕ → List LineCopy → List LineCopy
 invalidated n turn cs = if has_older n turn cs then dropped n cs else cs
 
--- the lines that are held, each with its copy's stamp
+-- the lines that are held, each with its copy's stamp, in the order of the copies
 abbrev pub held_lines : List LineCopy → List (Line × ℕ)
 held_lines cs = map (λ c. (c.line, c.stamp)) cs
 
--- the copy at this place is the one of this line
-pub record IsPlace (n : ℕ) (cs : List LineCopy) (i : ℕ) : Type 0 where
-  pub inside : i < length cs
-  pub here : (d : LineCopy) → is_of n (slice_index_or cs i d) ≡ true
-  pub held : is_held n cs ≡ true
-  pub got : (d : LineCopy) → get_of n cs ≡ Some ((slice_index_or cs i d).stamp, (slice_index_or cs i d).bytes)
+-- a list of lines with stamps has this line, and the stamp that it has beside it
+abbrev pub has_line : ℕ → List (Line × ℕ) → Bool
+has_line n ls = list_any (λ l. line_number l.0 == n) ls
 
--- no copy is of this line
-pub record IsNoPlace (n : ℕ) (cs : List LineCopy) : Type 0 where
-  pub held : is_held n cs ≡ false
-  pub got : get_of n cs ≡ None
-  pub drops : dropped n cs ≡ cs
-  pub stays : (c : LineCopy) → line_of c ≡ n → refreshed c cs ≡ cs
+abbrev pub stamp_beside : ℕ → List (Line × ℕ) → Option ℕ
+stamp_beside n ls = option_map (λ l. l.1) (find (λ l. line_number l.0 == n) ls)
 
--- the place of the copy of this line, or None where no copy is of it
-abbrev pub PlaceOf : ℕ → List LineCopy → Option ℕ → Type 0
-PlaceOf n cs None = IsNoPlace n cs
-PlaceOf n cs (Some i) = IsPlace n cs i
-
--- the place in front of the copies of greater lines
-pub record IsPlaceFor (n : ℕ) (cs : List LineCopy) (i : ℕ) : Type 0 where
-  pub inside : i ≤ length cs
-  pub puts : (c : LineCopy) → line_of c ≡ n → inserted c cs ≡ insert cs i c
+-- the stamp of the copy of this line, if there is one
+abbrev pub stamp_of : ℕ → List LineCopy → Option ℕ
+stamp_of n cs = option_map (λ s. s.0) (get_of n cs)

@@ -2,7 +2,8 @@ ghost use Rattle.std.specs.Prelude.{◌≡◌, ◌<◌, [], length, slice_set, n
 ghost use Rattle.std.specs.List.{position};
 ghost use Rattle.std.specs.Option.{option_map};
 ghost use Rattle.axp_base.specs.Lines.{line_number};
-ghost use Rattle.axp_bank.specs.Copies.{Whole, PlaceOf, IsPlace, IsPlaceFor, copy_of, line_of, is_of, is_above, is_held, get_of, has_older, has_room, put, refreshed, inserted, invalidated, dropped, held_lines};
+ghost use Rattle.axp_bank.specs.Copies.{Whole, copy_of, line_of, is_of, is_held, get_of, has_older, has_room, put, refreshed, inserted, invalidated, dropped, held_lines};
+ghost use Rattle.axp_bank.specs.Places.{PlaceOf, IsPlace, IsPlaceFor, is_above};
 ghost use Rattle.axp_bank.specs.declared.copies.TheConstants.{BANK_COPIES};
 
 use crate::{BANK_COPIES, LineCopy};
@@ -109,8 +110,8 @@ impl CopyBank {
         ensures copies { self.new ≡ dropped (line_number line) self.old }
     {
         match place_of(&self.copies, line) {
-            Some(n) => {
-                remove_at(&mut self.copies, n, line);
+            Some(place) => {
+                remove_at(&mut self.copies, place, line);
                 true
             }
             None => false,
