@@ -1,0 +1,16 @@
+//! A bank in which a processor keeps copies of lines of data, each with the stamp of its moment.
+#![tactic(auto)]
+
+mod banks;
+mod copies;
+mod laws;
+
+pub use banks::CopyBank;
+pub use copies::{BANK_COPIES, LineCopy};
+pub use laws::{
+    dropped_line_is_gone, held_is_what_is_got, invalidate_removes_an_older_copy,
+    lines_are_the_held_ones, lines_stay_distinct_and_few, put_is_got, refresh_changes_a_held_line,
+};
+
+#[cfg(test)]
+mod tests;
