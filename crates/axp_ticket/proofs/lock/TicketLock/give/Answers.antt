@@ -1,0 +1,33 @@
+use Rattle.std.proofs.Common.{rules, ◌≡◌, ℕ, ◌+◌, ◌*◌, ◌%◌, ◌<◌, ◌≤◌, ◌^◌, List, [], ◌∷◌, ◌++◌, length, Some, None, Option, sym, ap, ◌∙◌, subst, arith, refl}
+use mathlib.Core.Option.{none, some, some-injective}
+use lib.ListN.{get_elem?}
+use Rattle.std.specs.Option.{IsSome}
+use Rattle.axp_ticket.specs.declared.board.View.{View}
+use Rattle.axp_ticket.specs.declared.board.Role.TheVariants.{Idle, Waits, Turns, Gathers}
+use Rattle.axp_ticket.specs.Queue.{Queued, own, own_of, kept_of, with_own, IsHistory, IsHistoryOf}
+use Rattle.axp_ticket.proofs.Steps.{joins, settles, closes}
+use Rattle.axp_ticket.proofs.lock.TicketLock.give.Goals as goal
+
+pub join_seat-requires : goal.join_seat-requires
+join_seat-requires g c = (
+  c.requires.seats.0.0,
+  c.requires.seat.0,
+  c.args.seat.idle.2,
+  search rules,
+  joins g.S.Served.start g.S.Served.room g.S.Served.calls g.S.Served.Right _ _ _ _ _ _ _ c.args.seats.now.given c.args.seats.now.gathers.0 c.args.seat.idle.0,
+)
+
+pub load-requires : goal.load-requires
+load-requires g c = (
+  c.join_seat.ensures.0 ∙ c.requires.seats.0.0,
+  search rules,
+  settles g.S.Served.start g.S.Served.room g.S.Served.calls g.S.Served.Right _ _ _ _ _ _,
+)
+
+pub returns-clause-history : goal.returns-clause-history
+returns-clause-history g c =
+    let role : c.join_seat.new.seat.me.0.role ≡ Gathers c.args.seats.now.given (kept_of c.args.seats.now.pass.me.0.role ++ own_of c.args.seat.pass.me.0.role ∷ []) =
+    ap (λ m. m.0.role) c.join_seat.ensures.2 ∙ (λ i. with_own (c.args.seats.now.gathers.0 i) (c.args.seat.idle.0 i)) in
+    let opened : c.join_seat.new.seat.me.0.opened ≡ Some c.args.self.now.table.shared.key.value.value = ap (λ m. m.0.opened) c.join_seat.ensures.2 ∙ c.requires.seats.0.1 in
+    subst (λ m. IsHistory g.S.Served.Right (g.S.Served.start c.args.self.now.table.shared.key.value.value) c.args.seats.now.given (kept_of m.0.role)) (sym c.load.ensures.2.0)
+    (c.load.ensures.2.1 c.args.seats.now.given c.args.self.now.table.shared.key.value.value (role ∙ ap (λ l. Gathers c.args.seats.now.given l) (sym (ap kept_of role))) opened)
