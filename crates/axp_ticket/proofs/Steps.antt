@@ -16,7 +16,7 @@ use Rattle.axp_ticket.specs.declared.board.Own.{Own}
 use Rattle.axp_ticket.specs.declared.board.Role.{Role}
 use Rattle.axp_ticket.specs.declared.board.Role.TheVariants.{Nobody, Idle, Waits, Turns, Gathers}
 use Rattle.axp_ticket.specs.declared.board.View.{View}
-use Rattle.axp_ticket.specs.Queue.{placed, own, calls_from, calls_of, rights, total, Owns, Knows, Queued, gathering, own_of, kept_of, posed, drawn, looked, IsTaken, passed, settled, IsHistory, IsHistoryOf, AllBack, left_of, right_of, both_of, one_given, next_own, with_own, nobody}
+use Rattle.axp_ticket.specs.Queue.{placed, own, calls_from, calls_of, rights, total, ticket_of, numbers_of, IsAmong, EachOnce, IsSound, Owns, Knows, Queued, gathering, own_of, kept_of, posed, drawn, looked, IsTaken, passed, settled, IsHistory, IsHistoryOf, AllBack, left_of, right_of, both_of, one_given, next_own, with_own, nobody}
 use Rattle.axp_ticket.proofs.Histories.{put, put_here, put_else, calls_from-mine, calls_from-other, snoc_same, total_set, total_snoc, at_end, calls_from-before}
 
 module _ {T Start A R : Type 0} (start : T → Start) (room : T → ℕ) (calls : T → List (Call A R)) (Right : Start → List (Call A R) → ℕ → A → R → Type 0) (seats allowance : ℕ) (opened : T) where
@@ -50,6 +50,42 @@ module _ {T Start A R : Type 0} (start : T → Start) (room : T → ℕ) (calls 
       let before = k.2 in (record { below = k.0.below; mine = k.0.mine; calls = k.0.calls }, k.1, omega arith, put_else holder next id t (λ e. omega arith) ∙ k.3, k.4, k.5)
   later log value next given gatherer id owner holder away j (Gathers m kept) k =
       (k.0, k.1, λ i o at. let h = k.2 i o at in record { below = h.below; mine = h.mine; calls = h.calls })
+
+  inside : (vs : List V) (id : ℕ) (v : V) → get_elem? vs id ≡ some v → id < length vs
+  inside [] id v e = absurd (some-ne-none v (sym e))
+  inside (x ∷ xs) zero v e = omega arith
+  inside (x ∷ xs) (suc id) v e = let h = inside xs id v e in omega arith
+
+  -- a view with such a role is still there after another view changed, or that view has such a role still
+  found_after : (P : V → Type 0) (vs : List V) (id : ℕ) (v w : V) (j : ℕ) → get_elem? vs id ≡ some v → (P v → P w) → (d : V) × (get_elem? vs j ≡ some d) × P d → (d : V) × (get_elem? (set vs id w) j ≡ some d) × P d
+  found_after P vs id v w j at stays f = dite (ℕ_discrete j id)
+      (λ e. (w, subst (λ (i : ℕ). get_elem? (set vs id w) i ≡ some w) (sym e) (set_here vs id w (inside vs id v at)), stays (subst P (some-injective f.0 v (sym f.1 ∙ (ap (λ (i : ℕ). get_elem? vs i) e ∙ at))) f.2)))
+      (λ other. (f.0, set_else vs id j w other ∙ f.1, f.2))
+
+  found_longer : (P : V → Type 0) (vs : List V) (u : V) (j : ℕ) → (d : V) × (get_elem? vs j ≡ some d) × P d → (d : V) × (get_elem? (vs ++ u ∷ []) j ≡ some d) × P d
+  found_longer P vs u j f = (f.0, at_longer vs (u ∷ []) j f.0 f.1, f.2)
+
+  one_among : (n : ℕ) (o : Own A R) → o.number ≡ n → IsAmong n (o ∷ [])
+  one_among n o e = (0, o, refl, e)
+
+  among_one : (n : ℕ) (o : Own A R) → IsAmong n (o ∷ []) → o.number ≡ n
+  among_one n o (k, o', a, e) = go k a
+    where
+      go : (k : ℕ) → get_elem? (o ∷ []) k ≡ some o' → o.number ≡ n
+      go zero a = ap (λ (x : Own A R). x.number) (some-injective o o' a) ∙ e
+      go (suc k) a = absurd (some-ne-none o' (sym a))
+
+  sound_one : (o : Own A R) (more : ℕ) → length o.calls + more ≤ allowance → ((k : ℕ) (o' : Own A R) → get_elem? (o ∷ []) k ≡ some o' → length o'.calls + more ≤ allowance) × EachOnce (o ∷ [])
+  sound_one o more small = (few, once)
+    where
+      few : (k : ℕ) (o' : Own A R) → get_elem? (o ∷ []) k ≡ some o' → length o'.calls + more ≤ allowance
+      few zero o' a = subst (λ (x : Own A R). length x.calls + more ≤ allowance) (some-injective o o' a) small
+      few (suc k) o' a = absurd (some-ne-none o' (sym a))
+
+      once : (i k : ℕ) (a b : Own A R) → get_elem? (o ∷ []) i ≡ some a → get_elem? (o ∷ []) k ≡ some b → a.number ≡ b.number → i ≡ k
+      once zero zero a b x y e = refl
+      once zero (suc k) a b x y e = absurd (some-ne-none b (sym y))
+      once (suc i) k a b x y e = absurd (some-ne-none a (sym x))
 
   -- where only one of two views has its turn, they are two seats' views
   apart : (vs : List V) (j id : ℕ) (v m : V) → get_elem? vs j ≡ some v → get_elem? vs id ≡ some m → v.role ≢ m.role → j ≢ id
@@ -105,6 +141,12 @@ module _ {T Start A R : Type 0} (start : T → Start) (room : T → ℕ) (calls 
               (known.0, (record { below = owns.below; mine = owns.mine; calls = owns.calls }, (let h = r.served in omega arith), (omega arith), ap (put r.holder r.next id) n_is ∙ put_here r.holder r.next id))
               (λ j d other there. let k = r.each_seat j d there in (k.0, later r.log r.value r.next r.given r.gatherer id r.owner r.holder (s.homes ≡ none ∷ []) j d.role k.1));
           unmade = r.unmade;
+          each_ticket = λ t low high. dite (ℕ_discrete t r.next)
+              (λ e. (w, subst (λ (i : ℕ). get_elem? (set s.views id w) i ≡ some w) (sym (ap (put r.holder r.next id) e ∙ put_here r.holder r.next id)) (set_here s.views id w (inside s.views id m.0 at)), ap Some (n_is ∙ sym e)))
+              (λ other. subst (λ (i : ℕ). (d : V) × (get_elem? (set s.views id w) i ≡ some d) × (ticket_of d.role ≡ Some t)) (sym (put_else r.holder r.next id t other))
+              (found_after (λ d. ticket_of d.role ≡ Some t) s.views id m.0 w (r.holder t) at (λ h. let f : None ≡ Some t = sym (ap ticket_of is) ∙ h in cc) (r.each_ticket t low (omega arith))));
+          each_number = λ k h. found_after (λ d. IsAmong k (numbers_of d.role)) s.views id m.0 w (r.owner k) at (λ there. subst (IsAmong k) (ap numbers_of is) there) (r.each_number k h);
+          each_sound = views_stay (λ _ d. IsSound allowance d.role) s.views id w (sound_one o 1 (omega arith)) (λ j d _ there. r.each_sound j d there);
         },
         (refl, let small' : all < 2 ^ 32 = small in let bound' : r.next + total (rights seats allowance) s.views ≤ all = bound in omega arith),
       )
@@ -117,11 +159,6 @@ module _ {T Start A R : Type 0} (start : T → Start) (room : T → ℕ) (calls 
   taken log value next given gatherer owner holder away away' j (Waits o t) h k = (record { below = k.0.below; mine = k.0.mine; calls = k.0.calls }, k.1, k.2, k.3)
   taken log value next given gatherer owner holder away away' j (Turns o t v) h k = (record { below = k.0.below; mine = k.0.mine; calls = k.0.calls }, k.1, k.2, k.3, k.4, h)
   taken log value next given gatherer owner holder away away' j (Gathers m kept) h k = (k.0, k.1, λ i o at. let e = k.2 i o at in record { below = e.below; mine = e.mine; calls = e.calls })
-
-  inside : (vs : List V) (id : ℕ) (v : V) → get_elem? vs id ≡ some v → id < length vs
-  inside [] id v e = absurd (some-ne-none v (sym e))
-  inside (x ∷ xs) zero v e = omega arith
-  inside (x ∷ xs) (suc id) v e = let h = inside xs id v e in omega arith
 
   opened_is : (v : V) (x : T) → Opened v → v.opened ≡ Some x → opened ≡ x
   opened_is v x h e = ⊎_elim (λ (l : v.opened ≡ None). let f : None ≡ Some x = sym l ∙ e in cc) (λ (l : v.opened ≡ Some opened). let f : Some opened ≡ Some x = sym l ∙ e in cc) h
@@ -176,6 +213,9 @@ module _ {T Start A R : Type 0} (start : T → Start) (room : T → ℕ) (calls 
               (known.0, (record { below = waits.0.below; mine = waits.0.mine; calls = waits.0.calls }, sym now ∙ n_is, waits.2, waits.3, refl, away))
               (λ j d other there. let k = r.each_seat j d there in (k.0, taken r.log r.value r.next r.given r.gatherer r.owner r.holder (s.homes ≡ none ∷ []) (set s.homes 0 none ≡ none ∷ []) j d.role away k.1));
           unmade = r.unmade;
+          each_ticket = λ k low high. found_after (λ d. ticket_of d.role ≡ Some k) s.views id m.0 w (r.holder k) at (λ h. sym (ap ticket_of is) ∙ h) (r.each_ticket k low high);
+          each_number = λ k h. found_after (λ d. IsAmong k (numbers_of d.role)) s.views id m.0 w (r.owner k) at (λ there. subst (IsAmong k) (ap numbers_of is) there) (r.each_number k h);
+          each_sound = views_stay (λ _ d. IsSound allowance d.role) s.views id w (subst (IsSound allowance) is (r.each_sound id m.0 at)) (λ j d _ there. r.each_sound j d there);
         },
         (
           small,
@@ -291,6 +331,12 @@ module _ {T Start A R : Type 0} (start : T → Start) (room : T → ℕ) (calls 
           )
               (λ j d other there. let k = r.each_seat j d there in (k.0, served_other r.log c r.value v' r.next r.given r.gatherer r.owner r.holder (s.homes ≡ none ∷ []) (homes' ≡ none ∷ []) j id d.role mine first other k.1));
           unmade = λ k h. calls_from-other k 0 r.log c (λ e. let b = turns.0.below in omega arith) ∙ r.unmade k h;
+          each_ticket = λ k low high. found_after (λ d. ticket_of d.role ≡ Some k) s.views id m.0 w (r.holder k) at
+              (λ h. let f : Some t ≡ Some k = sym (ap ticket_of is) ∙ h in let same_ticket : t ≡ k = cc in absurd (omega arith)) (r.each_ticket k (omega arith) high);
+          each_number = λ k h. found_after (λ d. IsAmong k (numbers_of d.role)) s.views id m.0 w (r.owner k) at
+              (λ there. one_among k (own o.number (o.calls ++ placed n c ∷ [])) (among_one k o (subst (IsAmong k) (ap numbers_of is) there))) (r.each_number k h);
+          each_sound = views_stay (λ _ d. IsSound allowance d.role) s.views id w
+              (sound_one (own o.number (o.calls ++ placed n c ∷ [])) 0 (let h = (subst (IsSound allowance) is (r.each_sound id m.0 at)).0 0 o refl in omega arith)) (λ j d _ there. r.each_sound j d there);
         },
         λ t₂ v₂ v₂' c₂ is₂ carried₂ longer₂.
             let a : v ≡ v₂ = ap (turn_value v) (sym is ∙ is₂) in
@@ -373,6 +419,20 @@ module _ {T Start A R : Type 0} (start : T → Start) (room : T → ℕ) (calls 
         each_seat = λ j d there. ⊎_elim (λ h. left_knows j d h)
             (λ (h : (j ≡ length (set s.views id w)) × (u ≡ d)). subst (λ (x : ℕ × V). K x.0 x.1) (λ i. (sym (h.0 ∙ long) i, h.1 i)) right_knows) (at_end (set s.views id w) u d j there);
         unmade = λ k h. r.unmade k (omega arith);
+        each_ticket = λ t low high. found_longer (λ d. ticket_of d.role ≡ Some t) (set s.views id w) u (r.holder t)
+            (found_after (λ d. ticket_of d.role ≡ Some t) s.views id v w (r.holder t) at (λ h. let f : None ≡ Some t = sym (ap ticket_of is) ∙ h in cc) (r.each_ticket t low high));
+        each_number = λ n h. dite (ℕ_discrete n r.given)
+            (λ e. (
+              u,
+              subst (λ (i : ℕ). get_elem? (set s.views id w ++ u ∷ []) i ≡ some u) (sym (ap owner' e ∙ put_here r.owner r.given to)) (at_last (set s.views id w) u to long),
+              subst (λ (x : Role T A R). IsAmong n (numbers_of x)) (sym u_role) (one_among n (own given []) (given_is ∙ sym e)),
+            ))
+            (λ other. subst (λ (i : ℕ). (d : V) × (get_elem? (set s.views id w ++ u ∷ []) i ≡ some d) × IsAmong n (numbers_of d.role)) (sym (put_else r.owner r.given to n other))
+            (found_longer (λ d. IsAmong n (numbers_of d.role)) (set s.views id w) u (r.owner n)
+            (found_after (λ d. IsAmong n (numbers_of d.role)) s.views id v w (r.owner n) at (λ there. subst (IsAmong n) (ap numbers_of is ∙ sym (ap numbers_of w_role)) there) (r.each_number n (omega arith)))));
+        each_sound = λ j d there. ⊎_elim
+            (λ h. views_stay (λ _ x. IsSound allowance x.role) s.views id w (subst (IsSound allowance) (sym w_role) (subst (IsSound allowance) is (r.each_sound id v at))) (λ i x _ a. r.each_sound i x a) j d h)
+            (λ (h : (j ≡ length (set s.views id w)) × (u ≡ d)). subst (λ (x : V). IsSound allowance x.role) h.1 (subst (IsSound allowance) (sym u_role) (sound_one (own given []) 0 (omega arith)))) (at_end (set s.views id w) u d j there);
       }
 
   pub settles : (slots id : ℕ) (m : M) → Allows Rule slots id m 0 (λ n. n) (settled start Right (step slots 0 0 0 none) m)
@@ -389,6 +449,7 @@ module _ {T Start A R : Type 0} (start : T → Start) (room : T → ℕ) (calls 
                 r.log,
                 (
                   subst (λ (y : T). AllRight Right (start y) r.log) (opened_is m.0 x known.0 e) r.right,
+                  (subst (IsSound allowance) is (r.each_sound id m.0 at)).1,
                   (λ n h. r.unmade n (let g = gathers.0 in omega arith)),
                   λ k o there. (gathers.2 k o there).calls,
                 ),
@@ -434,6 +495,14 @@ module _ {T Start A R : Type 0} (start : T → Start) (room : T → ℕ) (calls 
       let first_kept : (i : ℕ) (o' : Own A R) → get_elem? (kept ++ o ∷ []) i ≡ some o' → Owns r.log r.value r.next r.given r.gatherer owner' r.holder away id o' = λ i o' a.
       ⊎_elim (λ h. let k = gathers.2 i o' h in record { below = k.below; mine = put_else r.owner o.number id o'.number (λ e. apart_ (sym owns.mine ∙ (ap r.owner (sym e) ∙ k.mine))) ∙ k.mine; calls = k.calls })
       (λ (h : (i ≡ length kept) × (o ≡ o')). subst (Owns r.log r.value r.next r.given r.gatherer owner' r.holder away id) h.1 mine) (at_end kept o o' i a) in
+      let sound = subst (IsSound allowance) is (r.each_sound id v at) in
+      let sound' = subst (IsSound allowance) is' (r.each_sound other w there) in
+      let first_few : (i : ℕ) (o' : Own A R) → get_elem? (kept ++ o ∷ []) i ≡ some o' → length o'.calls + 0 ≤ allowance = λ i o' a.
+      ⊎_elim (λ h. sound.0 i o' h) (λ (h : (i ≡ length kept) × (o ≡ o')). subst (λ (x : Own A R). length x.calls + 0 ≤ allowance) h.1 (sound'.0 0 o refl)) (at_end kept o o' i a) in
+      let foreign : (i : ℕ) (o' : Own A R) → get_elem? kept i ≡ some o' → o'.number ≢ o.number = λ i o' a e. apart_ (sym owns.mine ∙ (ap r.owner (sym e) ∙ (gathers.2 i o' a).mine)) in
+      let first_once : EachOnce (kept ++ o ∷ []) = λ i k x y a a' e. ⊎_elim
+      (λ h. ⊎_elim (λ h'. sound.1 i k x y h h' e) (λ (h' : (k ≡ length kept) × (o ≡ y)). absurd (foreign i x h (e ∙ ap (λ (z : Own A R). z.number) (sym h'.1)))) (at_end kept o y k a'))
+      (λ (h : (i ≡ length kept) × (o ≡ x)). ⊎_elim (λ h'. absurd (foreign k y h' (sym e ∙ ap (λ (z : Own A R). z.number) (sym h.1)))) (λ (h' : (k ≡ length kept) × (o ≡ y)). h.0 ∙ sym h'.0) (at_end kept o y k a')) (at_end kept o x i a) in
       record {
         log = r.log;
         value = r.value;
@@ -458,6 +527,21 @@ module _ {T Start A R : Type 0} (start : T → Start) (room : T → ℕ) (calls 
             (λ j d not_id a' not_other. let k = r.each_seat j d a' in
             (k.0, kept_other r.log r.value r.next r.given r.gatherer id o.number other r.owner r.holder away j d.role gathers.1 owns.mine not_id not_other k.1)) j d a else_);
         unmade = r.unmade;
+        each_ticket = λ t low high. found_after (λ d. ticket_of d.role ≡ Some t) (set s.views id b) other w nobody (r.holder t) at' (λ h. let f : None ≡ Some t = sym (ap ticket_of is') ∙ h in cc)
+            (found_after (λ d. ticket_of d.role ≡ Some t) s.views id v b (r.holder t) at (λ h. let f : None ≡ Some t = sym (ap ticket_of is) ∙ h in cc) (r.each_ticket t low high));
+        each_number = λ n h. dite (ℕ_discrete n o.number)
+            (λ e. (
+              b,
+              subst (λ (i : ℕ). get_elem? (set (set s.views id b) other nobody) i ≡ some b) (sym (ap owner' e ∙ put_here r.owner o.number id))
+                  (set_else (set s.views id b) other id nobody (λ same. apart_ (sym same)) ∙ set_here s.views id b (inside s.views id v at)),
+              subst (λ (x : Role T A R). IsAmong n (numbers_of x)) (sym b_role) (length kept, o, at_last kept o (length kept) refl, sym e),
+            ))
+            (λ differ. subst (λ (i : ℕ). (d : V) × (get_elem? (set (set s.views id b) other nobody) i ≡ some d) × IsAmong n (numbers_of d.role)) (sym (put_else r.owner o.number id n differ))
+            (found_after (λ d. IsAmong n (numbers_of d.role)) (set s.views id b) other w nobody (r.owner n) at' (λ there. absurd (differ (sym (among_one n o (subst (IsAmong n) (ap numbers_of is') there)))))
+            (found_after (λ d. IsAmong n (numbers_of d.role)) s.views id v b (r.owner n) at
+            (λ there. let old : IsAmong n kept = subst (IsAmong n) (ap numbers_of is) there in subst (λ (x : Role T A R). IsAmong n (numbers_of x)) (sym b_role) (old.0, old.1, at_longer kept (o ∷ []) old.0 old.1 old.2, old.3)) (r.each_number n h))));
+        each_sound = views_stay (λ _ d. IsSound allowance d.role) (set s.views id b) other nobody ((λ k o' a. absurd (some-ne-none o' (sym a))), λ i k x y a. absurd (some-ne-none x (sym a)))
+            (λ j d _ there. views_stay (λ _ x. IsSound allowance x.role) s.views id b (subst (IsSound allowance) (sym b_role) (first_few, first_once)) (λ i x _ a. r.each_sound i x a) j d there);
       }
 
   pub starts : calls opened ≡ [] → seats * allowance ≤ room opened → Rule (opening (0 ∷ 0 ∷ []) (Some opened ∷ []) (gathering opened))
@@ -480,8 +564,15 @@ module _ {T Start A R : Type 0} (start : T → Start) (room : T → ℕ) (calls 
     home = inl refl;
     each_seat = λ j v a. first_only j v a;
     unmade = λ n h. refl;
+    each_ticket = λ t low high. absurd (omega arith);
+    each_number = λ n h. absurd (omega arith);
+    each_sound = λ j v a. first_sound j v a;
   }
     where
+      first_sound : (j : ℕ) (v : V) → get_elem? (gathering opened ∷ []) j ≡ some v → IsSound allowance v.role
+      first_sound zero v a = subst (λ (u : V). IsSound allowance u.role) (some-injective (gathering opened) v a) ((λ k o e. absurd (some-ne-none o (sym e))), λ i k x y e. absurd (some-ne-none x (sym e)))
+      first_sound (suc j) v a = absurd (some-ne-none v (sym a))
+
       first_only : (j : ℕ) (v : V) → get_elem? (gathering opened ∷ []) j ≡ some v → Opened v × Knows [] opened 0 0 0 (λ n. 0) (λ n. 0) ((some (Some opened) ∷ []) ≡ none ∷ []) j v.role
       first_only zero v a = subst (λ (u : V). Opened u × Knows [] opened 0 0 0 (λ n. 0) (λ n. 0) ((some (Some opened) ∷ []) ≡ none ∷ []) 0 u.role) (some-injective (gathering opened) v a)
           (inr refl, (refl, refl, λ k o e. absurd (some-ne-none o (sym e))))
@@ -504,7 +595,7 @@ module _ {T Start A R : Type 0} (start : T → Start) (room : T → ℕ) (calls 
         at_home,
         r.begun.0,
         subst (λ (l : List (Call A R)). IsHistoryOf Right (start opened) given kept l) (sym r.stored)
-            (r.right, (λ n h. r.unmade n (let g = gathers.0 in omega arith)), λ k o there. (gathers.2 k o there).calls),
+            (r.right, (subst (IsSound allowance) is (r.each_sound id v at)).1, (λ n h. r.unmade n (let g = gathers.0 in omega arith)), λ k o there. (gathers.2 k o there).calls),
       )
 
   pub closed : (ws : List ℕ) (xs : List (Option T)) (got : Option T) (id : ℕ) (v : V) (given : ℕ) → Final (Seen Rule id v) ws xs → v.role ≡ Gathers given (kept_of v.role) → AllBack given (kept_of v.role)

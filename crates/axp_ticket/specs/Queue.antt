@@ -40,6 +40,39 @@ abbrev pub total : {T A R : Type 0} → (Role T A R → ℕ) → List (View T A 
 total f [] = 0
 total f (v ∷ vs) = f v.role + total f vs
 
+module _ {T A R : Type 0} where
+  -- the ticket that the role has drawn
+  abbrev pub ticket_of : Role T A R → Option ℕ
+  ticket_of (Waits o t) = Some t
+  ticket_of (Turns o t v) = Some t
+  ticket_of _ = None
+
+  -- the calls that it has drawn tickets for and not made
+  abbrev pub pending : Role T A R → ℕ
+  pending (Waits o t) = 1
+  pending (Turns o t v) = 1
+  pending _ = 0
+
+  -- the numbers that stand in it, its own or those that it keeps
+  abbrev pub numbers_of : Role T A R → List (Own A R)
+  numbers_of (Idle o) = o ∷ []
+  numbers_of (Waits o t) = o ∷ []
+  numbers_of (Turns o t v) = o ∷ []
+  numbers_of (Gathers m kept) = kept
+  numbers_of Nobody = []
+
+-- the number is among these
+abbrev pub IsAmong : {A R : Type 0} → ℕ → List (Own A R) → Type 0
+IsAmong {A} {R} n os = (k : ℕ) × (o : Own A R) × (get_elem? os k ≡ some o) × (o.number ≡ n)
+
+-- each number is among these once at most
+abbrev pub EachOnce : {A R : Type 0} → List (Own A R) → Type 0
+EachOnce {A} {R} os = (i k : ℕ) (a b : Own A R) → get_elem? os i ≡ some a → get_elem? os k ≡ some b → a.number ≡ b.number → i ≡ k
+
+-- no number has more calls than it is allowed, and none stands twice
+abbrev pub IsSound : {T A R : Type 0} → ℕ → Role T A R → Type 0
+IsSound {T} {A} {R} allowance role = ((k : ℕ) (o : Own A R) → get_elem? (numbers_of role) k ≡ some o → length o.calls + pending role ≤ allowance) × EachOnce (numbers_of role)
+
 module _ {T A R : Type 0} (log : List (Call A R)) (value : T) (next made_ gatherer : ℕ) (owner holder : ℕ → ℕ) (away : Type 0) (j : ℕ) where
   pub record Owns (o : Own A R) : Type 0 where
     pub below : o.number < made_
@@ -73,6 +106,9 @@ module _ {T Start A R : Type 0} (start : T → Start) (room : T → ℕ) (calls 
     pub home : (s.homes ≡ some (Some value) ∷ []) ⊎ ((s.homes ≡ none ∷ []) × (j : ℕ) × (v : View T A R) × (o : Own A R) × (get_elem? s.views j ≡ some v) × (v.role ≡ Turns o (length log) value))
     pub each_seat : (j : ℕ) (v : View T A R) → get_elem? s.views j ≡ some v → ((v.opened ≡ None) ⊎ (v.opened ≡ Some opened)) × Knows log value next given gatherer owner holder (s.homes ≡ none ∷ []) j v.role
     pub unmade : (n : ℕ) → given ≤ n → calls_of n log ≡ []
+    pub each_ticket : (t : ℕ) → length log ≤ t → t < next → (v : View T A R) × (get_elem? s.views (holder t) ≡ some v) × (ticket_of v.role ≡ Some t)
+    pub each_number : (n : ℕ) → n < given → (v : View T A R) × (get_elem? s.views (owner n) ≡ some v) × IsAmong n (numbers_of v.role)
+    pub each_sound : (j : ℕ) (v : View T A R) → get_elem? s.views j ≡ some v → IsSound allowance v.role
 
 abbrev pub gathering : {T A R : Type 0} → T → View T A R
 gathering v = record { opened = Some v; role = Gathers 0 [] }
@@ -98,7 +134,7 @@ AllBack {A} {R} given kept = (n : ℕ) → n < given → (k : ℕ) × (o : Own A
 -- these calls, by their numbers, are those of the history, in which each call is right
 abbrev pub IsHistoryOf : {Start A R : Type 0} → (Start → List (Call A R) → ℕ → A → R → Type 0) → Start → ℕ → List (Own A R) → List (Call A R) → Type 0
 IsHistoryOf {Start} {A} {R} Right start given kept log =
-    AllRight Right start log × ((n : ℕ) → given ≤ n → calls_of n log ≡ []) × ((k : ℕ) (o : Own A R) → get_elem? kept k ≡ some o → o.calls ≡ calls_of o.number log)
+    AllRight Right start log × EachOnce kept × ((n : ℕ) → given ≤ n → calls_of n log ≡ []) × ((k : ℕ) (o : Own A R) → get_elem? kept k ≡ some o → o.calls ≡ calls_of o.number log)
 
 abbrev pub IsHistory : {Start A R : Type 0} → (Start → List (Call A R) → ℕ → A → R → Type 0) → Start → ℕ → List (Own A R) → Type 0
 IsHistory {Start} {A} {R} Right start given kept = (log : List (Call A R)) × IsHistoryOf Right start given kept log
