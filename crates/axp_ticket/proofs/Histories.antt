@@ -9,7 +9,8 @@ use Rattle.axp_call.specs.Calls.{caller}
 use Rattle.axp_ticket.specs.declared.board.Placed.{Placed}
 use Rattle.axp_ticket.specs.declared.board.Role.{Role}
 use Rattle.axp_ticket.specs.declared.board.View.{View}
-use Rattle.axp_ticket.specs.Queue.{placed, calls_from, calls_of, total}
+use Rattle.axp_ticket.specs.History.{placed, calls_from, calls_of}
+use Rattle.axp_ticket.specs.Queue.{total}
 
 abbrev pick : {P : Type 0} → Dec P → ℕ → ℕ → ℕ
 pick (yes _) a b = a

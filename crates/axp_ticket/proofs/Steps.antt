@@ -16,7 +16,9 @@ use Rattle.axp_ticket.specs.declared.board.Own.{Own}
 use Rattle.axp_ticket.specs.declared.board.Role.{Role}
 use Rattle.axp_ticket.specs.declared.board.Role.TheVariants.{Nobody, Idle, Waits, Turns, Gathers}
 use Rattle.axp_ticket.specs.declared.board.View.{View}
-use Rattle.axp_ticket.specs.Queue.{placed, own, calls_from, calls_of, rights, total, ticket_of, numbers_of, IsAmong, EachOnce, IsSound, Owns, Knows, Queued, gathering, own_of, kept_of, posed, drawn, looked, IsTaken, passed, settled, IsHistory, IsHistoryOf, AllBack, left_of, right_of, both_of, one_given, next_own, with_own, nobody}
+use Rattle.axp_ticket.specs.History.{placed, own, calls_from, calls_of, IsAmong, EachOnce, IsHistory, IsHistoryOf, AllBack}
+use Rattle.axp_ticket.specs.Moves.{own_of, kept_of, posed, drawn, looked, IsTaken, passed, settled, left_of, right_of, both_of, one_given, next_own, with_own, nobody}
+use Rattle.axp_ticket.specs.Queue.{rights, total, ticket_of, numbers_of, IsSound, Owns, Knows, Queued, gathering}
 use Rattle.axp_ticket.proofs.Histories.{put, put_here, put_else, calls_from-mine, calls_from-other, snoc_same, total_set, total_snoc, at_end, calls_from-before}
 
 module _ {T Start A R : Type 0} (start : T → Start) (room : T → ℕ) (calls : T → List (Call A R)) (Right : Start → List (Call A R) → ℕ → A → R → Type 0) (seats allowance : ℕ) (opened : T) where
@@ -580,7 +582,7 @@ module _ {T Start A R : Type 0} (start : T → Start) (room : T → ℕ) (calls 
 
   -- where each seat came back, the value is at home
   pub closes : (s : St) (id : ℕ) (v : V) (given : ℕ) → Rule s → get_elem? s.views id ≡ some v → v.role ≡ Gathers given (kept_of v.role) → AllBack given (kept_of v.role)
-      → (value : T) × (s.homes ≡ some (Some value) ∷ []) × (start value ≡ start opened) × IsHistoryOf Right (start opened) given (kept_of v.role) (calls value)
+      → (value : T) × (s.homes ≡ some (Some value) ∷ []) × ((start value ≡ start opened) × (room value ≡ room opened)) × IsHistoryOf Right (start opened) given (kept_of v.role) (calls value)
   closes s id v given r at is back =
       let known = r.each_seat id v at in
       let kept : List (Own A R) = kept_of v.role in
@@ -593,18 +595,18 @@ module _ {T Start A R : Type 0} (start : T → Start) (room : T → ℕ) (calls 
       (sym turns.0.mine ∙ (ap r.owner (sym found.3) ∙ (gathers.2 found.0 found.1 found.2).mine)))) r.home in (
         r.value,
         at_home,
-        r.begun.0,
+        r.begun,
         subst (λ (l : List (Call A R)). IsHistoryOf Right (start opened) given kept l) (sym r.stored)
             (r.right, (subst (IsSound allowance) is (r.each_sound id v at)).1, (λ n h. r.unmade n (let g = gathers.0 in omega arith)), λ k o there. (gathers.2 k o there).calls),
       )
 
   pub closed : (ws : List ℕ) (xs : List (Option T)) (got : Option T) (id : ℕ) (v : V) (given : ℕ) → Final (Seen Rule id v) ws xs → v.role ≡ Gathers given (kept_of v.role) → AllBack given (kept_of v.role)
-      → get_elem? xs 0 ≡ some got → (value : T) × (got ≡ Some value) × ((u : T) → got ≡ Some u → (start u ≡ start opened) × IsHistoryOf Right (start opened) given (kept_of v.role) (calls u))
+      → get_elem? xs 0 ≡ some got → (value : T) × (got ≡ Some value) × ((u : T) → got ≡ Some u → ((start u ≡ start opened) × (room u ≡ room opened)) × IsHistoryOf Right (start opened) given (kept_of v.role) (calls u))
   closed ws xs got id v given last is back there =
       let out = closes last.0 id v given last.1.0 last.1.1 is back in
       let same : got ≡ Some out.0 = some-injective got (Some out.0) (sym there ∙ last.4 0 (Some out.0) (ap (λ (h : List (mathlib.Core.Option.Option (Option T))). get_elem? h 0) out.1)) in (
         out.0,
         same,
         λ u e. let value_is : out.0 ≡ u = (let f : Some out.0 ≡ Some u = sym same ∙ e in cc) in
-            subst (λ (x : T). (start x ≡ start opened) × IsHistoryOf Right (start opened) given (kept_of v.role) (calls x)) value_is (out.2, out.3),
+            subst (λ (x : T). ((start x ≡ start opened) × (room x ≡ room opened)) × IsHistoryOf Right (start opened) given (kept_of v.role) (calls x)) value_is (out.2, out.3),
       )

@@ -9,7 +9,8 @@ use Rattle.axp_ticket.specs.declared.serving.Served.{Ghosts}
 use Rattle.axp_ticket.specs.declared.lock.TicketLock.{TicketLock}
 use Rattle.axp_ticket.specs.declared.lock.TicketSeats.{TicketSeats}
 use Rattle.axp_ticket.specs.declared.lock.TicketSeat.{TicketSeat}
-use Rattle.axp_ticket.specs.Queue.{IsPassOf, pass_kept, pass_calls, AllBack}
+use Rattle.axp_ticket.specs.History.{AllBack}
+use Rattle.axp_ticket.specs.Moves.{IsPassOf, pass_kept, pass_calls}
 
 module _ {T Start A R : Type 0} where
   abbrev pub lock_seats : TicketLock T Start A R → ℕ

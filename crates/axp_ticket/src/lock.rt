@@ -1,6 +1,6 @@
 //! The lock and its seats.
 ghost use Rattle.std.specs.Prelude.{◌≡◌, ℕ, ◌*◌, ◌<◌, ◌^◌};
-ghost use Rattle.axp_ticket.specs.Queue.{IsIdle, IsGathering};
+ghost use Rattle.axp_ticket.specs.Moves.{IsIdle, IsGathering};
 
 use crate::board::{InTurn, Opening, View};
 use crate::serving::Served;

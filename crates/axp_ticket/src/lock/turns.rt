@@ -5,7 +5,8 @@ ghost use mathlib.Core.Option.{some};
 ghost use Rattle.axp_call.specs.declared.calls.Call.{Call};
 ghost use Rattle.axp_call.specs.Calls.{IsCall};
 ghost use Rattle.axp_ticket.specs.declared.board.Role.TheVariants.{Idle, Waits, Turns};
-ghost use Rattle.axp_ticket.specs.Queue.{IsPassOf, IsIdle, IsGathering, IsSame, IsTaken, posed, own, own_of, placed, pass_calls, pass_kept, IsHistory, IsHistoryOf};
+ghost use Rattle.axp_ticket.specs.History.{own, placed, IsHistory, IsHistoryOf, IsOneHistory};
+ghost use Rattle.axp_ticket.specs.Moves.{IsPassOf, IsIdle, IsGathering, IsSame, IsTaken, posed, own_of, pass_calls, pass_kept};
 ghost use Rattle.axp_ticket.specs.Seats.{lock_seats, lock_allowance, lock_value, IsSeatsOf, IsSeatOf, seats_kept, seat_calls, AllHome, LaterThan};
 
 use super::{TicketLock, TicketSeat, TicketSeats};
@@ -29,7 +30,7 @@ impl<S: Served> TicketLock<S> {
         requires few { (1 ≤ seats) × (seats * allowance < 2 ^ 32) }
         requires room { seats * allowance ≤ S.room value }
         requires empty { S.calls value ≡ [] }
-        ensures lock { IfOk result (λ t. (lock_seats t.0 ≡ seats) × (lock_allowance t.0 ≡ allowance) × (S.start (lock_value t.0) ≡ S.start value)) }
+        ensures lock { IfOk result (λ t. (lock_seats t.0 ≡ seats) × (lock_allowance t.0 ≡ allowance) × (lock_value t.0 ≡ value)) }
         ensures gathering { IfOk result (λ t. IsSeatsOf t.0 t.1 × (t.1.given ≡ 0) × (seats_kept t.1 ≡ [])) }
     {
         let about = Opening {
@@ -159,6 +160,7 @@ impl<S: Served> TicketLock<S> {
         ensures seats { IsSeatsOf self.now seats.new × (seats.new.given ≡ seats.old.given) }
         ensures kept { seats_kept seats.new ≡ seats_kept seats.old ++ own seat.number (seat_calls seat) ∷ [] }
         ensures history { IsHistory S.Right (S.start (lock_value self.now)) seats.new.given (seats_kept seats.new) }
+        ensures whole { AllHome seats.new → (calls : List (Call S.Ask S.Answer)) × IsOneHistory S.Right (S.start (lock_value self.now)) (seats_kept seats.new) calls }
     {
         let TicketSeat { number: _, pass } = seat;
         self.table
@@ -171,8 +173,9 @@ impl<S: Served> TicketLock<S> {
     pub fn close(self, seats: TicketSeats<S>) -> S
         requires seats { IsSeatsOf self seats }
         requires home { AllHome seats }
-        ensures start { S.start result ≡ S.start (lock_value self) }
+        ensures same { (S.start result ≡ S.start (lock_value self)) × (S.room result ≡ S.room (lock_value self)) }
         ensures history { IsHistoryOf S.Right (S.start (lock_value self)) seats.given (seats_kept seats) (S.calls result) }
+        ensures whole { IsOneHistory S.Right (S.start (lock_value self)) (seats_kept seats) (S.calls result) }
     {
         let TicketLock { table, seats: _ } = self;
         let TicketSeats { given: _, pass } = seats;

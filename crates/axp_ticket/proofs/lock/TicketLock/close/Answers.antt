@@ -4,7 +4,10 @@ use lib.ListN.{get_elem?}
 use Rattle.std.specs.Option.{IsSome}
 use Rattle.axp_ticket.specs.declared.board.View.{View}
 use Rattle.axp_ticket.specs.declared.board.Role.TheVariants.{Idle, Waits, Turns, Gathers}
-use Rattle.axp_ticket.specs.Queue.{Queued, own, own_of, kept_of, with_own, IsHistory, IsHistoryOf}
+use Rattle.axp_ticket.specs.History.{own, IsHistory, IsHistoryOf}
+use Rattle.axp_ticket.specs.Moves.{own_of, kept_of, with_own}
+use Rattle.axp_ticket.specs.Queue.{Queued}
+use Rattle.axp_ticket.proofs.OneHistory.{one_history}
 use Rattle.axp_ticket.proofs.Steps.{closed}
 use Rattle.axp_ticket.proofs.lock.TicketLock.close.Goals as goal
 
@@ -13,10 +16,13 @@ unwrap-value-requires g c =
     let out = closed g.S.Served.start g.S.Served.room g.S.Served.calls g.S.Served.Right _ _ _ _ _ c.take.result _ _ c.args.seats.given c.close_with-closed.ensures.values.2 c.args.seats.gathers.0 c.requires.home c.take.ensures.value in
     subst IsSome (sym out.1) refl
 
-pub returns-clause-start : goal.returns-clause-start
-returns-clause-start g c =
+pub returns-clause-same : goal.returns-clause-same
+returns-clause-same g c =
     ((closed g.S.Served.start g.S.Served.room g.S.Served.calls g.S.Served.Right _ _ _ _ _ c.take.result _ _ c.args.seats.given c.close_with-closed.ensures.values.2 c.args.seats.gathers.0 c.requires.home c.take.ensures.value).2 _ c.unwrap-value.ensures).0
 
 pub returns-clause-history : goal.returns-clause-history
 returns-clause-history g c =
     ((closed g.S.Served.start g.S.Served.room g.S.Served.calls g.S.Served.Right _ _ _ _ _ c.take.result _ _ c.args.seats.given c.close_with-closed.ensures.values.2 c.args.seats.gathers.0 c.requires.home c.take.ensures.value).2 _ c.unwrap-value.ensures).1
+
+pub returns-clause-whole : goal.returns-clause-whole
+returns-clause-whole g c = one_history g.S.Served.Right _ _ _ _ (returns-clause-history g c) c.requires.home

@@ -4,7 +4,10 @@ use lib.ListN.{get_elem?}
 use Rattle.std.specs.Option.{IsSome}
 use Rattle.axp_ticket.specs.declared.board.View.{View}
 use Rattle.axp_ticket.specs.declared.board.Role.TheVariants.{Idle, Waits, Turns, Gathers}
-use Rattle.axp_ticket.specs.Queue.{Queued, own, own_of, kept_of, with_own, IsHistory, IsHistoryOf}
+use Rattle.axp_ticket.specs.History.{own, IsHistory, IsHistoryOf}
+use Rattle.axp_ticket.specs.Moves.{own_of, kept_of, with_own}
+use Rattle.axp_ticket.specs.Queue.{Queued}
+use Rattle.axp_ticket.proofs.OneHistory.{one_history}
 use Rattle.axp_ticket.proofs.Steps.{joins, settles, closes}
 use Rattle.axp_ticket.proofs.lock.TicketLock.give.Goals as goal
 
@@ -31,3 +34,6 @@ returns-clause-history g c =
     let opened : c.join_seat.new.seat.me.0.opened ≡ Some c.args.self.now.table.shared.key.value.value = ap (λ m. m.0.opened) c.join_seat.ensures.2 ∙ c.requires.seats.0.1 in
     subst (λ m. IsHistory g.S.Served.Right (g.S.Served.start c.args.self.now.table.shared.key.value.value) c.args.seats.now.given (kept_of m.0.role)) (sym c.load.ensures.2.0)
     (c.load.ensures.2.1 c.args.seats.now.given c.args.self.now.table.shared.key.value.value (role ∙ ap (λ l. Gathers c.args.seats.now.given l) (sym (ap kept_of role))) opened)
+
+pub returns-clause-whole : goal.returns-clause-whole
+returns-clause-whole g c home = let h = returns-clause-history g c in (h.0, one_history g.S.Served.Right _ _ _ h.0 h.1 home)

@@ -5,7 +5,9 @@ use lib.ListN.{get_elem?}
 use Rattle.axp_call.specs.Calls.{caller, IsCall}
 use Rattle.axp_ticket.specs.declared.board.Placed.{Placed}
 use Rattle.axp_ticket.specs.declared.board.Role.TheVariants.{Idle, Waits, Turns}
-use Rattle.axp_ticket.specs.Queue.{Queued, posed, own, own_of, placed, passed}
+use Rattle.axp_ticket.specs.History.{own, placed}
+use Rattle.axp_ticket.specs.Moves.{posed, own_of, passed}
+use Rattle.axp_ticket.specs.Queue.{Queued}
 use Rattle.axp_ticket.proofs.Steps.{passes}
 use Rattle.axp_ticket.proofs.lock.TicketLock.pass_on.Goals as goal
 

@@ -1,5 +1,6 @@
 use Rattle.std.proofs.Common.{◌≡◌, [], ◌∷◌, ◌++◌, sym, ap, ◌∙◌}
-use Rattle.axp_ticket.specs.Queue.{own_of, placed}
+use Rattle.axp_ticket.specs.History.{placed}
+use Rattle.axp_ticket.specs.Moves.{own_of}
 use Rattle.axp_ticket.proofs.lock.TicketLock.turn.Goals as goal
 
 pub pass_on-position-requires-clause-longer : goal.pass_on-position-requires-clause-longer

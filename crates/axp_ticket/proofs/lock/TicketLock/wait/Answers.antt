@@ -3,7 +3,9 @@ use Rattle.atomic_table.specs.Table.{Me, step, Allows, opening, rest}
 use mathlib.Core.Option.{none}
 use Rattle.axp_ticket.specs.declared.board.View.{View}
 use Rattle.axp_ticket.specs.declared.board.Role.TheVariants.{Idle, Waits, Turns}
-use Rattle.axp_ticket.specs.Queue.{Queued, gathering, posed, own, own_of, placed, passed, IsTaken}
+use Rattle.axp_ticket.specs.History.{own, placed}
+use Rattle.axp_ticket.specs.Moves.{posed, own_of, passed, IsTaken}
+use Rattle.axp_ticket.specs.Queue.{Queued, gathering}
 use Rattle.axp_ticket.proofs.Steps.{draws, looks, passes, splits, joins, settles, starts}
 use Rattle.axp_ticket.proofs.lock.TicketLock.wait.Goals as goal
 
