@@ -14,3 +14,6 @@ mod sharing;
 
 pub use lock::{TicketLock, TicketSeat, TicketSeats};
 pub use serving::Served;
+
+#[cfg(test)]
+mod tests;
