@@ -11,7 +11,7 @@ use Rattle.axp_ticket.specs.declared.board.Placed.{Placed}
 use Rattle.axp_ticket.specs.declared.board.Own.{Own}
 use Rattle.axp_ticket.specs.History.{placed, calls_from, calls_of, EachOnce, AllBack, IsHistoryOf, IsOneHistory}
 
-some_at : {X : Type 0} (l : List X) (n : ℕ) → n < length l → (x : X) × (get_elem? l n ≡ some x)
+pub some_at : {X : Type 0} (l : List X) (n : ℕ) → n < length l → (x : X) × (get_elem? l n ≡ some x)
 some_at [] n h = absurd (omega arith)
 some_at (x ∷ xs) zero h = (x, refl)
 some_at (x ∷ xs) (suc n) h = some_at xs n (omega arith)
@@ -73,7 +73,7 @@ module _ {A R : Type 0} where
       ordered (caller x == n) p x (calls_from n (suc p) xs) (λ k l a. let t = from_told n (suc p) xs k l a in let at = t.1 in omega arith) (λ k l a b c d h. from_ordered n (suc p) xs k l a b c d h) i j m m' e f less
 
 module _ {Start A R : Type 0} (Right : Start → List (Call A R) → ℕ → A → R → Type 0) (start : Start) (given : ℕ) (kept : List (Own A R)) (log : List (Call A R)) where
-  told_at : IsHistoryOf Right start given kept log → (k i : ℕ) (o : Own A R) (p : Placed A R) → get_elem? kept k ≡ some o → get_elem? o.calls i ≡ some p → (get_elem? log p.position ≡ some p.call) × (caller p.call ≡ o.number)
+  pub told_at : IsHistoryOf Right start given kept log → (k i : ℕ) (o : Own A R) (p : Placed A R) → get_elem? kept k ≡ some o → get_elem? o.calls i ≡ some p → (get_elem? log p.position ≡ some p.call) × (caller p.call ≡ o.number)
   told_at h k i o p at at' =
       let t = from_told o.number 0 log i p (ap (λ (l : List (Placed A R)). get_elem? l i) (sym (h.3 k o at)) ∙ at') in
       let where_ : p.position ≡ t.0 = t.1 ∙ zero-add t.0 in
@@ -83,7 +83,7 @@ module _ {Start A R : Type 0} (Right : Start → List (Call A R) → ℕ → A �
   in_order_at h k i j o p q at a b less =
       from_ordered o.number 0 log i j p q (ap (λ (l : List (Placed A R)). get_elem? l i) (sym (h.3 k o at)) ∙ a) (ap (λ (l : List (Placed A R)). get_elem? l j) (sym (h.3 k o at)) ∙ b) less
 
-  once_at : IsHistoryOf Right start given kept log → (k k' i i' : ℕ) (o o' : Own A R) (p p' : Placed A R) → get_elem? kept k ≡ some o → get_elem? kept k' ≡ some o' → get_elem? o.calls i ≡ some p → get_elem? o'.calls i' ≡ some p' → p.position ≡ p'.position → (k ≡ k') × (i ≡ i')
+  pub once_at : IsHistoryOf Right start given kept log → (k k' i i' : ℕ) (o o' : Own A R) (p p' : Placed A R) → get_elem? kept k ≡ some o → get_elem? kept k' ≡ some o' → get_elem? o.calls i ≡ some p → get_elem? o'.calls i' ≡ some p' → p.position ≡ p'.position → (k ≡ k') × (i ≡ i')
   once_at h k k' i i' o o' p p' at at' a a' e =
       let t = told_at h k i o p at a in
       let t' = told_at h k' i' o' p' at' a' in
