@@ -72,8 +72,7 @@ module _ {T Start A R : Type 0} (start : T → Start) (room : T → ℕ) (calls 
       (λ given. omega arith) in
       let found : (v : V) × (get_elem? s.views (r.owner number) ≡ some v) × IsAmong number (numbers_of v.role) = r.each_number number handed in
       let there : IsAmong number (numbers_of found.0.role) = found.2 in
-      let its : there.1.calls ≡ calls_of there.1.number r.log = (of_history (r.owner number) found.0 found.1).3 there.0 there.1 there.2 in
-      (
+      let its : there.1.calls ≡ calls_of there.1.number r.log = (of_history (r.owner number) found.0 found.1).3 there.0 there.1 there.2 in (
         r.owner number,
         there.0,
         among.0,

@@ -17,8 +17,9 @@ rights seats allowance Nobody = 0
 rights seats allowance (Idle o) = allowance - length o.calls
 rights seats allowance (Waits o t) = allowance - (length o.calls + 1)
 rights seats allowance (Turns o t v) = allowance - (length o.calls + 1)
-rights seats allowance (Gathers placed kept) = (seats - placed) * allowance
+rights seats allowance (Gathers given kept) = (seats - given) * allowance
 
+-- what the views have of this, in all
 abbrev pub total : {T A R : Type 0} → (Role T A R → ℕ) → List (View T A R) → ℕ
 total f [] = 0
 total f (v ∷ vs) = f v.role + total f vs
@@ -48,9 +49,11 @@ module _ {T A R : Type 0} where
 abbrev pub IsSound : {T A R : Type 0} → ℕ → Role T A R → Type 0
 IsSound {T} {A} {R} allowance role = ((k : ℕ) (o : Own A R) → get_elem? (numbers_of role) k ≡ some o → length o.calls + pending role ≤ allowance) × EachOnce (numbers_of role)
 
-module _ {T A R : Type 0} (log : List (Call A R)) (value : T) (next made_ gatherer : ℕ) (owner holder : ℕ → ℕ) (away : Type 0) (j : ℕ) where
+-- What the view j knows, where these are the calls so far, the value, the next ticket, how many numbers were handed out, and who gathers, owns a number and holds a ticket.
+module _ {T A R : Type 0} (log : List (Call A R)) (value : T) (next given_ gatherer : ℕ) (owner holder : ℕ → ℕ) (away : Type 0) (j : ℕ) where
+  -- it has this number, and all its calls
   pub record Owns (o : Own A R) : Type 0 where
-    pub below : o.number < made_
+    pub below : o.number < given_
     pub mine : owner o.number ≡ j
     pub calls : o.calls ≡ calls_of o.number log
 
@@ -59,31 +62,44 @@ module _ {T A R : Type 0} (log : List (Call A R)) (value : T) (next made_ gather
   Knows (Idle o) = Owns o
   Knows (Waits o t) = Owns o × (length log ≤ t) × (t < next) × (holder t ≡ j)
   Knows (Turns o t v) = Owns o × (t ≡ length log) × (t < next) × (holder t ≡ j) × (v ≡ value) × away
-  Knows (Gathers m kept) = (m ≡ made_) × (j ≡ gatherer) × ((k : ℕ) (o : Own A R) → get_elem? kept k ≡ some o → Owns o)
+  Knows (Gathers m kept) = (m ≡ given_) × (j ≡ gatherer) × ((k : ℕ) (o : Own A R) → get_elem? kept k ≡ some o → Owns o)
 
 module _ {T Start A R : Type 0} (start : T → Start) (room : T → ℕ) (calls : T → List (Call A R)) (Right : Start → List (Call A R) → ℕ → A → R → Type 0) (seats allowance : ℕ) (opened : T) where
+  -- What holds between any two steps. `owner` gives the view in which a number stands, `holder` the view that has a ticket.
   pub record Queued (s : State (Option T) (View T A R)) : Type 0 where
+    -- the calls so far, and the value that stores them, at home or as it was taken
     pub log : List (Call A R)
     pub value : T
+    -- the next ticket, how many numbers were handed out, and the view of the seat that gathers
     pub next : ℕ
     pub given : ℕ
     pub gatherer : ℕ
     pub owner : ℕ → ℕ
     pub holder : ℕ → ℕ
+    -- the ticket that is served is the number of calls so far
     pub words : s.words ≡ next ∷ length log ∷ []
     pub served : length log ≤ next
+    -- each call is right after those before it
     pub right : AllRight Right (start opened) log
     pub begun : (start value ≡ start opened) × (room value ≡ room opened)
     pub stored : calls value ≡ log
     pub few : given ≤ seats
+    -- no more tickets are ever drawn than all seats are allowed, for which the value has room
     pub bound : next + total (rights seats allowance) s.views ≤ seats * allowance
     pub ample : seats * allowance ≤ room opened
+    -- the value is at home, or away where a view has the turn
     pub home : (s.homes ≡ some (Some value) ∷ []) ⊎ ((s.homes ≡ none ∷ []) × (j : ℕ) × (v : View T A R) × (o : Own A R) × (get_elem? s.views j ≡ some v) × (v.role ≡ Turns o (length log) value))
+    -- what each view knows
     pub each_seat : (j : ℕ) (v : View T A R) → get_elem? s.views j ≡ some v → ((v.opened ≡ None) ⊎ (v.opened ≡ Some opened)) × Knows log value next given gatherer owner holder (s.homes ≡ none ∷ []) j v.role
+    -- a number that was not handed out has no calls
     pub unmade : (n : ℕ) → given ≤ n → calls_of n log ≡ []
+    -- each ticket from the one that is served on is held by a view
     pub each_ticket : (t : ℕ) → length log ≤ t → t < next → (v : View T A R) × (get_elem? s.views (holder t) ≡ some v) × (ticket_of v.role ≡ Some t)
+    -- each number that was handed out stands in a view
     pub each_number : (n : ℕ) → n < given → (v : View T A R) × (get_elem? s.views (owner n) ≡ some v) × IsAmong n (numbers_of v.role)
+    -- no number stands twice in a view or has more calls than it is allowed
     pub each_sound : (j : ℕ) (v : View T A R) → get_elem? s.views j ≡ some v → IsSound allowance v.role
 
+-- the view of the first seat, which gathers
 abbrev pub gathering : {T A R : Type 0} → T → View T A R
 gathering v = record { opened = Some v; role = Gathers 0 [] }

@@ -7,11 +7,13 @@
 #![tactic(auto)]
 
 mod board;
+mod laws;
 mod lock;
 mod plays;
 mod serving;
 mod sharing;
 
+pub use laws::{callers_are_in_order, each_call_is_right, kept_calls_fix_the_history};
 pub use lock::{TicketLock, TicketSeat, TicketSeats};
 pub use serving::Served;
 

@@ -20,7 +20,8 @@ use std::snapshot::Snapshot;
 use std::sync::Wait;
 
 impl<S: Served> TicketLock<S> {
-    /// A lock round a value without calls.
+    /// A lock round a value without calls, for so many seats with so many calls each, and all its
+    /// seats. [`NoMemory`] where memory was not found for the table; the value is dropped then.
     pub fn open(
         alloc: Global,
         value: S,
@@ -50,7 +51,8 @@ impl<S: Served> TicketLock<S> {
         }
     }
 
-    /// The seat of the least number that was not handed out.
+    /// The seat of the least number that was not handed out, from 0 on, without calls; `None` exactly
+    /// where all were handed out.
     pub fn next(&self, seats: &mut TicketSeats<S>) -> Option<TicketSeat<S>>
         requires { IsSeatsOf self.now seats.old }
         ensures kept { IsSeatsOf self.now seats.new × (seats_kept seats.new ≡ seats_kept seats.old) }
@@ -66,6 +68,7 @@ impl<S: Served> TicketLock<S> {
         Some(TicketSeat { number, pass })
     }
 
+    // Draws a ticket for one call more of the number.
     fn draw(&self, pass: &mut Seat<Option<S>, View<S, S::Ask, S::Answer>>, number: u8) -> u64
         requires own { IsPassOf self.now.table.shared.table_id self.now.table.shared.key.value.value pass.old }
         requires idle { IsIdle number pass.old }
@@ -77,7 +80,8 @@ impl<S: Served> TicketLock<S> {
         self.table.shared.fetch_add::<Draw>(pass, 0, 1)
     }
 
-    // Waits for the turn, and takes the value.
+    // Waits for the turn, and takes the value. It sleeps while the word that is served is the one just
+    // read, and each pass on changes that word before it wakes the sleepers, so no wake is lost.
     fn wait<R: Wait>(
         &self,
         rt: &R,
@@ -100,7 +104,8 @@ impl<S: Served> TicketLock<S> {
         unreachable!()
     }
 
-    // Gives the value back, one call longer, and passes the turn on.
+    // Gives the value back, one call longer, and passes the turn on. The snapshots have no bytes: they
+    // name what the value was and what was asked.
     fn pass_on(
         &self,
         pass: &mut Seat<Option<S>, View<S, S::Ask, S::Answer>>,
@@ -129,7 +134,9 @@ impl<S: Served> TicketLock<S> {
         position
     }
 
-    /// Waits for the turn, and has the value answer.
+    /// Waits for the turn, and has the value answer the ask. Gives the seat back, one call longer, with
+    /// the call's position among all calls, which is greater than those of the seat's earlier calls, and
+    /// the answer. No order is promised between seats, nor that a seat is ever served.
     pub fn turn<R: Wait>(
         &self,
         rt: &R,
@@ -153,7 +160,9 @@ impl<S: Served> TicketLock<S> {
         (TicketSeat { number, pass }, position as u32, answer)
     }
 
-    /// Takes a seat back. What the seats keep are calls of one history.
+    /// Takes a seat back with its calls. What the seats keep are calls of one history: each is right
+    /// after those before it. Once every seat that was handed out came back, the calls that are kept
+    /// have the positions from 0 without a gap, each once.
     pub fn give(&self, seats: &mut TicketSeats<S>, seat: TicketSeat<S>)
         requires seats { IsSeatsOf self.now seats.old }
         requires seat { IsSeatOf self.now seat }
@@ -169,7 +178,8 @@ impl<S: Served> TicketLock<S> {
         self.table.shared.load::<Settle<S>>(&mut seats.pass, 0);
     }
 
-    /// The value, with all calls.
+    /// The value, once every seat that was handed out came back. The calls that it stores are those of
+    /// the seats, each at its position.
     pub fn close(self, seats: TicketSeats<S>) -> S
         requires seats { IsSeatsOf self seats }
         requires home { AllHome seats }
