@@ -13,11 +13,11 @@ use Rattle.axp_ticket.proofs.lock.TicketLock.give.Goals as goal
 
 pub join_seat-requires : goal.join_seat-requires
 join_seat-requires g c = (
-  c.requires.seats.0.0,
-  c.requires.seat.0,
-  c.args.seat.idle.2,
   search rules,
-  joins g.S.Served.start g.S.Served.room g.S.Served.calls g.S.Served.Right _ _ _ _ _ _ _ c.args.seats.now.given c.args.seats.now.gathers.0 c.args.seat.idle.0,
+  search rules,
+  search rules,
+  search rules,
+  joins g.S.Served.start g.S.Served.room g.S.Served.calls g.S.Served.Right _ _ _ _ _ _ _ c.args.seats.now.given c.args.seats.now.gathers.0 (search rules),
 )
 
 pub load-requires : goal.load-requires
