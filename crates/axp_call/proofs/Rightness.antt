@@ -1,5 +1,5 @@
 -- A list of calls, each of which is right, one call longer.
-use Rattle.std.proofs.Common.{◌≡◌, ℕ, List, [], ◌∷◌, ◌++◌, suc, ◌+◌, length, ◌⊎◌, ⊎_elim, inl, inr, sym, refl, ap, ◌∙◌, subst, arith, append_assoc, append-nil, length-append}
+use Rattle.std.proofs.Common.{◌≡◌, ℕ, List, [], ◌∷◌, ◌++◌, suc, length, ◌⊎◌, ⊎_elim, inl, inr, sym, refl, ap, ◌∙◌, subst, arith, append_assoc, append-nil, length-append}
 use Rattle.axp_call.specs.declared.calls.Call.{Call}
 use Rattle.axp_call.specs.Calls.{caller, RightAfter, AllRight, EachRight}
 

@@ -1,5 +1,5 @@
 -- The rule has all its parts.
-use Rattle.std.proofs.Common.{◌≡◌, ◌⊎◌, ⊎_elim, inl, inr, ℕ, zero, suc, ◌+◌, ◌<◌, ◌≤◌, List, [], ◌∷◌, length, sym, refl, ap, ◌∙◌, subst, arith, Option, Some, None}
+use Rattle.std.proofs.Common.{◌≡◌, ⊎_elim, inl, inr, ℕ, zero, suc, ◌+◌, ◌<◌, ◌≤◌, List, [], ◌∷◌, length, sym, refl, ap, ◌∙◌, subst, arith, Option, Some, None}
 use mathlib.Core.Logic.{dite}
 use native.Mathlib.Decide.{dec_le}
 use mathlib.Core.Option.{some, none, some-injective, some-ne-none}
@@ -13,8 +13,8 @@ use Rattle.axp_ticket.specs.declared.board.Own.{Own}
 use Rattle.axp_ticket.specs.declared.board.Role.{Role}
 use Rattle.axp_ticket.specs.declared.board.Role.TheVariants.{Nobody, Idle, Waits, Turns, Gathers}
 use Rattle.axp_ticket.specs.declared.board.View.{View}
-use Rattle.axp_ticket.specs.History.{placed, calls_of, IsAmong, EachOnce, IsHistoryOf}
-use Rattle.axp_ticket.specs.Queue.{ticket_of, pending, numbers_of, Owns, Knows, Queued}
+use Rattle.axp_ticket.specs.History.{placed, calls_of, IsAmong, IsHistoryOf}
+use Rattle.axp_ticket.specs.Queue.{ticket_of, numbers_of, Owns, Knows, Queued}
 use Rattle.axp_ticket.specs.Parts.{HasView, HasCall, IsInOrder}
 use Rattle.axp_ticket.proofs.OneHistory.{some_at, from_whole, told_at, once_at}
 

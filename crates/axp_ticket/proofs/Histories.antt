@@ -1,6 +1,5 @@
 -- Histories one call longer, totals after a change of one view, and a function changed at one number.
-use Rattle.std.proofs.Common.{◌≡◌, ◌≢◌, ℕ, zero, suc, ◌+◌, ◌-◌, ◌*◌, ◌<◌, ◌≤◌, ◌==◌, if◌then◌else◌, true, false, List, [], ◌∷◌, ◌++◌, length, set, get_or, sym, refl, ap, ◌∙◌, subst, arith, eqb, eq-eqb, ne_eqb, append_assoc, append-nil, add-zero, Bool, ◌⊎◌, ⊎_elim, inl, inr}
-use mathlib.Core.Logic.{dite}
+use Rattle.std.proofs.Common.{◌≡◌, ◌≢◌, ℕ, zero, suc, ◌+◌, ◌<◌, ◌==◌, if◌then◌else◌, true, false, List, [], ◌∷◌, ◌++◌, length, set, sym, refl, ap, ◌∙◌, arith, eq-eqb, ne_eqb, add-zero, Bool, ◌⊎◌, ⊎_elim, inl, inr}
 use mathlib.Core.Option.{some, some-injective, some-ne-none}
 use native.Mathlib.Decide.{ℕ_discrete}
 use lib.ListN.{get_elem?}
@@ -9,7 +8,7 @@ use Rattle.axp_call.specs.Calls.{caller}
 use Rattle.axp_ticket.specs.declared.board.Placed.{Placed}
 use Rattle.axp_ticket.specs.declared.board.Role.{Role}
 use Rattle.axp_ticket.specs.declared.board.View.{View}
-use Rattle.axp_ticket.specs.History.{placed, calls_from, calls_of}
+use Rattle.axp_ticket.specs.History.{placed, calls_from}
 use Rattle.axp_ticket.specs.Queue.{total}
 
 abbrev pick : {P : Type 0} → Dec P → ℕ → ℕ → ℕ

@@ -1,5 +1,5 @@
 -- Where every number came back, the calls that are kept are those of one history.
-use Rattle.std.proofs.Common.{◌≡◌, ◌≢◌, ◌⊎◌, ⊎_elim, inl, inr, ℕ, zero, suc, ◌+◌, ◌<◌, ◌≤◌, ◌==◌, if◌then◌else◌, true, false, Bool, List, [], ◌∷◌, length, sym, refl, ap, ◌∙◌, subst, arith, eqb, eq-eqb, ne_eqb, zero-add, add-zero}
+use Rattle.std.proofs.Common.{◌≡◌, ◌⊎◌, ⊎_elim, inl, inr, ℕ, zero, suc, ◌+◌, ◌<◌, ◌==◌, if◌then◌else◌, true, false, Bool, List, [], ◌∷◌, length, sym, refl, ap, ◌∙◌, subst, arith, eq-eqb, ne_eqb, zero-add, add-zero}
 use mathlib.Core.Logic.{dite}
 use mathlib.Core.Option.{some, some-injective, some-ne-none}
 use native.Mathlib.Decide.{ℕ_discrete, dec_le}
@@ -9,7 +9,7 @@ use Rattle.axp_call.specs.Calls.{caller}
 use Rattle.axp_call.proofs.Rightness.{all_right_each}
 use Rattle.axp_ticket.specs.declared.board.Placed.{Placed}
 use Rattle.axp_ticket.specs.declared.board.Own.{Own}
-use Rattle.axp_ticket.specs.History.{placed, calls_from, calls_of, EachOnce, AllBack, IsHistoryOf, IsOneHistory}
+use Rattle.axp_ticket.specs.History.{placed, calls_from, calls_of, AllBack, IsHistoryOf, IsOneHistory}
 
 pub some_at : {X : Type 0} (l : List X) (n : ℕ) → n < length l → (x : X) × (get_elem? l n ≡ some x)
 some_at [] n h = absurd (omega arith)

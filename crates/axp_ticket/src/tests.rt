@@ -75,6 +75,31 @@ fn two_threads_count(rt: HostRuntime) -> Result<(), Fail> {
 }
 
 #[test]
+fn three_seats_of_one_thread(rt: HostRuntime) -> Result<(), Fail> {
+    let counter = Counter::new(rt.alloc(), 0, 6)?;
+    let (lock, mut seats) = TicketLock::open(rt.alloc(), counter, 3, 2)?;
+    let first = lock.next(&mut seats).unwrap();
+    let second = lock.next(&mut seats).unwrap();
+    let third = lock.next(&mut seats).unwrap();
+    let (third, position, answer) = lock.turn(&rt, third, 9);
+    assert_eq!(rt; (position, answer), (0, 0));
+    let (first, position, answer) = lock.turn(&rt, first, 8);
+    assert_eq!(rt; (position, answer), (1, 1));
+    let (third, position, answer) = lock.turn(&rt, third, 7);
+    assert_eq!(rt; (position, answer), (2, 2));
+    lock.give(&mut seats, first);
+    lock.give(&mut seats, second);
+    lock.give(&mut seats, third);
+    let counter = lock.close(seats);
+    let mut asks = Vec::new(rt.alloc());
+    for call in &counter.calls {
+        asks.push((call.cpu.number(), call.ask))?;
+    }
+    assert_eq!(rt; asks.as_slice(), [(2, 9), (0, 8), (2, 7)].as_slice());
+    Ok(())
+}
+
+#[test]
 fn a_lock_is_shared_and_its_seats_are_sent(_rt: HostRuntime) {
     wrapper_is_sync::<Counter>();
     seat_is_send::<Counter>();

@@ -1,4 +1,4 @@
-use Rattle.std.proofs.Common.{rules, ◌≡◌, ℕ, ◌+◌, ◌∷◌, [], ◌++◌, sym, ap, ◌∙◌, subst, arith}
+use Rattle.std.proofs.Common.{rules, ℕ, sym, ◌∙◌, subst}
 use Rattle.axp_ticket.specs.History.{own, AllBack}
 use Rattle.axp_ticket.specs.Seats.{seat_calls, seats_kept}
 use Rattle.axp_ticket.proofs.Backs.{none_out, one_more_back}

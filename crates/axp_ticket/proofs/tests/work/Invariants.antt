@@ -1,4 +1,4 @@
-use Rattle.std.proofs.Common.{◌≡◌, length, []}
+use Rattle.std.proofs.Common.{◌≡◌, length}
 use Rattle.axp_ticket.specs.Seats.{IsSeatOf, seat_calls}
 use Rattle.axp_ticket.proofs.tests.work.Given as goal
 

@@ -1,14 +1,7 @@
-use Rattle.std.proofs.Common.{rules, ◌≡◌, ℕ, ◌+◌, ◌*◌, ◌%◌, ◌<◌, ◌≤◌, ◌^◌, List, [], ◌∷◌, ◌++◌, length, Some, None, Option, sym, ap, ◌∙◌, subst, arith, refl}
-use mathlib.Core.Option.{none, some, some-injective}
-use lib.ListN.{get_elem?}
+use Rattle.std.proofs.Common.{sym, subst, refl}
 use Rattle.std.specs.Option.{IsSome}
-use Rattle.axp_ticket.specs.declared.board.View.{View}
-use Rattle.axp_ticket.specs.declared.board.Role.TheVariants.{Idle, Waits, Turns, Gathers}
-use Rattle.axp_ticket.specs.History.{own, IsHistory, IsHistoryOf}
-use Rattle.axp_ticket.specs.Moves.{own_of, kept_of, with_own}
-use Rattle.axp_ticket.specs.Queue.{Queued}
 use Rattle.axp_ticket.proofs.OneHistory.{one_history}
-use Rattle.axp_ticket.proofs.Steps.{closed}
+use Rattle.axp_ticket.proofs.Ends.{closed}
 use Rattle.axp_ticket.proofs.lock.TicketLock.close.Goals as goal
 
 pub unwrap-value-requires : goal.unwrap-value-requires

@@ -1,14 +1,9 @@
-use Rattle.std.proofs.Common.{rules, ◌≡◌, ℕ, ◌+◌, ◌*◌, ◌%◌, ◌<◌, ◌≤◌, ◌^◌, List, [], ◌∷◌, ◌++◌, length, Some, None, Option, sym, ap, ◌∙◌, subst, arith, refl}
-use mathlib.Core.Option.{none, some, some-injective}
-use lib.ListN.{get_elem?}
-use Rattle.std.specs.Option.{IsSome}
-use Rattle.axp_ticket.specs.declared.board.View.{View}
-use Rattle.axp_ticket.specs.declared.board.Role.TheVariants.{Idle, Waits, Turns, Gathers}
-use Rattle.axp_ticket.specs.History.{own, IsHistory, IsHistoryOf}
+use Rattle.std.proofs.Common.{rules, ◌≡◌, [], ◌∷◌, ◌++◌, Some, sym, ap, ◌∙◌, subst}
+use Rattle.axp_ticket.specs.declared.board.Role.TheVariants.{Gathers}
+use Rattle.axp_ticket.specs.History.{IsHistory}
 use Rattle.axp_ticket.specs.Moves.{own_of, kept_of, with_own}
-use Rattle.axp_ticket.specs.Queue.{Queued}
 use Rattle.axp_ticket.proofs.OneHistory.{one_history}
-use Rattle.axp_ticket.proofs.Steps.{joins, settles, closes}
+use Rattle.axp_ticket.proofs.Seating.{joins, settles}
 use Rattle.axp_ticket.proofs.lock.TicketLock.give.Goals as goal
 
 pub join_seat-requires : goal.join_seat-requires

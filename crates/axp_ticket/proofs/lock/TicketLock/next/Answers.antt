@@ -1,12 +1,5 @@
-use Rattle.std.proofs.Common.{rules, ◌≡◌, ℕ, ◌+◌, ◌*◌, ◌%◌, ◌<◌, ◌≤◌, ◌^◌, List, [], ◌∷◌, ◌++◌, length, Some, None, Option, sym, ap, ◌∙◌, subst, arith}
-use Rattle.atomic_table.specs.Table.{Me, step, Allows, opening, rest}
-use mathlib.Core.Option.{none}
-use Rattle.axp_ticket.specs.declared.board.View.{View}
-use Rattle.axp_ticket.specs.declared.board.Role.TheVariants.{Idle, Waits, Turns}
-use Rattle.axp_ticket.specs.History.{own, placed}
-use Rattle.axp_ticket.specs.Moves.{posed, own_of, passed, IsTaken}
-use Rattle.axp_ticket.specs.Queue.{Queued, gathering}
-use Rattle.axp_ticket.proofs.Steps.{draws, looks, passes, splits, joins, settles, starts}
+use Rattle.std.proofs.Common.{rules, arith}
+use Rattle.axp_ticket.proofs.Seating.{splits}
 use Rattle.axp_ticket.proofs.lock.TicketLock.next.Goals as goal
 
 pub returns-then-seats-self-clause-none : goal.returns-then-seats-self-clause-none

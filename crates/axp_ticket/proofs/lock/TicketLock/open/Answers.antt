@@ -1,12 +1,7 @@
-use Rattle.std.proofs.Common.{rules, ◌≡◌, ℕ, ◌+◌, ◌*◌, ◌%◌, ◌<◌, ◌≤◌, ◌^◌, List, [], ◌∷◌, ◌++◌, length, Some, None, Option, sym, ap, ◌∙◌, subst, arith}
-use Rattle.atomic_table.specs.Table.{Me, step, Allows, opening, rest}
-use mathlib.Core.Option.{none}
-use Rattle.axp_ticket.specs.declared.board.View.{View}
-use Rattle.axp_ticket.specs.declared.board.Role.TheVariants.{Idle, Waits, Turns}
-use Rattle.axp_ticket.specs.History.{own, placed}
-use Rattle.axp_ticket.specs.Moves.{posed, own_of, passed, IsTaken}
+use Rattle.std.proofs.Common.{◌≡◌, ◌*◌, ◌≤◌, [], ◌∷◌, ◌++◌, Some, sym, ap, ◌∙◌, subst}
+use Rattle.atomic_table.specs.Table.{opening}
 use Rattle.axp_ticket.specs.Queue.{Queued, gathering}
-use Rattle.axp_ticket.proofs.Steps.{draws, looks, passes, splits, joins, settles, starts}
+use Rattle.axp_ticket.proofs.Ends.{starts}
 use Rattle.axp_ticket.proofs.lock.TicketLock.open.Goals as goal
 
 pub new-requires : goal.new-requires

@@ -1,14 +1,13 @@
-use Rattle.std.proofs.Common.{rules, ◌≡◌, ℕ, ◌+◌, ◌*◌, ◌%◌, ◌<◌, ◌≤◌, ◌^◌, List, [], ◌∷◌, ◌++◌, length, Some, None, Option, sym, refl, ap, ◌∙◌, subst, arith}
-use Rattle.atomic_table.specs.Table.{Me, step, Allows, opening, rest}
+use Rattle.std.proofs.Common.{rules, ◌≡◌, ℕ, ◌+◌, ◌%◌, ◌<◌, ◌^◌, [], ◌∷◌, ◌++◌, Some, sym, refl, ap, ◌∙◌, subst}
+use Rattle.atomic_table.specs.Table.{step, Allows, rest}
 use mathlib.Core.Option.{none, some}
 use lib.ListN.{get_elem?}
-use Rattle.axp_call.specs.Calls.{caller, IsCall}
 use Rattle.axp_ticket.specs.declared.board.Placed.{Placed}
-use Rattle.axp_ticket.specs.declared.board.Role.TheVariants.{Idle, Waits, Turns}
+use Rattle.axp_ticket.specs.declared.board.Role.TheVariants.{Idle}
 use Rattle.axp_ticket.specs.History.{own, placed}
 use Rattle.axp_ticket.specs.Moves.{posed, own_of, passed}
 use Rattle.axp_ticket.specs.Queue.{Queued}
-use Rattle.axp_ticket.proofs.Steps.{passes}
+use Rattle.axp_ticket.proofs.Queueing.{passes}
 use Rattle.axp_ticket.proofs.lock.TicketLock.pass_on.Goals as goal
 
 pub fetch_add-position-requires : goal.fetch_add-position-requires

@@ -1,4 +1,4 @@
-use Rattle.std.proofs.Common.{◌≡◌, [], ◌∷◌, ◌++◌, sym, ap, ◌∙◌}
+use Rattle.std.proofs.Common.{[], ◌∷◌, ◌++◌, sym, ap, ◌∙◌}
 use Rattle.axp_ticket.specs.History.{placed}
 use Rattle.axp_ticket.specs.Moves.{own_of}
 use Rattle.axp_ticket.proofs.lock.TicketLock.turn.Goals as goal

@@ -1,4 +1,4 @@
-use Rattle.std.proofs.Common.{rules, ◌≡◌, ◌+◌, ℕ, refl, sym, ap, ◌∙◌, subst, length}
+use Rattle.std.proofs.Common.{rules, refl, sym, subst}
 use Rattle.axp_call.proofs.Rightness.{each_right_append}
 use Rattle.axp_ticket.specs.Counting.{CountRight}
 use Rattle.axp_call.specs.Calls.{EachRight}
