@@ -29,8 +29,15 @@ module _ {T Start A R : Type 0} {g : Ghosts T Start A R} where
   abbrev pub IsSeatOf : TicketLock T Start A R → TicketSeat T Start A R g → Type 0
   IsSeatOf l s = IsPassOf l.table.shared.table_id (lock_value l) s.pass
 
+  -- how many seats were handed out, which is the number of the next
+  abbrev pub seats_given : TicketSeats T Start A R g → ℕ
+  seats_given s = s.given
+
   abbrev pub seats_kept : TicketSeats T Start A R g → List (Own A R)
   seats_kept s = pass_kept s.pass
+
+  abbrev pub seat_number : TicketSeat T Start A R g → ℕ
+  seat_number s = s.number
 
   abbrev pub seat_calls : TicketSeat T Start A R g → List (Placed A R)
   seat_calls s = pass_calls s.pass
