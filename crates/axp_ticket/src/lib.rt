@@ -1,0 +1,21 @@
+//! A lock that serves its callers in one order, and keeps one history of their calls.
+//!
+//! The lock is generic over the value that it serves ([`Served`]). Each call of a seat has one
+//! position in the history; the value's answer is right after the calls before it. A seat that waits
+//! for its turn sleeps on the word of the ticket that is served, and each pass on wakes the sleepers:
+//! a sleep begins only while that word is the one that the seat has just read, so no wake is lost.
+#![tactic(auto)]
+
+mod board;
+mod laws;
+mod lock;
+mod plays;
+mod serving;
+mod sharing;
+
+pub use laws::{callers_are_in_order, each_call_is_right, kept_calls_fix_the_history};
+pub use lock::{TicketLock, TicketSeat, TicketSeats};
+pub use serving::Served;
+
+#[cfg(test)]
+mod tests;
