@@ -7,7 +7,7 @@ ghost use Rattle.axp_call.specs.Calls.{IsCall};
 ghost use Rattle.axp_ticket.specs.declared.board.Role.TheVariants.{Idle, Waits, Turns};
 ghost use Rattle.axp_ticket.specs.History.{own, placed, IsHistory, IsHistoryOf, IsOneHistory};
 ghost use Rattle.axp_ticket.specs.Moves.{IsPassOf, IsIdle, IsGathering, IsSame, IsTaken, posed, own_of, pass_calls, pass_kept};
-ghost use Rattle.axp_ticket.specs.Seats.{lock_seats, lock_allowance, lock_value, IsSeatsOf, IsSeatOf, seats_kept, seat_calls, AllHome, LaterThan};
+ghost use Rattle.axp_ticket.specs.Seats.{lock_seats, lock_allowance, lock_value, IsSeatsOf, IsSeatOf, seats_given, seats_kept, seat_number, seat_calls, AllHome, LaterThan};
 
 use super::{TicketLock, TicketSeat, TicketSeats};
 use crate::board::{Opening, View};
@@ -32,7 +32,7 @@ impl<S: Served> TicketLock<S> {
         requires room { seats * allowance ≤ S.room value }
         requires empty { S.calls value ≡ [] }
         ensures lock { IfOk result (λ t. (lock_seats t.0 ≡ seats) × (lock_allowance t.0 ≡ allowance) × (lock_value t.0 ≡ value)) }
-        ensures gathering { IfOk result (λ t. IsSeatsOf t.0 t.1 × (t.1.given ≡ 0) × (seats_kept t.1 ≡ [])) }
+        ensures gathering { IfOk result (λ t. IsSeatsOf t.0 t.1 × (seats_given t.1 ≡ 0) × (seats_kept t.1 ≡ [])) }
     {
         let about = Opening {
             seats,
@@ -56,8 +56,8 @@ impl<S: Served> TicketLock<S> {
     pub fn next(&self, seats: &mut TicketSeats<S>) -> Option<TicketSeat<S>>
         requires { IsSeatsOf self.now seats.old }
         ensures kept { IsSeatsOf self.now seats.new × (seats_kept seats.new ≡ seats_kept seats.old) }
-        ensures none { IfNone result ((seats.old.given ≡ lock_seats self.now) × (seats.new.given ≡ seats.old.given)) }
-        ensures some { IfSome result (λ s. (s.number ≡ seats.old.given) × (seats.old.given < lock_seats self.now) × (seats.new.given ≡ seats.old.given + 1) × IsSeatOf self.now s × (seat_calls s ≡ [])) }
+        ensures none { IfNone result ((seats_given seats.old ≡ lock_seats self.now) × (seats_given seats.new ≡ seats_given seats.old)) }
+        ensures some { IfSome result (λ s. (seat_number s ≡ seats_given seats.old) × (seats_given seats.old < lock_seats self.now) × (seats_given seats.new ≡ seats_given seats.old + 1) × IsSeatOf self.now s × (seat_calls s ≡ [])) }
     {
         if seats.given >= self.seats {
             return None;
@@ -144,10 +144,10 @@ impl<S: Served> TicketLock<S> {
         ask: S::Ask,
     ) -> (TicketSeat<S>, u32, S::Answer)
         requires seat { IsSeatOf self.now seat }
-        requires fits { S.Fits (S.start (lock_value self.now)) seat.number ask }
+        requires fits { S.Fits (S.start (lock_value self.now)) (seat_number seat) ask }
         requires few { length (seat_calls seat) < lock_allowance self.now }
-        ensures seat { IsSeatOf self.now result.0 × (result.0.number ≡ seat.number) }
-        ensures call { (c : Call S.Ask S.Answer) × IsCall seat.number ask result.2 c × (seat_calls result.0 ≡ seat_calls seat ++ placed result.1 c ∷ []) }
+        ensures seat { IsSeatOf self.now result.0 × (seat_number result.0 ≡ seat_number seat) }
+        ensures call { (c : Call S.Ask S.Answer) × IsCall (seat_number seat) ask result.2 c × (seat_calls result.0 ≡ seat_calls seat ++ placed result.1 c ∷ []) }
         ensures later { LaterThan seat result.1 }
     {
         let TicketSeat { number, mut pass } = seat;
@@ -166,9 +166,9 @@ impl<S: Served> TicketLock<S> {
     pub fn give(&self, seats: &mut TicketSeats<S>, seat: TicketSeat<S>)
         requires seats { IsSeatsOf self.now seats.old }
         requires seat { IsSeatOf self.now seat }
-        ensures seats { IsSeatsOf self.now seats.new × (seats.new.given ≡ seats.old.given) }
-        ensures kept { seats_kept seats.new ≡ seats_kept seats.old ++ own seat.number (seat_calls seat) ∷ [] }
-        ensures history { IsHistory S.Right (S.start (lock_value self.now)) seats.new.given (seats_kept seats.new) }
+        ensures seats { IsSeatsOf self.now seats.new × (seats_given seats.new ≡ seats_given seats.old) }
+        ensures kept { seats_kept seats.new ≡ seats_kept seats.old ++ own (seat_number seat) (seat_calls seat) ∷ [] }
+        ensures history { IsHistory S.Right (S.start (lock_value self.now)) (seats_given seats.new) (seats_kept seats.new) }
         ensures whole { AllHome seats.new → (calls : List (Call S.Ask S.Answer)) × IsOneHistory S.Right (S.start (lock_value self.now)) (seats_kept seats.new) calls }
     {
         let TicketSeat { number: _, pass } = seat;
@@ -184,7 +184,7 @@ impl<S: Served> TicketLock<S> {
         requires seats { IsSeatsOf self seats }
         requires home { AllHome seats }
         ensures same { (S.start result ≡ S.start (lock_value self)) × (S.room result ≡ S.room (lock_value self)) }
-        ensures history { IsHistoryOf S.Right (S.start (lock_value self)) seats.given (seats_kept seats) (S.calls result) }
+        ensures history { IsHistoryOf S.Right (S.start (lock_value self)) (seats_given seats) (seats_kept seats) (S.calls result) }
         ensures whole { IsOneHistory S.Right (S.start (lock_value self)) (seats_kept seats) (S.calls result) }
     {
         let TicketLock { table, seats: _ } = self;
