@@ -8,9 +8,11 @@ use Rattle.axp_ticket.specs.declared.board.Placed.{Placed}
 use Rattle.axp_ticket.specs.declared.board.Own.{Own}
 
 module _ {A R : Type 0} where
+  -- a call at its position
   abbrev pub placed : ℕ → Call A R → Placed A R
   placed p c = record { position = p; call = c }
 
+  -- a number and its calls
   abbrev pub own : ℕ → List (Placed A R) → Own A R
   own n cs = record { number = n; calls = cs }
 
@@ -19,6 +21,7 @@ module _ {A R : Type 0} where
   calls_from n p [] = []
   calls_from n p (c ∷ cs) = if caller c == n then placed p c ∷ calls_from n (suc p) cs else calls_from n (suc p) cs
 
+  -- the calls of the number n, each with its position
   abbrev pub calls_of : ℕ → List (Call A R) → List (Placed A R)
   calls_of n log = calls_from n 0 log
 
@@ -34,11 +37,12 @@ EachOnce {A} {R} os = (i k : ℕ) (a b : Own A R) → get_elem? os i ≡ some a 
 abbrev pub AllBack : {A R : Type 0} → ℕ → List (Own A R) → Type 0
 AllBack {A} {R} given kept = (n : ℕ) → n < given → (k : ℕ) × (o : Own A R) × (get_elem? kept k ≡ some o) × (o.number ≡ n)
 
--- these calls, by their numbers, are those of the history, in which each call is right
+-- Each call of this list is right after those before it. A number that was not handed out has no calls in it, and each number that is kept has exactly its calls in it, each with its position.
 abbrev pub IsHistoryOf : {Start A R : Type 0} → (Start → List (Call A R) → ℕ → A → R → Type 0) → Start → ℕ → List (Own A R) → List (Call A R) → Type 0
 IsHistoryOf {Start} {A} {R} Right start given kept log =
     AllRight Right start log × EachOnce kept × ((n : ℕ) → given ≤ n → calls_of n log ≡ []) × ((k : ℕ) (o : Own A R) → get_elem? kept k ≡ some o → o.calls ≡ calls_of o.number log)
 
+-- there is such a history
 abbrev pub IsHistory : {Start A R : Type 0} → (Start → List (Call A R) → ℕ → A → R → Type 0) → Start → ℕ → List (Own A R) → Type 0
 IsHistory {Start} {A} {R} Right start given kept = (log : List (Call A R)) × IsHistoryOf Right start given kept log
 

@@ -23,22 +23,25 @@ module _ {T Start A R : Type 0} where
   lock_value l = l.table.shared.key.value.value
 
 module _ {T Start A R : Type 0} {g : Ghosts T Start A R} where
+  -- the seats, or the seat, are this lock's
   abbrev pub IsSeatsOf : TicketLock T Start A R → TicketSeats T Start A R g → Type 0
   IsSeatsOf l s = IsPassOf l.table.shared.table_id (lock_value l) s.pass × (s.given ≤ lock_seats l)
 
   abbrev pub IsSeatOf : TicketLock T Start A R → TicketSeat T Start A R g → Type 0
   IsSeatOf l s = IsPassOf l.table.shared.table_id (lock_value l) s.pass
 
-  -- how many seats were handed out, which is the number of the next
+  -- how many numbers were handed out, from 0 on
   abbrev pub seats_given : TicketSeats T Start A R g → ℕ
   seats_given s = s.given
 
+  -- the numbers that came back, in the order in which they did, with their calls
   abbrev pub seats_kept : TicketSeats T Start A R g → List (Own A R)
   seats_kept s = pass_kept s.pass
 
   abbrev pub seat_number : TicketSeat T Start A R g → ℕ
   seat_number s = s.number
 
+  -- its calls so far, each with its position among all calls
   abbrev pub seat_calls : TicketSeat T Start A R g → List (Placed A R)
   seat_calls s = pass_calls s.pass
 
@@ -46,6 +49,6 @@ module _ {T Start A R : Type 0} {g : Ghosts T Start A R} where
   abbrev pub AllHome : TicketSeats T Start A R g → Type 0
   AllHome s = AllBack s.given (pass_kept s.pass)
 
-  -- a seat's calls after one call more
+  -- all positions of the seat's calls are below this one
   abbrev pub LaterThan : TicketSeat T Start A R g → ℕ → Type 0
   LaterThan s n = (k : ℕ) (p : Placed A R) → get_elem? (pass_calls s.pass) k ≡ some p → p.position < n
