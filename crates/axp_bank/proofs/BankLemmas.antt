@@ -15,7 +15,7 @@ use Rattle.axp_bank.specs.Copies.{line_of, is_of, Above, Ascending, Whole, is_he
 pub apart : (a b : ℕ) → a ≢ b → (a == b) ≡ false
 apart a b ne = grind arith
 
-above_none : (n m : ℕ) (cs : List LineCopy) → n ≤ m → Above m cs → list_any (is_of n) cs ≡ false
+pub above_none : (n m : ℕ) (cs : List LineCopy) → n ≤ m → Above m cs → list_any (is_of n) cs ≡ false
 above_none n m [] le above = refl
 above_none n m (c ∷ cs) le above =
     λ i. apart (line_of c) n (λ e. absurd (omega (arith, above.0, e))) i || above_none n m cs le above.1 i
@@ -48,12 +48,12 @@ above_at m [] i d above inside = absurd (omega arith)
 above_at m (c ∷ cs) zero d above inside = above.0
 above_at m (c ∷ cs) (suc i) d above inside = above_at m cs i d above.1 (omega arith)
 
--- what is at the place of the copy of a line
 -- the head of an ascending list is not the copy of a line that is held further on
 head_apart : (n : ℕ) (c : LineCopy) (cs : List LineCopy) (i : ℕ) → Above (line_of c) cs → i < length cs → is_of n (get_or cs i c) ≡ true → is_of n c ≡ false
 head_apart n c cs i above inside here =
     apart (line_of c) n (λ e. absurd (omega (arith, e, eqb-true _ _ here, above_at (line_of c) cs i c above inside)))
 
+-- what a change of a line makes of the list, by the place of its copy
 refreshed_place : (c : LineCopy) (cs : List LineCopy) (i : ℕ) → Ascending cs → i < length cs → ((d : LineCopy) → is_of (line_of c) (get_or cs i d) ≡ true) → refreshed c cs ≡ set cs i c
 unfolding Ascending refreshed is_held
 refreshed_place c [] i up inside here = absurd (omega arith)

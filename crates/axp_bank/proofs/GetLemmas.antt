@@ -13,14 +13,14 @@ use Rattle.axp_bank.specs.Copies.{line_of, is_of, Ascending, Whole, is_held, sho
 use Rattle.axp_bank.proofs.BankLemmas.{apart, above_at, whole_refreshed, whole_inserted, whole_dropped}
 
 -- a copy is of its own line
-own : (c : LineCopy) → is_of (line_of c) c ≡ true
+pub own : (c : LineCopy) → is_of (line_of c) c ≡ true
 own c = grind arith
 
 -- a search that comes to a copy of the line, and one that goes past a copy
-comes : (n : ℕ) (c : LineCopy) (cs : List LineCopy) → is_of n c ≡ true → find (is_of n) (c ∷ cs) ≡ Some c
+pub comes : (n : ℕ) (c : LineCopy) (cs : List LineCopy) → is_of n c ≡ true → find (is_of n) (c ∷ cs) ≡ Some c
 comes n c cs e = λ i. cond (e i) (Some c) (find (is_of n) cs)
 
-goes : (n : ℕ) (c : LineCopy) (cs : List LineCopy) → is_of n c ≡ false → find (is_of n) (c ∷ cs) ≡ find (is_of n) cs
+pub goes : (n : ℕ) (c : LineCopy) (cs : List LineCopy) → is_of n c ≡ false → find (is_of n) (c ∷ cs) ≡ find (is_of n) cs
 goes n c cs e = λ i. cond (e i) (Some c) (find (is_of n) cs)
 
 goes_both : (n : ℕ) (c : LineCopy) (cs ds : List LineCopy) → find (is_of n) cs ≡ find (is_of n) ds → find (is_of n) (c ∷ cs) ≡ find (is_of n) (c ∷ ds)

@@ -1,2 +1,3 @@
 pub mod BankLemmas
 pub mod GetLemmas
+pub mod SameLemmas

@@ -66,3 +66,8 @@ pub fn lines_are_the_held_ones()
     ensures ascending { (cs : List LineCopy) (i j : ℕ) (d : Line × ℕ) → Whole cs → i < j → j < length (held_lines cs)
         → line_number (slice_index_or (held_lines cs) i d).0 < line_number (slice_index_or (held_lines cs) j d).0 }
 {}
+
+/// Two banks that give the same for every line have the same copies, in the same order.
+pub fn copies_are_what_is_got()
+    ensures { (cs ds : List LineCopy) → Whole cs → Whole ds → ((n : ℕ) → get_of n cs ≡ get_of n ds) → cs ≡ ds }
+{}

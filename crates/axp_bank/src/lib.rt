@@ -8,8 +8,9 @@ mod laws;
 pub use banks::CopyBank;
 pub use copies::{BANK_COPIES, LineCopy};
 pub use laws::{
-    dropped_line_is_gone, held_is_what_is_got, invalidate_removes_an_older_copy,
-    lines_are_the_held_ones, lines_stay_distinct_and_few, put_is_got, refresh_changes_a_held_line,
+    copies_are_what_is_got, dropped_line_is_gone, held_is_what_is_got,
+    invalidate_removes_an_older_copy, lines_are_the_held_ones, lines_stay_distinct_and_few,
+    put_is_got, refresh_changes_a_held_line,
 };
 
 #[cfg(test)]

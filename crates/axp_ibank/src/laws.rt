@@ -24,6 +24,8 @@ pub fn code_put_is_got()
     ensures other_bytes { (c : LineCopy) (cs : List LineCopy) (n : ℕ) → n ≢ line_of c → bytes_of n (put c cs) ≡ bytes_of n cs }
     ensures other_stamps { (c : LineCopy) (cs : List LineCopy) (n : ℕ) → n ≢ line_of c → stamp_of n (put c cs) ≡ stamp_of n cs }
     ensures full { (c : LineCopy) (cs : List LineCopy) → has_room (line_of c) cs ≡ false → put c cs ≡ cs }
+    ensures held_has_room { (n : ℕ) (cs : List LineCopy) → is_held n cs ≡ true → has_room n cs ≡ true }
+    ensures few_have_room { (n : ℕ) (cs : List LineCopy) → length cs < BANK_COPIES → has_room n cs ≡ true }
     ensures no_room { (n : ℕ) (cs : List LineCopy) → Whole cs → has_room n cs ≡ false → (is_held n cs ≡ false) × (length cs ≡ BANK_COPIES) }
 {}
 
