@@ -1,7 +1,7 @@
 // A counter is served to threads.
 ghost use Rattle.std.specs.Prelude.{◌≡◌, ◌≤◌, ◌<◌, ◌+◌, length, []};
 ghost use Rattle.axp_base.specs.declared.processors.TheConstants.{MAX_CPUS};
-ghost use Rattle.axp_ticket.specs.Seats.{lock_allowance, IsSeatOf, seat_calls};
+ghost use Rattle.axp_ticket.specs.Seats.{lock_allowance, IsSeatOf, seat_number, seat_calls};
 
 use crate::sharing::{seat_is_send, wrapper_is_sync};
 use crate::{TicketLock, TicketSeat};
@@ -20,9 +20,9 @@ fn work<R: Wait>(
     lock: &TicketLock<Counter>,
     seat: TicketSeat<Counter>,
 ) -> TicketSeat<Counter>
-    requires seat { IsSeatOf lock.now seat × (seat_calls seat ≡ []) × (seat.number < MAX_CPUS) }
+    requires seat { IsSeatOf lock.now seat × (seat_calls seat ≡ []) × (seat_number seat < MAX_CPUS) }
     requires few { 100 ≤ lock_allowance lock.now }
-    ensures { IsSeatOf lock.now result × (result.number ≡ seat.number) × (length (seat_calls result) ≡ 100) }
+    ensures { IsSeatOf lock.now result × (seat_number result ≡ seat_number seat) × (length (seat_calls result) ≡ 100) }
 {
     let mut seat = seat;
     for i in 0..100u32 {
@@ -38,11 +38,11 @@ fn both<R: Threads + Wait + Sync>(
     one: TicketSeat<Counter>,
     other: TicketSeat<Counter>,
 ) -> (TicketSeat<Counter>, TicketSeat<Counter>)
-    requires one { IsSeatOf lock.now one × (seat_calls one ≡ []) × (one.number < MAX_CPUS) }
-    requires other { IsSeatOf lock.now other × (seat_calls other ≡ []) × (other.number < MAX_CPUS) }
+    requires one { IsSeatOf lock.now one × (seat_calls one ≡ []) × (seat_number one < MAX_CPUS) }
+    requires other { IsSeatOf lock.now other × (seat_calls other ≡ []) × (seat_number other < MAX_CPUS) }
     requires few { 100 ≤ lock_allowance lock.now }
-    ensures one { IsSeatOf lock.now result.0 × (result.0.number ≡ one.number) × (length (seat_calls result.0) ≡ 100) }
-    ensures other { IsSeatOf lock.now result.1 × (result.1.number ≡ other.number) × (length (seat_calls result.1) ≡ 100) }
+    ensures one { IsSeatOf lock.now result.0 × (seat_number result.0 ≡ seat_number one) × (length (seat_calls result.0) ≡ 100) }
+    ensures other { IsSeatOf lock.now result.1 × (seat_number result.1 ≡ seat_number other) × (length (seat_calls result.1) ≡ 100) }
 {
     thread::join(rt, || work(rt, lock, one), || work(rt, lock, other))
 }
