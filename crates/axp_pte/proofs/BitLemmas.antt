@@ -5,7 +5,8 @@ use Rattle.std.proofs.lemmas.Bool.{eq-eqb, ne_eqb, cases_eq, cases_lt}
 use Rattle.std.proofs.lemmas.Nat.{and_assoc, pow_pos}
 use Rattle.std.proofs.lemmas.Nat.Bits.{and_pow, bit_at-lt, bit_at_and, bit_at_above}
 use Rattle.std.specs.Int.{bit_at}
-use Rattle.axp_pte.specs.Entries.{is_set, is_named, is_valid, has_asm, named_bits, valid_bit, address_space_match_bit}
+use Rattle.axp_base.specs.Masks.{has_bit}
+use Rattle.axp_pte.specs.Entries.{is_named, is_valid, has_asm, named_bits, valid_bit, address_space_match_bit}
 use Rattle.axp_pte.specs.Protection.{allows, right_bit, fault_bit}
 use Rattle.axp_pte.specs.declared.faults.Mode.{Mode}
 use Rattle.axp_pte.specs.declared.faults.Mode.TheVariants.{Kernel, User}
@@ -21,7 +22,7 @@ whole_or_none b p small positive =
     (cases_eq b 1)
 
 -- a bit of a masked number, where the mask has it
-masked_bit : (w mask n : ℕ) → bit_and mask (2 ^ n) ≡ 2 ^ n → (bit_and (bit_and w mask) (2 ^ n) == 2 ^ n) ≡ is_set w n
+masked_bit : (w mask n : ℕ) → bit_and mask (2 ^ n) ≡ 2 ^ n → (bit_and (bit_and w mask) (2 ^ n) == 2 ^ n) ≡ has_bit w n
 masked_bit w mask n h =
     ap (λ x. x == 2 ^ n) (and_assoc (2 ^ n) w mask ∙ ap (bit_and w) h ∙ and_pow w n) ∙ whole_or_none (w / 2 ^ n % 2) (2 ^ n) (bit_at-lt w n) (pow_pos n)
 
@@ -48,7 +49,7 @@ fault_named Fetch = refl
 fault_named Load = refl
 fault_named Store = refl
 
-pub fault_tested : (w : ℕ) (way : Way) → (bit_and (bit_and w named_bits) (2 ^ fault_bit way) == 2 ^ fault_bit way) ≡ is_set w (fault_bit way)
+pub fault_tested : (w : ℕ) (way : Way) → (bit_and (bit_and w named_bits) (2 ^ fault_bit way) == 2 ^ fault_bit way) ≡ has_bit w (fault_bit way)
 fault_tested w way = masked_bit w named_bits (fault_bit way) (fault_named way)
 
 -- which bits the mask has: by cases below 14, and none from there on
@@ -90,8 +91,8 @@ both_by (suc (suc a)) b p q = absurd (omega (arith, p))
 both_by zero (suc (suc b)) p q = absurd (omega (arith, q))
 both_by (suc zero) (suc (suc b)) p q = absurd (omega (arith, q))
 
-pub flags_named : (word n : ℕ) → is_set (bit_and word named_bits) n ≡ (is_set word n && is_named n)
+pub flags_named : (word n : ℕ) → has_bit (bit_and word named_bits) n ≡ (has_bit word n && is_named n)
 flags_named word n =
     ap (λ b. b == 1) (bit_at_and word named_bits n)
     ∙ both_by (bit_at word n) (bit_at named_bits n) (bit_at-lt word n) (bit_at-lt named_bits n)
-    ∙ ap (λ b. is_set word n && b) (named_at n)
+    ∙ ap (λ b. has_bit word n && b) (named_at n)

@@ -5,7 +5,7 @@ use Rattle.std.specs.Int.{bit_at}
 use Rattle.std.proofs.lemmas.Bool.{eqb-true, cases_eq}
 use Rattle.std.proofs.lemmas.Nat.Bits.{bit_at-lt, bit_at-zero, bit_at_ones, bit_at_cat_high, same_from_bits_below}
 use Rattle.axp_pte.specs.Addresses.{is_extended}
-use Rattle.axp_pte.specs.Entries.{is_set}
+use Rattle.axp_base.specs.Masks.{has_bit}
 
 -- a bit from 42 on is a bit of the number above
 high_bit : (va n : ℕ) → 42 ≤ n → bit_at va n ≡ bit_at (va / 2 ^ 42) (n - 42)
@@ -35,7 +35,7 @@ all_same h i which small =
     (λ (ones : h ≡ 2 ^ 22 - 1). rw ones (bit_at_ones 22 i small ∙ sym (bit_at_ones 22 0 (omega arith))))
     which
 
-repeats_there : (va : ℕ) → is_extended va ≡ true → (n : ℕ) → 43 ≤ n → n < 64 → is_set va n ≡ is_set va 42
+repeats_there : (va : ℕ) → is_extended va ≡ true → (n : ℕ) → 43 ≤ n → n < 64 → has_bit va n ≡ has_bit va 42
 repeats_there va h n from below =
     let h0 = va / 2 ^ 42 in
     let which : (h0 ≡ 0) ⊎ (h0 ≡ 2 ^ 22 - 1) =
@@ -60,7 +60,7 @@ none_or_all h small same =
     inl (same_from_bits_below 22 h 0 small (omega arith) (λ i below. same i below ∙ none ∙ sym (bit_at-zero i))))
     (cases_eq (bit_at h 0) 1)
 
-above_42 : (va i : ℕ) → ((n : ℕ) → 43 ≤ n → n < 64 → is_set va n ≡ is_set va 42) → i < 22 → bit_at (va / 2 ^ 42) i ≡ bit_at (va / 2 ^ 42) 0
+above_42 : (va i : ℕ) → ((n : ℕ) → 43 ≤ n → n < 64 → has_bit va n ≡ has_bit va 42) → i < 22 → bit_at (va / 2 ^ 42) i ≡ bit_at (va / 2 ^ 42) 0
 above_42 va zero repeats below = refl
 above_42 va (suc i) repeats below =
     let n = suc i + 42 in
@@ -68,6 +68,6 @@ above_42 va (suc i) repeats below =
     let same : bit_at va n ≡ bit_at va 42 = same_bit (bit_at va n) (bit_at va 42) (bit_at-lt va n) (bit_at-lt va 42) (repeats n (omega arith) (omega (arith, below))) in
     ap (bit_at (va / 2 ^ 42)) (sym back) ∙ sym (high_bit va n (omega arith)) ∙ same ∙ high_bit va 42 (omega arith)
 
-pub extended_repeats : (va : ℕ) → va < 2 ^ 64 → (is_extended va ≡ true) ↔ ((n : ℕ) → 43 ≤ n → n < 64 → is_set va n ≡ is_set va 42)
+pub extended_repeats : (va : ℕ) → va < 2 ^ 64 → (is_extended va ≡ true) ↔ ((n : ℕ) → 43 ≤ n → n < 64 → has_bit va n ≡ has_bit va 42)
 extended_repeats va small =
     (repeats_there va, λ repeats. extended_by (va / 2 ^ 42) (none_or_all (va / 2 ^ 42) (omega (arith, small)) (λ i below. above_42 va i repeats below)))

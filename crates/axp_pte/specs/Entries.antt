@@ -1,5 +1,6 @@
 -- A page table entry is seen as its quadword, and a set of its named bits as the number of these bits.
-use Rattle.std.specs.Prelude.{ℕ, ◌/◌, ◌%◌, ◌^◌, Bool, ◌==◌, ◌||◌}
+use Rattle.std.specs.Prelude.{ℕ, ◌/◌, ◌^◌, Bool, ◌==◌, ◌||◌}
+use Rattle.axp_base.specs.Masks.{has_bit}
 use Rattle.axp_pte.specs.declared.entries.Pte.{Pte}
 use Rattle.axp_pte.specs.declared.entries.PteBits.{PteBits}
 
@@ -11,10 +12,6 @@ pte_of w = record { 0 = w }
 
 abbrev pub set_bits : PteBits → ℕ
 set_bits b = b.0
-
--- bit n of a number is 1
-abbrev pub is_set : ℕ → ℕ → Bool
-is_set w n = w / 2 ^ n % 2 == 1
 
 -- the numbers of the bits that have a name
 abbrev pub valid_bit : ℕ
@@ -56,10 +53,10 @@ named_bits = 0x331F
 
 -- V is 1, and ASM is 1
 abbrev pub is_valid : ℕ → Bool
-is_valid w = is_set w valid_bit
+is_valid w = has_bit w valid_bit
 
 abbrev pub has_asm : ℕ → Bool
-has_asm w = is_set w address_space_match_bit
+has_asm w = has_bit w address_space_match_bit
 
 -- the page frame number, bits 63:32
 abbrev pub pfn_of : ℕ → ℕ

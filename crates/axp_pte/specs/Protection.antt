@@ -1,6 +1,7 @@
 -- What an entry allows, and its faults in their order. w is the entry's quadword.
 use Rattle.std.specs.Prelude.{ℕ, Bool, not, if◌then◌else◌, Result, Ok, Err}
-use Rattle.axp_pte.specs.Entries.{is_set, is_valid, pfn_of, fault_on_read_bit, fault_on_write_bit, fault_on_execute_bit, kernel_read_enable_bit, user_read_enable_bit, kernel_write_enable_bit, user_write_enable_bit}
+use Rattle.axp_base.specs.Masks.{has_bit}
+use Rattle.axp_pte.specs.Entries.{is_valid, pfn_of, fault_on_read_bit, fault_on_write_bit, fault_on_execute_bit, kernel_read_enable_bit, user_read_enable_bit, kernel_write_enable_bit, user_write_enable_bit}
 use Rattle.axp_pte.specs.declared.faults.MmFault.{MmFault}
 use Rattle.axp_pte.specs.declared.faults.MmFault.TheVariants.{Tnv, Acv, For, Foe, Fow}
 use Rattle.axp_pte.specs.declared.faults.Mode.{Mode}
@@ -19,7 +20,7 @@ right_bit User Store = user_write_enable_bit
 
 -- whether the mode has the right to the access
 abbrev pub allows : ℕ → Mode → Way → Bool
-allows w mode way = is_set w (right_bit mode way)
+allows w mode way = has_bit w (right_bit mode way)
 
 -- the bit that asks for a fault, and the fault
 abbrev pub fault_bit : Way → ℕ
@@ -37,7 +38,7 @@ unfoldable pub rights_of : ℕ → Mode → Way → Result ℕ MmFault
 rights_of w mode way =
     if not (allows w mode way) then Err Acv
     else if not (is_valid w) then Err Tnv
-    else if is_set w (fault_bit way) then Err (fault_of way)
+    else if has_bit w (fault_bit way) then Err (fault_of way)
     else Ok (pfn_of w)
 
 -- at the first two levels: the frame of the next level's table

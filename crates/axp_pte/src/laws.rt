@@ -1,7 +1,8 @@
 //! Laws of addresses and entries, each proved as the contract of a function that does nothing.
 ghost use Rattle.std.specs.Prelude.{ℕ, ◌≡◌, ◌↔◌, ◌%◌, ◌^◌, ◌<◌, ◌≤◌, ◌&&◌, not, true, bit_and};
 ghost use Rattle.axp_pte.specs.Addresses.{address_of, is_extended, is_kseg, parts_of};
-ghost use Rattle.axp_pte.specs.Entries.{is_named, is_set, named_bits};
+ghost use Rattle.axp_base.specs.Masks.{has_bit};
+ghost use Rattle.axp_pte.specs.Entries.{is_named, named_bits};
 ghost use Rattle.axp_pte.specs.Protection.{allows};
 ghost use Rattle.axp_pte.specs.declared.addresses.Parts.{Parts};
 ghost use Rattle.axp_pte.specs.declared.faults.Mode.TheVariants.{Kernel, User};
@@ -21,21 +22,21 @@ pub fn parts_make_the_address()
 /// An address is extended exactly where its bits 63:43 all equal bit 42, and in KSEG exactly where bit
 /// 42 is 1 and bit 41 is 0.
 pub fn extension_repeats_bit_42()
-    ensures repeats { (va : ℕ) → va < 2 ^ 64 → (is_extended va ≡ true) ↔ ((n : ℕ) → 43 ≤ n → n < 64 → is_set va n ≡ is_set va 42) }
-    ensures kseg { (va : ℕ) → is_kseg va ≡ (is_set va 42 && not (is_set va 41)) }
+    ensures repeats { (va : ℕ) → va < 2 ^ 64 → (is_extended va ≡ true) ↔ ((n : ℕ) → 43 ≤ n → n < 64 → has_bit va n ≡ has_bit va 42) }
+    ensures kseg { (va : ℕ) → is_kseg va ≡ (has_bit va 42 && not (has_bit va 41)) }
 {}
 
 /// The set of an entry's named bits has each named bit that is 1 in the entry, and no other bit.
 pub fn flags_are_the_named_bits()
-    ensures { (word n : ℕ) → is_set (bit_and word named_bits) n ≡ (is_set word n && is_named n) }
+    ensures { (word n : ℕ) → has_bit (bit_and word named_bits) n ≡ (has_bit word n && is_named n) }
 {}
 
 /// Which bit gives which right: a fetch and a load have the same one.
 pub fn rights_are_their_bits()
-    ensures kernel_fetch { (word : ℕ) → allows word Kernel Fetch ≡ is_set word 8 }
-    ensures kernel_load { (word : ℕ) → allows word Kernel Load ≡ is_set word 8 }
-    ensures kernel_store { (word : ℕ) → allows word Kernel Store ≡ is_set word 12 }
-    ensures user_fetch { (word : ℕ) → allows word User Fetch ≡ is_set word 9 }
-    ensures user_load { (word : ℕ) → allows word User Load ≡ is_set word 9 }
-    ensures user_store { (word : ℕ) → allows word User Store ≡ is_set word 13 }
+    ensures kernel_fetch { (word : ℕ) → allows word Kernel Fetch ≡ has_bit word 8 }
+    ensures kernel_load { (word : ℕ) → allows word Kernel Load ≡ has_bit word 8 }
+    ensures kernel_store { (word : ℕ) → allows word Kernel Store ≡ has_bit word 12 }
+    ensures user_fetch { (word : ℕ) → allows word User Fetch ≡ has_bit word 9 }
+    ensures user_load { (word : ℕ) → allows word User Load ≡ has_bit word 9 }
+    ensures user_store { (word : ℕ) → allows word User Store ≡ has_bit word 13 }
 {}

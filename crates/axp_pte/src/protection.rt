@@ -1,5 +1,6 @@
 ghost use Rattle.std.specs.Prelude.{◌≡◌, ◌<◌, ◌↔◌, ◌^◌, true, false, Err, Ok, IfOk};
-ghost use Rattle.axp_pte.specs.Entries.{is_set, pfn_of, pte_word, set_bits, fault_on_execute_bit, fault_on_read_bit, fault_on_write_bit, is_valid};
+ghost use Rattle.axp_base.specs.Masks.{has_bit};
+ghost use Rattle.axp_pte.specs.Entries.{pfn_of, pte_word, set_bits, fault_on_execute_bit, fault_on_read_bit, fault_on_write_bit, is_valid};
 ghost use Rattle.axp_pte.specs.Protection.{allows, fault_bit, fault_of, right_bit, rights_of, upper_of};
 ghost use Rattle.axp_pte.specs.declared.faults.MmFault.TheVariants.{Tnv, Acv, For, Foe, Fow};
 ghost use Rattle.axp_pte.specs.declared.faults.Way.TheVariants.{Fetch, Load, Store};
@@ -59,16 +60,16 @@ pub fn rights(pte: Pte, mode: Mode, way: Way) -> Result<u64, MmFault>
         ↔ ((allows (pte_word pte) mode way ≡ true) × (is_valid (pte_word pte) ≡ false)) }
     ensures foe { (result ≡ Err Foe)
         ↔ ((allows (pte_word pte) mode way ≡ true) × (is_valid (pte_word pte) ≡ true)
-        × (way ≡ Fetch) × (is_set (pte_word pte) fault_on_execute_bit ≡ true)) }
+        × (way ≡ Fetch) × (has_bit (pte_word pte) fault_on_execute_bit ≡ true)) }
     ensures fault_on_read { (result ≡ Err For)
         ↔ ((allows (pte_word pte) mode way ≡ true) × (is_valid (pte_word pte) ≡ true)
-        × (way ≡ Load) × (is_set (pte_word pte) fault_on_read_bit ≡ true)) }
+        × (way ≡ Load) × (has_bit (pte_word pte) fault_on_read_bit ≡ true)) }
     ensures fow { (result ≡ Err Fow)
         ↔ ((allows (pte_word pte) mode way ≡ true) × (is_valid (pte_word pte) ≡ true)
-        × (way ≡ Store) × (is_set (pte_word pte) fault_on_write_bit ≡ true)) }
+        × (way ≡ Store) × (has_bit (pte_word pte) fault_on_write_bit ≡ true)) }
     ensures ok { (result ≡ Ok (pfn_of (pte_word pte)))
         ↔ ((allows (pte_word pte) mode way ≡ true) × (is_valid (pte_word pte) ≡ true)
-        × (is_set (pte_word pte) (fault_bit way) ≡ false)) }
+        × (has_bit (pte_word pte) (fault_bit way) ≡ false)) }
     ensures small { IfOk result (λ frame. frame < 2 ^ 32) }
 {
     if !pte.has(right_to(mode, way)) {
