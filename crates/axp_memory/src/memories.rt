@@ -33,7 +33,7 @@ impl Model for Ram {
 }
 
 impl Ram {
-    /// The memory that an image describes.
+    /// The memory that an image describes; [`NoMemory`] where memory was not found for it.
     pub fn load(alloc: Global, image: &Image) -> Result<Ram, NoMemory>
         ensures { IfOk result (IsLoaded image.now) }
     {

@@ -1,3 +1,6 @@
+use super::MmFault::{Acv, Foe, Fow, Tnv};
+use super::Mode::{Kernel, User};
+use super::Way::{Fetch, Load, Store};
 use super::*;
 use std::test::*;
 
@@ -29,27 +32,23 @@ fn addresses_lead_where_they_should(rt: HostRuntime) {
             mapped(0x3FF, 0x3FF, 0x3FF, 0x1FFF),
         ),
         // KSEG: its first address, one inside, and its last
-        (
-            0xFFFF_FC00_0000_0000,
-            Ok(Where::Direct(0)),
-            Err(MmFault::Acv),
-        ),
+        (0xFFFF_FC00_0000_0000, Ok(Where::Direct(0)), Err(Acv)),
         (
             0xFFFF_FC01_2345_6789,
             Ok(Where::Direct(0x1_2345_6789)),
-            Err(MmFault::Acv),
+            Err(Acv),
         ),
         (
             0xFFFF_FDFF_FFFF_FFFF,
             Ok(Where::Direct(0x1FF_FFFF_FFFF)),
-            Err(MmFault::Acv),
+            Err(Acv),
         ),
         // bits 63:43 do not all equal bit 42
-        (0x0000_0400_0000_0000, Err(MmFault::Acv), Err(MmFault::Acv)),
-        (0x0000_0800_0000_0000, Err(MmFault::Acv), Err(MmFault::Acv)),
-        (0xFFFF_F800_0000_0000, Err(MmFault::Acv), Err(MmFault::Acv)),
-        (0x7FFF_FC00_0000_0000, Err(MmFault::Acv), Err(MmFault::Acv)),
-        (0x8000_0000_0000_0000, Err(MmFault::Acv), Err(MmFault::Acv)),
+        (0x0000_0400_0000_0000, Err(Acv), Err(Acv)),
+        (0x0000_0800_0000_0000, Err(Acv), Err(Acv)),
+        (0xFFFF_F800_0000_0000, Err(Acv), Err(Acv)),
+        (0x7FFF_FC00_0000_0000, Err(Acv), Err(Acv)),
+        (0x8000_0000_0000_0000, Err(Acv), Err(Acv)),
     ] {
         assert_eq!(rt; split(va, Mode::Kernel), kernel, "kernel {va:X}");
         assert_eq!(rt; split(va, Mode::User), user, "user {va:X}");
@@ -76,8 +75,8 @@ fn upper_entries_want_v_alone(rt: HostRuntime) {
     for (word, wanted) in [
         (0x0000_0007_0000_0001, Ok(7)),
         (0x0000_0007_0000_000F, Ok(7)),
-        (0x0000_0007_0000_3310, Err(MmFault::Tnv)),
-        (0xFFFF_FFFF_FFFF_FFFE, Err(MmFault::Tnv)),
+        (0x0000_0007_0000_3310, Err(Tnv)),
+        (0xFFFF_FFFF_FFFF_FFFE, Err(Tnv)),
     ] {
         assert_eq!(rt; upper(Pte::of(word)), wanted, "{word:X}");
     }
@@ -87,140 +86,40 @@ fn upper_entries_want_v_alone(rt: HostRuntime) {
 fn rights_come_before_v_before_the_faults_that_are_asked_for(rt: HostRuntime) {
     for (word, mode, way, wanted) in [
         // V, ASM, KRE and KWE
-        (0x0000_0007_0000_1111, Mode::Kernel, Way::Fetch, Ok(7)),
-        (0x0000_0007_0000_1111, Mode::Kernel, Way::Load, Ok(7)),
-        (0x0000_0007_0000_1111, Mode::Kernel, Way::Store, Ok(7)),
-        (
-            0x0000_0007_0000_1111,
-            Mode::User,
-            Way::Fetch,
-            Err(MmFault::Acv),
-        ),
-        (
-            0x0000_0007_0000_1111,
-            Mode::User,
-            Way::Load,
-            Err(MmFault::Acv),
-        ),
-        (
-            0x0000_0007_0000_1111,
-            Mode::User,
-            Way::Store,
-            Err(MmFault::Acv),
-        ),
+        (0x0000_0007_0000_1111, Kernel, Fetch, Ok(7)),
+        (0x0000_0007_0000_1111, Kernel, Load, Ok(7)),
+        (0x0000_0007_0000_1111, Kernel, Store, Ok(7)),
+        (0x0000_0007_0000_1111, User, Fetch, Err(Acv)),
+        (0x0000_0007_0000_1111, User, Load, Err(Acv)),
+        (0x0000_0007_0000_1111, User, Store, Err(Acv)),
         // V and URE, V and UWE
-        (
-            0xFFFF_FFFF_0000_0201,
-            Mode::User,
-            Way::Load,
-            Ok(0xFFFF_FFFF),
-        ),
-        (
-            0xFFFF_FFFF_0000_0201,
-            Mode::User,
-            Way::Store,
-            Err(MmFault::Acv),
-        ),
-        (
-            0xFFFF_FFFF_0000_2001,
-            Mode::User,
-            Way::Store,
-            Ok(0xFFFF_FFFF),
-        ),
-        (
-            0xFFFF_FFFF_0000_2001,
-            Mode::User,
-            Way::Fetch,
-            Err(MmFault::Acv),
-        ),
-        (
-            0xFFFF_FFFF_0000_2201,
-            Mode::Kernel,
-            Way::Load,
-            Err(MmFault::Acv),
-        ),
+        (0xFFFF_FFFF_0000_0201, User, Load, Ok(0xFFFF_FFFF)),
+        (0xFFFF_FFFF_0000_0201, User, Store, Err(Acv)),
+        (0xFFFF_FFFF_0000_2001, User, Store, Ok(0xFFFF_FFFF)),
+        (0xFFFF_FFFF_0000_2001, User, Fetch, Err(Acv)),
+        (0xFFFF_FFFF_0000_2201, Kernel, Load, Err(Acv)),
         // V = 0
-        (
-            0x0000_0007_0000_1110,
-            Mode::Kernel,
-            Way::Load,
-            Err(MmFault::Tnv),
-        ),
+        (0x0000_0007_0000_1110, Kernel, Load, Err(Tnv)),
         // FOR, FOW and FOE, each for its own way alone
-        (
-            0x0000_0007_0000_1113,
-            Mode::Kernel,
-            Way::Load,
-            Err(MmFault::For),
-        ),
-        (0x0000_0007_0000_111D, Mode::Kernel, Way::Load, Ok(7)),
-        (
-            0x0000_0007_0000_1115,
-            Mode::Kernel,
-            Way::Store,
-            Err(MmFault::Fow),
-        ),
-        (0x0000_0007_0000_111B, Mode::Kernel, Way::Store, Ok(7)),
-        (
-            0x0000_0007_0000_1119,
-            Mode::Kernel,
-            Way::Fetch,
-            Err(MmFault::Foe),
-        ),
-        (0x0000_0007_0000_1117, Mode::Kernel, Way::Fetch, Ok(7)),
+        (0x0000_0007_0000_1113, Kernel, Load, Err(MmFault::For)),
+        (0x0000_0007_0000_111D, Kernel, Load, Ok(7)),
+        (0x0000_0007_0000_1115, Kernel, Store, Err(Fow)),
+        (0x0000_0007_0000_111B, Kernel, Store, Ok(7)),
+        (0x0000_0007_0000_1119, Kernel, Fetch, Err(Foe)),
+        (0x0000_0007_0000_1117, Kernel, Fetch, Ok(7)),
         // no right and V = 0
-        (
-            0x0000_0007_0000_1110,
-            Mode::User,
-            Way::Load,
-            Err(MmFault::Acv),
-        ),
-        (0, Mode::Kernel, Way::Fetch, Err(MmFault::Acv)),
+        (0x0000_0007_0000_1110, User, Load, Err(Acv)),
+        (0, Kernel, Fetch, Err(Acv)),
         // no right and a fault that is asked for
-        (
-            0x0000_0007_0000_111F,
-            Mode::User,
-            Way::Fetch,
-            Err(MmFault::Acv),
-        ),
-        (
-            0x0000_0007_0000_111F,
-            Mode::User,
-            Way::Load,
-            Err(MmFault::Acv),
-        ),
-        (
-            0x0000_0007_0000_111F,
-            Mode::User,
-            Way::Store,
-            Err(MmFault::Acv),
-        ),
+        (0x0000_0007_0000_111F, User, Fetch, Err(Acv)),
+        (0x0000_0007_0000_111F, User, Load, Err(Acv)),
+        (0x0000_0007_0000_111F, User, Store, Err(Acv)),
         // V = 0 and a fault that is asked for
-        (
-            0x0000_0007_0000_111E,
-            Mode::Kernel,
-            Way::Fetch,
-            Err(MmFault::Tnv),
-        ),
-        (
-            0x0000_0007_0000_111E,
-            Mode::Kernel,
-            Way::Load,
-            Err(MmFault::Tnv),
-        ),
-        (
-            0x0000_0007_0000_111E,
-            Mode::Kernel,
-            Way::Store,
-            Err(MmFault::Tnv),
-        ),
+        (0x0000_0007_0000_111E, Kernel, Fetch, Err(Tnv)),
+        (0x0000_0007_0000_111E, Kernel, Load, Err(Tnv)),
+        (0x0000_0007_0000_111E, Kernel, Store, Err(Tnv)),
         // all three
-        (
-            0x0000_0007_0000_000E,
-            Mode::User,
-            Way::Load,
-            Err(MmFault::Acv),
-        ),
+        (0x0000_0007_0000_000E, User, Load, Err(Acv)),
     ] {
         assert_eq!(rt;
             rights(Pte::of(word), mode, way),

@@ -54,7 +54,8 @@ impl Wbuf {
     }
 
     /// Puts the low `size` bytes of a value into the newest group's entry of the address's line, or
-    /// into a new entry where there is none, and gives the entry's number.
+    /// into a new entry where there is none, and gives the entry's number. [`Full`] exactly where
+    /// there is none and [`crate::WBUF_ENTRIES`] entries are kept; nothing changes then.
     pub fn store(&mut self, address: u64, size: u8, value: u64) -> Result<u32, Full>
         requires sized { IsSize size }
         requires aligned { address % size ≡ 0 }
