@@ -4,17 +4,33 @@
 mod event_lists;
 mod tail_items;
 
-pub use axp_base::{Bytes, Cpu};
+pub use axp_base::{Bank, Bytes, Cpu, Line};
 pub use axp_regs::{Ask, Kind};
 pub use event_lists::EventList;
 pub use tail_items::TailItem;
 
-/// What a processor does in one event.
+/// How many entries of a write buffer may be drained next, at most: as many as it holds.
+pub const MAX_DRAINS: u8 = 8;
+
+/// What a processor does in one event, or what the memory system does for it.
 #[derive(Clone, Copy, Debug, PartialEq, Eq)]
 pub enum Act {
     /// Makes the access that it wants, and goes on until it wants another or is between two
     /// instructions.
     Step,
+    /// Copies the line that it wants from memory into its bank.
+    Fill,
+    /// Writes the entry of this number of the oldest group of its write buffer to memory: 0 to 7,
+    /// counted from 0 in the order in which the entries were made.
+    Drain(u8),
+    /// Delivers the oldest late invalidation of this data bank.
+    Take(Bank),
+    /// Gives up the bank's copy of this line.
+    Drop(Bank, Line),
+    /// Tests whether an interprocessor interrupt is requested.
+    Poll,
+    /// Takes the clock's interrupt.
+    Tick,
 }
 
 /// One event: a processor and what it does.
@@ -26,27 +42,50 @@ pub struct Event {
     pub act: Act,
 }
 
-/// Where an access stands in the order of memory.
+/// Where an access stands in the order of memory. A turn is a write that reaches memory, or a
+/// signal; turns are numbered from 1.
 #[derive(Clone, Copy, Debug, PartialEq, Eq)]
 pub enum Place {
-    /// A write that is this turn, or another access that so many turns precede. Of the accesses at
-    /// one place the write comes first.
+    /// A write or a signal that is this turn, or another access that stands just after the turn of
+    /// this number: after none where it is 0.
     At(u64),
+    /// A plain write whose bytes went into this entry of its processor's write buffer, 1 for the
+    /// first that was ever made: it stands where the entry leaves, and after all others until then.
+    Entry(u32),
+    /// No place: a write barrier.
+    Absent,
 }
 
-/// One access to physical memory.
+/// An access to physical memory that a processor is to make next.
 #[derive(Clone, Copy, Debug, PartialEq, Eq)]
-pub struct Access {
-    /// The processor that made it.
-    pub cpu: Cpu,
+pub struct Wanted {
     /// What it does.
     pub kind: Kind,
     /// The physical address, a multiple of the size.
     pub address: u64,
     /// The number of bytes, 1, 2, 4 or 8; 4 for a fetch.
     pub size: u8,
-    /// The bytes as a little-endian number: those read, or those to be stored.
+    /// The bytes to be stored as a little-endian number, the processor that a signal goes to, or the
+    /// byte that is sent to the console; else 0.
     pub value: u64,
+}
+
+/// One access.
+#[derive(Clone, Copy, Debug, PartialEq, Eq)]
+pub struct Access {
+    /// The processor that made it.
+    pub cpu: Cpu,
+    /// What it does.
+    pub kind: Kind,
+    /// The physical address, a multiple of the size; 0 where no memory is named.
+    pub address: u64,
+    /// The number of bytes, 1, 2, 4 or 8; 4 for a fetch, 0 where no memory is named.
+    pub size: u8,
+    /// The bytes as a little-endian number: those read, or those to be stored; the processor that a
+    /// signal goes to; the byte that was sent to the console; else 0.
+    pub value: u64,
+    /// Whether a store-conditional succeeded, or a poll found an interrupt requested; else false.
+    pub yes: bool,
     /// Where it stands in the order of memory.
     pub place: Place,
 }
@@ -58,6 +97,44 @@ pub enum Outcome {
     Access(Access),
     /// A step made no access.
     NoAccess,
+    /// A line was copied from memory.
+    Filled {
+        /// The bank.
+        bank: Bank,
+        /// The line.
+        line: Line,
+        /// The number of turns made before.
+        turn: u64,
+    },
+    /// An entry of the write buffer reached memory.
+    Drained {
+        /// The entry's number, 1 for the processor's first.
+        entry: u32,
+        /// The entry's line.
+        line: Line,
+        /// The number of this turn.
+        turn: u64,
+    },
+    /// A late invalidation was delivered.
+    Taken {
+        /// The line.
+        line: Line,
+        /// The turn of another processor that wrote it.
+        turn: u64,
+        /// Whether the processor's copy of the line went, since it was older.
+        gone: bool,
+    },
+    /// A copy was given up, or the clock's interrupt taken.
+    Done,
+    /// Whether an interprocessor interrupt was requested.
+    Polled {
+        /// Whether it was.
+        pending: bool,
+        /// Whether the processor takes it now.
+        entered: bool,
+        /// The number of turns made before.
+        turn: u64,
+    },
 }
 
 /// An event with its outcome: one line of a trace.

@@ -15,9 +15,9 @@ use Rattle.axp_base.specs.Cpus.{cpu_number}
 use Rattle.axp_cpu.specs.declared.processors.Processor.{Processor}
 use Rattle.axp_cpu.specs.declared.tables.Wanted.{Wanted}
 use Rattle.axp_cpu.specs.Seats.{Seat, leads, wanted}
-use Rattle.axp_model.specs.Turns.{turns, turns_of_kind}
-use Rattle.axp_model.specs.Places.{place_at}
-use Rattle.axp_model.proofs.Turns.{turns_of_kind-le, turns-le}
+use Rattle.axp_model.specs.PlainTurns.{turns, turns_of_kind}
+use Rattle.axp_model.specs.PlainPlaces.{place_at}
+use Rattle.axp_model.proofs.PlainTurns.{turns_of_kind-le, turns-le}
 use Rattle.axp_regs.specs.declared.asks.Kind.{Kind}
 use Rattle.axp_machine.specs.declared.machine.Machine.TheInside.{Inside}
 use Rattle.axp_machine.specs.declared.steps.Step.{Step}

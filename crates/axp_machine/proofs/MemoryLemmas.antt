@@ -14,7 +14,7 @@ use Rattle.axp_base.specs.Parts.{byte, number_at, part, with_part}
 use Rattle.axp_base.proofs.PartLemmas.{get_or-with_part, get_or-with_part_other, length-with_part, number_at-same}
 use Rattle.axp_base.specs.declared.parts.TheConstants.{QUADWORD_BYTES}
 use Rattle.axp_image.specs.Contents.{Contents, Segment}
-use Rattle.axp_model.specs.Sources.{memory_byte, writes_byte, has_byte, is_touched, touched_by, writes_quadword}
+use Rattle.axp_model.specs.PlainSources.{memory_byte, writes_byte, has_byte, is_touched, touched_by, writes_quadword}
 use Rattle.axp_image.specs.declared.limits.TheConstants.{PAGE_BYTES}
 use Rattle.axp_cpu.proofs.PlanLemmas.{size_of_kind, size_some}
 use Rattle.axp_machine.specs.Plains.{Plain, after_kind, after_access}

@@ -15,7 +15,7 @@ use Rattle.axp_machine.specs.Runs.{Seen, started, seat, are_finished, quadword_o
 use Rattle.axp_machine.specs.Steps.{StartsAll}
 use Rattle.axp_machine.specs.Ties.{Ties, MemoryIs, seen, history}
 use Rattle.axp_machine.specs.Plains.{Plain, IsLoaded}
-use Rattle.axp_model.specs.Sources.{memory_byte}
+use Rattle.axp_model.specs.PlainSources.{memory_byte}
 use Rattle.axp_machine.proofs.MemoryLemmas.{number_there-after}
 
 -- the processor at a place of the list is at its seat

@@ -38,7 +38,7 @@ use Rattle.axp_integer.specs.Rows as integer
 use Rattle.axp_machine.proofs.RoomLemmas.{outcome_if}
 use Rattle.axp_machine.specs.Refusals.{IsRefused, MeetsUnbuilt}
 use Rattle.axp_machine.specs.Runs.{Seen, IsRun, IsRunOf, seat, seat_of, step_by, step_of, there_after, access_of, given_by_outcome, value_given, made_access, outcome_of}
-use Rattle.axp_model.specs.Turns.{turns}
+use Rattle.axp_model.specs.PlainTurns.{turns}
 use Rattle.axp_regs.specs.States.{pc_of, register}
 use Rattle.axp_regs.specs.declared.asks.Kind.{Kind}
 use Rattle.axp_regs.specs.declared.asks.Kind.TheVariants.{Fetch}

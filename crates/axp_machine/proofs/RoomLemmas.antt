@@ -11,7 +11,7 @@ use Rattle.axp_cpu.specs.declared.tables.Wanted.{Wanted}
 use Rattle.axp_cpu.specs.Plans.{Plan, End, Want, Unbuilt}
 use Rattle.axp_cpu.specs.Seats.{Seat, moved, plan_now, stepped, wanted, wanted_by}
 use Rattle.axp_machine.specs.Runs.{Seen, seat, seat_of, step_by, there_after, made_access, outcome_of, IsRunOf, given_by_outcome}
-use Rattle.axp_model.specs.Turns.{turns}
+use Rattle.axp_model.specs.PlainTurns.{turns}
 
 -- how many records a processor has
 abbrev made_by : ℕ → List Record → ℕ

@@ -19,7 +19,7 @@ use Rattle.axp_cpu.specs.Soundness.{IsSound}
 use Rattle.axp_cpu.specs.Stands.{Stands}
 use Rattle.axp_cpu.proofs.SeatLemmas.{seat_sound}
 use Rattle.axp_image.specs.Contents.{Contents}
-use Rattle.axp_model.specs.Turns.{turns}
+use Rattle.axp_model.specs.PlainTurns.{turns}
 use Rattle.axp_machine.specs.declared.steps.Step.{Step}
 use Rattle.axp_machine.specs.Plains.{Plain}
 use Rattle.axp_machine.specs.Runs.{seat, given_by, given_by_outcome, value_given, access_of, step_by, step_of, there_after, outcome_of}

@@ -9,7 +9,7 @@ use Rattle.axp_cpu.specs.Seats.{Seat, is_finished}
 use Rattle.axp_cpu.specs.Tables.{counted}
 use Rattle.axp_decode.specs.Format.{instr_of}
 use Rattle.axp_image.specs.declared.limits.TheConstants.{INSTRUCTION_BYTES}
-use Rattle.axp_model.specs.Sources.{memory_number}
+use Rattle.axp_model.specs.PlainSources.{memory_number}
 use Rattle.axp_regs.specs.States.{pc_of}
 use Rattle.axp_machine.specs.Runs.{Seen, seat_of}
 

@@ -10,9 +10,9 @@ use Rattle.axp_access.specs.declared.Record.{Record}
 use Rattle.axp_base.specs.declared.processors.Cpu.{Cpu}
 use Rattle.axp_base.specs.Cpus.{cpu_number}
 use Rattle.axp_image.specs.Contents.{Contents}
-use Rattle.axp_model.specs.Turns.{turns}
-use Rattle.axp_model.specs.Places.{place_at}
-use Rattle.axp_model.specs.Sources.{memory_number}
+use Rattle.axp_model.specs.PlainTurns.{turns}
+use Rattle.axp_model.specs.PlainPlaces.{place_at}
+use Rattle.axp_model.specs.PlainSources.{memory_number}
 use Rattle.axp_machine.specs.declared.machine.NotBuilt.{NotBuilt}
 use Rattle.axp_base.specs.declared.parts.TheConstants.{QUADWORD_BYTES}
 use Rattle.axp_cpu.specs.declared.tables.Table.{Table}

@@ -5,8 +5,8 @@ use Rattle.axp_access.specs.declared.Record.{Record}
 use Rattle.axp_base.specs.declared.parts.TheConstants.{QUADWORD_BYTES}
 use Rattle.axp_base.specs.declared.processors.TheConstants.{MAX_CPUS, MAX_BUDGET}
 use Rattle.axp_image.specs.Contents.{Contents, IsValid}
-use Rattle.axp_model.specs.Turns.{turns}
-use Rattle.axp_model.specs.Sources.{memory_byte, is_touched}
+use Rattle.axp_model.specs.PlainTurns.{turns}
+use Rattle.axp_model.specs.PlainSources.{memory_byte, is_touched}
 use Rattle.axp_machine.specs.declared.machine.Machine.TheInside.{Inside}
 use Rattle.axp_cpu.specs.declared.processors.Processor.{Processor}
 use Rattle.axp_cpu.specs.Stands.{Stands}

@@ -3,7 +3,7 @@ ghost use Rattle.axp_base.specs.declared.processors.TheConstants.{MAX_CPUS};
 ghost use Rattle.axp_cpu.specs.Soundness.{IsInside};
 ghost use Rattle.axp_machine.specs.Plains.{after_access};
 ghost use Rattle.axp_machine.specs.Steps.{StartsAll};
-ghost use Rattle.axp_model.specs.Turns.{turns_of_kind};
+ghost use Rattle.axp_model.specs.PlainTurns.{turns_of_kind};
 
 use crate::plain_memory::PlainMemory;
 use crate::steps::{Step, next_step};
@@ -47,7 +47,7 @@ impl Machine {
     ghost use Rattle.axp_access.specs.Spelling.{Spells};
     ghost use Rattle.axp_base.specs.Cpus.{cpu_number};
     ghost use Rattle.axp_image.specs.Contents.{IsValid};
-    ghost use Rattle.axp_model.specs.Sources.{is_touched};
+    ghost use Rattle.axp_model.specs.PlainSources.{is_touched};
     ghost use Rattle.axp_regs.specs.States.{pc_of, register};
     ghost use Rattle.axp_cpu.specs.Stands.{Stands};
     ghost use Rattle.axp_machine.specs.Runs.{started, outcome_of, answer_of, after_event, with_record, IsRun, is_complete, seat_of, table_of, steps_of, quadword_of};

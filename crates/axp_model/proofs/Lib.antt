@@ -1,3 +1,3 @@
-pub mod Sources
-pub mod Turns
-pub mod Touched
+pub mod PlainSources
+pub mod PlainTurns
+pub mod PlainTouched

@@ -1,4 +1,4 @@
-pub mod Turns
-pub mod Places
-pub mod Sources
-pub mod Laws
+pub mod PlainTurns
+pub mod PlainPlaces
+pub mod PlainSources
+pub mod PlainLaws

@@ -7,6 +7,22 @@ pub enum Kind {
     Read,
     /// A plain write of data.
     Write,
+    /// The read of a load-locked.
+    Locked,
+    /// A store-conditional: where it succeeds, a write; else it moves nothing.
+    Conditional,
+    /// A memory barrier, MB.
+    Barrier,
+    /// A write barrier, WMB.
+    WriteBarrier,
+    /// An instruction memory barrier, IMB.
+    CodeBarrier,
+    /// An interprocessor interrupt is requested of another processor.
+    Signal,
+    /// A byte is sent to the console.
+    Console,
+    /// A test whether an interprocessor interrupt is requested.
+    Poll,
 }
 
 /// An access as an instruction asks for it, before its address is translated.

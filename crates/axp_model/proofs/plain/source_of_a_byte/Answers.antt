@@ -1,5 +1,5 @@
-use Rattle.axp_model.proofs.Sources.{source-newest, source-only, source-none, source-unwritten}
-use Rattle.axp_model.proofs.source_of_a_byte.Goals as goal
+use Rattle.axp_model.proofs.PlainSources.{source-newest, source-only, source-none, source-unwritten}
+use Rattle.axp_model.proofs.plain.source_of_a_byte.Goals as goal
 
 pub returns : goal.returns
 returns c = record {

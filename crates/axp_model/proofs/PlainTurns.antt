@@ -5,7 +5,7 @@ use Rattle.axp_regs.specs.declared.asks.Kind.TheVariants.{Fetch, Read, Write}
 use Rattle.axp_access.specs.declared.Outcome.{Outcome}
 use Rattle.axp_access.specs.declared.Outcome.TheVariants as outcome
 use Rattle.axp_access.specs.declared.Record.{Record}
-use Rattle.axp_model.specs.Turns.{turns, turns_of, turns_of_kind}
+use Rattle.axp_model.specs.PlainTurns.{turns, turns_of, turns_of_kind}
 
 pub turns_of_kind-le : (k : Kind) → turns_of_kind k ≤ 1
 turns_of_kind-le Fetch = omega arith

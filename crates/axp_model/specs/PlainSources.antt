@@ -2,7 +2,7 @@
 use Rattle.std.specs.Prelude.{ℕ, ◌+◌, ◌-◌, Bool, false, ◌&&◌, ◌||◌, ◌==◌, ◌/◌, nat_lt, nat_le, List, [], ◌∷◌, Option, Some, None, if◌then◌else◌}
 use Rattle.axp_access.specs.declared.Access.{Access}
 use Rattle.axp_regs.specs.declared.asks.Kind.{Kind}
-use Rattle.axp_regs.specs.declared.asks.Kind.TheVariants.{Fetch, Read, Write}
+use Rattle.axp_regs.specs.declared.asks.Kind.TheVariants.{Write}
 use Rattle.axp_access.specs.declared.Outcome.{Outcome}
 use Rattle.axp_access.specs.declared.Outcome.TheVariants as outcome
 use Rattle.axp_access.specs.declared.Record.{Record}
@@ -16,14 +16,13 @@ has_byte address size at = nat_le address at && nat_lt at (address + size)
 
 -- the access writes the byte at an address
 abbrev pub writes_byte : ℕ → Kind → Access → Bool
-writes_byte at Fetch a = false
-writes_byte at Read a = false
 writes_byte at Write a = has_byte a.address a.size at
+writes_byte at _ a = false
 
 -- the memory write of an outcome that has the byte at an address, if it is one
 abbrev pub write_of : ℕ → Outcome → Option Access
 write_of at (outcome.Access a) = if writes_byte at a.kind a then Some a else None
-write_of at outcome.NoAccess = None
+write_of at _ = None
 
 -- the first of two that is there
 abbrev pub first_of_two : Option Access → Option Access → Option Access
@@ -50,13 +49,12 @@ memory_number image h address size = number_at (memory_byte image h) address siz
 
 -- an access is a memory write in the aligned quadword of this number
 abbrev pub writes_quadword : ℕ → Kind → ℕ → Bool
-writes_quadword quadword Fetch address = false
-writes_quadword quadword Read address = false
 writes_quadword quadword Write address = address / QUADWORD_BYTES == quadword
+writes_quadword quadword _ address = false
 
 abbrev pub touched_by : ℕ → Outcome → Bool
 touched_by quadword (outcome.Access a) = writes_quadword quadword a.kind a.address
-touched_by quadword outcome.NoAccess = false
+touched_by quadword _ = false
 
 -- some memory write of the history lies in the aligned quadword of this number
 abbrev pub is_touched : List Record → ℕ → Bool

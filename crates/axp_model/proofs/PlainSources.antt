@@ -8,8 +8,8 @@ use Rattle.axp_access.specs.declared.Outcome.{Outcome}
 use Rattle.axp_access.specs.declared.Outcome.TheVariants as outcome
 use Rattle.axp_access.specs.declared.Record.{Record}
 use Rattle.axp_image.specs.Contents.{Segment, byte_in}
-use Rattle.axp_model.specs.Sources.{writes_byte, write_of, first_of_two, source, byte_of_source, memory_byte}
-use Rattle.axp_model.specs.Laws.{IsWriteOf, IsNewestWrite, IsUnwritten}
+use Rattle.axp_model.specs.PlainSources.{writes_byte, write_of, first_of_two, source, byte_of_source, memory_byte}
+use Rattle.axp_model.specs.PlainLaws.{IsWriteOf, IsNewestWrite, IsUnwritten}
 
 both : (a b : Bool) → a && b ≡ true → (a ≡ true) × (b ≡ true)
 both true b h = (refl, h)

@@ -9,8 +9,8 @@ use Rattle.axp_access.specs.declared.Outcome.{Outcome}
 use Rattle.axp_access.specs.declared.Outcome.TheVariants as outcome
 use Rattle.axp_access.specs.declared.Record.{Record}
 use Rattle.axp_base.specs.declared.parts.TheConstants.{QUADWORD_BYTES}
-use Rattle.axp_model.specs.Laws.{IsTouched}
-use Rattle.axp_model.specs.Sources.{writes_quadword, touched_by, is_touched}
+use Rattle.axp_model.specs.PlainLaws.{IsTouched}
+use Rattle.axp_model.specs.PlainSources.{writes_quadword, touched_by, is_touched}
 
 write_said : (q : ℕ) (k : Kind) (at : ℕ) → writes_quadword q k at ≡ true → (k ≡ Write) × (at / QUADWORD_BYTES ≡ q)
 write_said q Fetch at h = cc
