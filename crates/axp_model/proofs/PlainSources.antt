@@ -3,7 +3,7 @@ use Rattle.std.proofs.Common.{◌≡◌, ℕ, zero, suc, ◌+◌, ◌<◌, ◌�
 use Rattle.std.proofs.lemmas.Bool.{ltb-true, leb-true, lt-ltb, le-leb}
 use Rattle.axp_access.specs.declared.Access.{Access}
 use Rattle.axp_regs.specs.declared.asks.Kind.{Kind}
-use Rattle.axp_regs.specs.declared.asks.Kind.TheVariants.{Fetch, Read, Write}
+use Rattle.axp_regs.specs.declared.asks.Kind.TheVariants.{Fetch, Read, Write, Locked, Conditional, Barrier, WriteBarrier, CodeBarrier, Signal, Console, Poll}
 use Rattle.axp_access.specs.declared.Outcome.{Outcome}
 use Rattle.axp_access.specs.declared.Outcome.TheVariants as outcome
 use Rattle.axp_access.specs.declared.Record.{Record}
@@ -21,11 +21,17 @@ write_said at Read a h = cc
 write_said at Write a h =
     let parts = both (leb a.address at) (ltb at (a.address + a.size)) h in
     (refl, leb-true a.address at parts.0, ltb-true at (a.address + a.size) parts.1)
+write_said at Locked a h = cc
+write_said at Conditional a h = cc
+write_said at Barrier a h = cc
+write_said at WriteBarrier a h = cc
+write_said at CodeBarrier a h = cc
+write_said at Signal a h = cc
+write_said at Console a h = cc
+write_said at Poll a h = cc
 
 write_says : (at : ℕ) (k : Kind) (a : Access) → k ≡ Write → a.address ≤ at → at < a.address + a.size → writes_byte at k a ≡ true
-write_says at Fetch a is low high = cc
-write_says at Read a is low high = cc
-write_says at Write a is low high = rw (le-leb a.address at low, lt-ltb at (a.address + a.size) high) refl
+write_says at k a is low high = rw (is, le-leb a.address at low, lt-ltb at (a.address + a.size) high) refl
 
 said_by : (at : ℕ) (b : Access) (t : Bool) (a : Access) → writes_byte at b.kind b ≡ t → cond t (Some b) None ≡ Some a → IsWriteOf at (outcome.Access b) a
 said_by at b true a e h =
@@ -38,6 +44,11 @@ said_by at b false a e h = cc
 write_of-said : (at : ℕ) (o : Outcome) (a : Access) → write_of at o ≡ Some a → IsWriteOf at o a
 write_of-said at (outcome.Access b) a h = said_by at b (writes_byte at b.kind b) a refl h
 write_of-said at outcome.NoAccess a h = cc
+write_of-said at (outcome.Filled bank line turn) a h = cc
+write_of-said at (outcome.Drained entry line turn) a h = cc
+write_of-said at (outcome.Taken line turn gone) a h = cc
+write_of-said at outcome.Done a h = cc
+write_of-said at (outcome.Polled pending entered turn) a h = cc
 
 write_of-says : (at : ℕ) (o : Outcome) (a : Access) → IsWriteOf at o a → write_of at o ≡ Some a
 write_of-says at o a is =

@@ -4,7 +4,7 @@ use Rattle.std.specs.Prelude.{◌==◌}
 use Rattle.std.proofs.lemmas.Bool.{eqb-true, eq-eqb}
 use Rattle.axp_access.specs.declared.Access.{Access}
 use Rattle.axp_regs.specs.declared.asks.Kind.{Kind}
-use Rattle.axp_regs.specs.declared.asks.Kind.TheVariants.{Fetch, Read, Write}
+use Rattle.axp_regs.specs.declared.asks.Kind.TheVariants.{Fetch, Read, Write, Locked, Conditional, Barrier, WriteBarrier, CodeBarrier, Signal, Console, Poll}
 use Rattle.axp_access.specs.declared.Outcome.{Outcome}
 use Rattle.axp_access.specs.declared.Outcome.TheVariants as outcome
 use Rattle.axp_access.specs.declared.Record.{Record}
@@ -16,6 +16,14 @@ write_said : (q : ℕ) (k : Kind) (at : ℕ) → writes_quadword q k at ≡ true
 write_said q Fetch at h = cc
 write_said q Read at h = cc
 write_said q Write at h = (refl, eqb-true _ _ h)
+write_said q Locked at h = cc
+write_said q Conditional at h = cc
+write_said q Barrier at h = cc
+write_said q WriteBarrier at h = cc
+write_said q CodeBarrier at h = cc
+write_said q Signal at h = cc
+write_said q Console at h = cc
+write_said q Poll at h = cc
 
 same_number : (n : ℕ) → (n == n) ≡ true
 same_number n = eq-eqb n n refl
@@ -25,9 +33,7 @@ or_true true b h = refl
 or_true false b h = h
 
 write_says : (q : ℕ) (k : Kind) (at : ℕ) → k ≡ Write → at / QUADWORD_BYTES ≡ q → writes_quadword q k at ≡ true
-write_says q Fetch at is inside = cc
-write_says q Read at is inside = cc
-write_says q Write at is inside = rw inside (same_number q)
+write_says q k at is inside = rw (is, inside) (same_number q)
 
 touched_now : (r : Record) (h : List Record) (q : ℕ) (o : Outcome) → r.outcome ≡ o → touched_by q o ≡ true → IsTouched (r ∷ h) q
 touched_now r h q (outcome.Access a) is t =
@@ -41,6 +47,11 @@ touched_now r h q (outcome.Access a) is t =
       inside = said.1;
     }
 touched_now r h q outcome.NoAccess is t = cc
+touched_now r h q (outcome.Filled bank line turn) is t = cc
+touched_now r h q (outcome.Drained entry line turn) is t = cc
+touched_now r h q (outcome.Taken line turn gone) is t = cc
+touched_now r h q outcome.Done is t = cc
+touched_now r h q (outcome.Polled pending entered turn) is t = cc
 
 touched_before : (r : Record) (h : List Record) (q : ℕ) → IsTouched h q → IsTouched (r ∷ h) q
 touched_before r h q old = record {
