@@ -1,7 +1,6 @@
 -- Every plan of the instruction table is sound.
 use Rattle.std.proofs.Common.{◌≡◌, ℕ, ◌+◌, ◌%◌, ◌^◌, ◌<◌, ◌≤◌, ◌&&◌, Bool, true, false, cond, eqb, ltb, List, [], ◌∷◌, arith, rules, refl, inl, inr}
 use Rattle.std.proofs.lemmas.Bool.{ltb-true, eqb-true}
-use Rattle.axp_access.specs.Spelling.{IsSizeOf}
 use Rattle.axp_base.specs.Masks.{IsSize}
 use Rattle.axp_base.specs.Numbers.{sign_extended}
 use Rattle.axp_base.specs.Sizes.{bytes_of, low_datum}
@@ -33,7 +32,7 @@ use Rattle.axp_cpu.specs.declared.tables.Table.{Table}
 use Rattle.axp_cpu.specs.Addresses.{in_kseg, physical, reached, aligned}
 use Rattle.axp_cpu.specs.Plans.{Plan, End, Want, Unbuilt, given, along}
 use Rattle.axp_cpu.specs.Rows.{group, fetched, row, memory_row, branch_row, branch_goal, operate_row, misc_row, pal_row, ended, wrote, loaded, stored, as_read, as_longword, address_of, quadword_at, operand}
-use Rattle.axp_cpu.specs.Soundness.{IsSound, IsInside}
+use Rattle.axp_cpu.specs.Soundness.{IsSound, IsInside, IsPlain}
 use Rattle.axp_cpu.specs.Tables.{counted, next_pc}
 
 -- the end of an aligned part of whole pages lies in them
@@ -56,16 +55,26 @@ size_some n (inr (inl e)) = omega arith
 size_some n (inr (inr (inl e))) = omega arith
 size_some n (inr (inr (inr e))) = omega arith
 
-pub size_of_kind : (kind : Kind) (n : ℕ) → IsSizeOf kind n → IsSize n
-size_of_kind Fetch n e = inr (inr (inl e))
-size_of_kind Read n s = s
-size_of_kind Write n s = s
+-- the kind and size of an access of the instruction table
+record Asks (kind : Kind) (n : ℕ) : Type 0 where
+  plain : IsPlain kind
+  sized : IsSize n
+  fetched : kind ≡ Fetch → n ≡ INSTRUCTION_BYTES
+
+asks_fetch : Asks Fetch INSTRUCTION_BYTES
+asks_fetch = record { plain = tt; sized = inr (inr (inl refl)); fetched = λ _. refl }
 
 sized : (what : Size) → IsSize (bytes_of what)
 sized Byte = inl refl
 sized Word = inr (inl refl)
 sized Long = inr (inr (inl refl))
 sized Quad = inr (inr (inr refl))
+
+asks_read : (what : Size) → Asks Read (bytes_of what)
+asks_read what = record { plain = tt; sized = sized what; fetched = λ is. cc }
+
+asks_write : (what : Size) → Asks Write (bytes_of what)
+asks_write what = record { plain = tt; sized = sized what; fetched = λ is. cc }
 
 reached_by : (tested : Bool) (size : ℕ) (kind : Kind) (a n v : ℕ) (k : ℕ → Plan) → (tested ≡ true → IsInside size kind a n) → ((x : ℕ) → IsSound size (k x))
     → IsSound size (cond tested (Want (record { kind = kind; address = a; size = n; value = v }) k) Unbuilt)
@@ -76,12 +85,14 @@ both-true : (a b : Bool) → a && b ≡ true → b ≡ true
 both-true true b h = h
 both-true false b h = cc
 
-reached_sound : (size : ℕ) (kind : Kind) (a n v : ℕ) (k : ℕ → Plan) → size % PAGE_BYTES ≡ 0 → IsSizeOf kind n → a % n ≡ 0 → ((x : ℕ) → IsSound size (k x)) → IsSound size (reached size kind a n v k)
-reached_sound size kind a n v k pages is h follows =
-    let one = size_of_kind kind n is in
+reached_sound : (size : ℕ) (kind : Kind) (a n v : ℕ) (k : ℕ → Plan) → size % PAGE_BYTES ≡ 0 → Asks kind n → a % n ≡ 0 → ((x : ℕ) → IsSound size (k x)) → IsSound size (reached size kind a n v k)
+reached_sound size kind a n v k pages asks h follows =
+    let one = asks.sized in
     reached_by (in_kseg a && ltb (physical a) size) size kind (physical a) n v k
     (λ passed. record {
-      sized = is;
+      plain = asks.plain;
+      sized = one;
+      fetched = asks.fetched;
       aligned = low_aligned n a one h;
       within = part_within n (physical a) size one (low_aligned n a one h) (ltb-true (physical a) size (both-true (in_kseg a) (ltb (physical a) size) passed)) pages;
     })
@@ -92,9 +103,9 @@ either : (tested : Bool) (size : ℕ) (p q : Plan) → (tested ≡ true → IsSo
 either true size p q left right = left refl
 either false size p q left right = right refl
 
-aligned_sound : (size : ℕ) (kind : Kind) (a n v : ℕ) (k : ℕ → Plan) → size % PAGE_BYTES ≡ 0 → IsSizeOf kind n → ((x : ℕ) → IsSound size (k x)) → IsSound size (aligned size kind a n v k)
-aligned_sound size kind a n v k pages is follows =
-    either (eqb (a % n) 0) size (reached size kind a n v k) Unbuilt (λ passed. reached_sound size kind a n v k pages is (eqb-true (a % n) 0 passed) follows) (λ _. tt)
+aligned_sound : (size : ℕ) (kind : Kind) (a n v : ℕ) (k : ℕ → Plan) → size % PAGE_BYTES ≡ 0 → Asks kind n → ((x : ℕ) → IsSound size (k x)) → IsSound size (aligned size kind a n v k)
+aligned_sound size kind a n v k pages asks follows =
+    either (eqb (a % n) 0) size (reached size kind a n v k) Unbuilt (λ passed. reached_sound size kind a n v k pages asks (eqb-true (a % n) 0 passed) follows) (λ _. tt)
 
 -- the program counter stays a multiple of an instruction's size
 abbrev IsAligned : Table → Type 0
@@ -117,11 +128,11 @@ goal_aligned t op a disp h =
 loaded_sound : (size : ℕ) (t : Table) (what : Size) (a address : ℕ) (k : ℕ → Plan) → ((v : ℕ) → IsSound size (k v)) → size % PAGE_BYTES ≡ 0 → IsAligned t → IsSound size (loaded size t what a address k)
 loaded_sound size t what a address k follows pages h =
     either (eqb a ZERO_REGISTER) size (ended t) _ (λ _. next_aligned t h)
-    (λ _. aligned_sound size Read address (bytes_of what) 0 k pages (sized what) follows)
+    (λ _. aligned_sound size Read address (bytes_of what) 0 k pages (asks_read what) follows)
 
 stored_sound : (size : ℕ) (t : Table) (what : Size) (a address : ℕ) → size % PAGE_BYTES ≡ 0 → IsAligned t → IsSound size (stored size t what a address)
 stored_sound size t what a address pages h =
-    aligned_sound size Write address (bytes_of what) (low_datum what (register t.state a)) (λ _. ended t) pages (sized what) (λ v. next_aligned t h)
+    aligned_sound size Write address (bytes_of what) (low_datum what (register t.state a)) (λ _. ended t) pages (asks_write what) (λ v. next_aligned t h)
 
 memory_sound : (size : ℕ) (t : Table) (op : MemOp) (a base disp : ℕ) → size % PAGE_BYTES ≡ 0 → IsAligned t → IsSound size (memory_row size t op a base disp)
 memory_sound size t memory.LDA a base disp pages h = next_aligned t h
@@ -187,7 +198,7 @@ row_sound size t (instr.Reserved word) pages h = tt
 pub group_sound : (size : ℕ) (t : Table) → size % PAGE_BYTES ≡ 0 → IsAligned t → IsSound size (group size t)
 unfolding group
 group_sound size t pages h =
-    reached_sound size Fetch (pc_of t.state) INSTRUCTION_BYTES 0 (fetched size t) pages refl h (λ v. row_sound size (counted t) (instr_of (v % 2 ^ 32)) pages h)
+    reached_sound size Fetch (pc_of t.state) INSTRUCTION_BYTES 0 (fetched size t) pages asks_fetch h (λ v. row_sound size (counted t) (instr_of (v % 2 ^ 32)) pages h)
 
 given_sound : (size v : ℕ) (p : Plan) → IsSound size p → IsSound size (given v p)
 given_sound size v (End t) sound = sound

@@ -1,5 +1,6 @@
 -- A row is built exactly where its instruction is not refused.
 use Rattle.std.proofs.Common.{◌≡◌, ℕ, ◌%◌, ◌&&◌, not, Bool, true, false, cond, eqb, rules, refl, sym, ap, ◌∙◌}
+use Rattle.axp_access.specs.declared.Wanted.{Wanted}
 use Rattle.axp_base.specs.Sizes.{bytes_of, low_datum}
 use Rattle.axp_base.specs.declared.sizes.Size.{Size}
 use Rattle.axp_base.specs.declared.sizes.Size.TheVariants.{Byte, Word, Long, Quad}
@@ -25,7 +26,6 @@ use Rattle.axp_cpu.specs.Addresses.{aligned, reached}
 use Rattle.axp_cpu.specs.Plans.{Plan, Want, Unbuilt, is_built}
 use Rattle.axp_cpu.specs.Refusals.{is_reached, is_accessible, load_refused, store_refused, memory_refused, misc_refused, pal_refused, is_refused}
 use Rattle.axp_cpu.specs.Rows.{group, fetched, row, memory_row, branch_row, operate_row, misc_row, pal_row, ended, wrote, loaded, stored, as_read, as_longword, address_of, quadword_at, operand}
-use Rattle.axp_cpu.specs.declared.tables.Wanted.{Wanted}
 
 wants_if : (tested : Bool) (w : Wanted) (k : ℕ → Plan) → is_built (cond tested (Want w k) Unbuilt) ≡ tested
 wants_if true w k = refl

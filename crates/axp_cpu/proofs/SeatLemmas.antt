@@ -1,12 +1,12 @@
 -- A processor stays at its seat, step by step.
 use Rattle.std.proofs.Common.{◌≡◌, ℕ, ◌+◌, List, [], ◌∷◌, ◌++◌, Option, Some, None, rules, refl, sym, ap, ◌∙◌, subst}
+use Rattle.axp_access.specs.declared.Wanted.{Wanted}
 use Rattle.axp_image.specs.Contents.{Contents, IsValid}
 use Rattle.axp_cpu.specs.declared.phases.Phase.{Phase}
 use Rattle.axp_cpu.specs.declared.phases.Phase.TheVariants as phase
 use Rattle.axp_cpu.specs.declared.phases.Then.{Then}
 use Rattle.axp_cpu.specs.declared.processors.Processor.{Processor}
 use Rattle.axp_cpu.specs.declared.tables.Table.{Table}
-use Rattle.axp_cpu.specs.declared.tables.Wanted.{Wanted}
 use Rattle.axp_cpu.specs.Phases.{Fits, PhaseFits, after, plan_of}
 use Rattle.axp_cpu.specs.Plans.{Plan, End, Want, given, along, is_built}
 use Rattle.axp_cpu.specs.Rows.{group}

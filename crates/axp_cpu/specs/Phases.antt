@@ -1,12 +1,12 @@
 -- What a phase of the code still has to do, as a plan.
 use Rattle.std.specs.Prelude.{ℕ, ◌*◌, ◌<◌, ◌^◌}
+use Rattle.axp_access.specs.declared.Wanted.{Wanted}
 use Rattle.axp_regs.specs.declared.states.TheConstants.{REGISTERS}
 use Rattle.axp_cpu.specs.declared.phases.Phase.{Phase}
 use Rattle.axp_cpu.specs.declared.phases.Phase.TheVariants as phase
 use Rattle.axp_cpu.specs.declared.phases.Then.{Then}
 use Rattle.axp_cpu.specs.declared.phases.Then.TheVariants as next
 use Rattle.axp_cpu.specs.declared.tables.Table.{Table}
-use Rattle.axp_cpu.specs.declared.tables.Wanted.{Wanted}
 use Rattle.axp_cpu.specs.Plans.{Plan, End, Want, Unbuilt}
 use Rattle.axp_cpu.specs.Rows.{as_longword, as_read, ended, fetched}
 

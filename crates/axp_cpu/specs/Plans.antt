@@ -1,7 +1,7 @@
 -- A group of accesses is a plan: an end, or a wanted access and what follows for each value.
 use Rattle.std.specs.Prelude.{ℕ, Bool, true, false, List, [], ◌∷◌}
+use Rattle.axp_access.specs.declared.Wanted.{Wanted}
 use Rattle.axp_cpu.specs.declared.tables.Table.{Table}
-use Rattle.axp_cpu.specs.declared.tables.Wanted.{Wanted}
 
 pub data Plan : Type 0 where
   -- the group ends in this table state

@@ -1,9 +1,9 @@
 -- One processor by itself, led by the values that its accesses gave.
 use Rattle.std.specs.Prelude.{ℕ, ◌+◌, Bool, false, ◌||◌, nat_le, List, [], ◌∷◌, ◌++◌, Option, Some, None, is_some, if◌then◌else◌}
+use Rattle.axp_access.specs.declared.Wanted.{Wanted}
 use Rattle.axp_image.specs.Contents.{Contents}
 use Rattle.axp_regs.specs.States.{first_state, with_pc, with_ptbr, with_register}
 use Rattle.axp_cpu.specs.declared.tables.Table.{Table}
-use Rattle.axp_cpu.specs.declared.tables.Wanted.{Wanted}
 use Rattle.axp_cpu.specs.Plans.{Plan, End, Want, Unbuilt, along, is_built}
 use Rattle.axp_cpu.specs.Rows.{group}
 

@@ -1,11 +1,11 @@
 -- How a processor of the code stands for a seat.
 use Rattle.std.specs.Prelude.{◌≡◌, ℕ, ◌*◌, ◌%◌, ◌^◌, ◌<◌, true, false, Option, Some, None}
+use Rattle.axp_access.specs.declared.Wanted.{Wanted}
 use Rattle.axp_image.specs.declared.limits.TheConstants.{INSTRUCTION_BYTES, PAGE_BYTES}
 use Rattle.axp_regs.specs.States.{pc_of}
 use Rattle.axp_cpu.specs.declared.phases.Then.{Then}
 use Rattle.axp_cpu.specs.declared.processors.Processor.{Processor}
 use Rattle.axp_cpu.specs.declared.tables.Table.{Table}
-use Rattle.axp_cpu.specs.declared.tables.Wanted.{Wanted}
 use Rattle.axp_cpu.specs.Phases.{Fits, after}
 use Rattle.axp_cpu.specs.Plans.{Plan, Want}
 use Rattle.axp_cpu.specs.Rows.{group}

@@ -9,7 +9,8 @@ ghost use Rattle.axp_cpu.specs.Tables.{at_pc, core};
 ghost use Rattle.axp_regs.specs.declared.states.TheConstants.{REGISTERS};
 
 use crate::rows::instruct;
-use crate::tables::{Table, Wanted};
+use crate::tables::Table;
+use axp_access::Wanted;
 use axp_base::sext;
 use axp_decode::decode;
 use axp_image::{INSTRUCTION_BYTES, KSEG};

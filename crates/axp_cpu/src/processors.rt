@@ -6,7 +6,8 @@ ghost use Rattle.axp_cpu.specs.Tables.{uncounted};
 ghost use Rattle.axp_cpu.specs.Stands.{Going, GoesOn, IsMakeable, MakesFit, Standing, Stands, plan_left};
 
 use crate::phases::{Phase, Then, begin, resume};
-use crate::tables::{Table, Wanted};
+use crate::tables::Table;
+use axp_access::Wanted;
 use axp_base::Cpu;
 use axp_image::Image;
 use axp_regs::State;

@@ -6,7 +6,8 @@ ghost use Rattle.axp_decode.specs.Format.{FieldsFit, OperandFits};
 ghost use Rattle.axp_regs.specs.declared.states.TheConstants.{REGISTERS};
 
 use crate::phases::{Phase, Then, align, end, go_to, halt, write, write_and_go};
-use crate::tables::{Table, Wanted};
+use crate::tables::Table;
+use axp_access::Wanted;
 use axp_base::{Size, sext};
 use axp_branch::{taken, target};
 use axp_bytes::bytes;

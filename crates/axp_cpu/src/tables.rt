@@ -2,7 +2,7 @@ ghost use Rattle.std.specs.Prelude.{◌≡◌};
 ghost use Rattle.axp_cpu.specs.Tables.{counted, next_pc};
 
 use axp_image::INSTRUCTION_BYTES;
-use axp_regs::{Kind, State};
+use axp_regs::State;
 
 /// What the instruction table speaks of: a processor's registers, and its halt code once it is halted.
 #[derive(Clone, Copy, Debug)]
@@ -11,19 +11,6 @@ pub struct Table {
     pub state: State,
     /// The halt code, 1 to 4.
     pub halted: Option<u8>,
-}
-
-/// An access that a processor wants.
-#[derive(Clone, Copy, Debug, PartialEq, Eq)]
-pub struct Wanted {
-    /// What it does.
-    pub kind: Kind,
-    /// The physical address, a multiple of the size.
-    pub address: u64,
-    /// The number of bytes, 1, 2, 4 or 8.
-    pub size: u8,
-    /// The bytes to be stored as a little-endian number; 0 where nothing is stored.
-    pub value: u64,
 }
 
 impl Table {
