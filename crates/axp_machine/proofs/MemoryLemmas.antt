@@ -7,16 +7,16 @@ use Rattle.std.proofs.lemmas.Grind.{get_or-set_at}
 use Rattle.axp_access.specs.declared.Access.{Access}
 use Rattle.axp_access.specs.declared.Event.{Event}
 use Rattle.axp_regs.specs.declared.asks.Kind.{Kind}
-use Rattle.axp_regs.specs.declared.asks.Kind.TheVariants.{Fetch, Read, Write}
+use Rattle.axp_regs.specs.declared.asks.Kind.TheVariants.{Fetch, Read, Write, Locked, Conditional, Barrier, WriteBarrier, CodeBarrier, Signal, Console, Poll}
 use Rattle.axp_access.specs.declared.Outcome.TheVariants as outcome
 use Rattle.axp_access.specs.declared.Record.{Record}
 use Rattle.axp_base.specs.Parts.{byte, number_at, part, with_part}
 use Rattle.axp_base.proofs.PartLemmas.{get_or-with_part, get_or-with_part_other, length-with_part, number_at-same}
 use Rattle.axp_base.specs.declared.parts.TheConstants.{QUADWORD_BYTES}
 use Rattle.axp_image.specs.Contents.{Contents, Segment}
-use Rattle.axp_model.specs.PlainSources.{memory_byte, writes_byte, has_byte, is_touched, touched_by, writes_quadword}
+use Rattle.axp_model.specs.PlainSources.{memory_byte, writes_byte, has_byte, is_touched, writes_quadword}
 use Rattle.axp_image.specs.declared.limits.TheConstants.{PAGE_BYTES}
-use Rattle.axp_cpu.proofs.PlanLemmas.{size_of_kind, size_some}
+use Rattle.axp_cpu.proofs.PlanLemmas.{size_some}
 use Rattle.axp_machine.specs.Plains.{Plain, after_kind, after_access}
 use Rattle.axp_cpu.specs.Soundness.{IsInside}
 use Rattle.axp_machine.specs.Ties.{MemoryIs}
@@ -70,34 +70,41 @@ mark_by ts j q was within at =
     (λ other. get_or-set_other ts j q true true (λ back. other (sym back)) ∙ get_or_from_slice_get ts q was true at ∙ sym (ap (λ b. b || was) (ne_eqb j q other)))
     (cases_eq j q))
 
-kept_access : (image : Contents) (m : Plain) (e : Event) (a : Access) (h : List Record) → ((k : ℕ) → writes_byte k a.kind a ≡ false) → ((q : ℕ) → touched_by q (outcome.Access a) ≡ false) → MemoryIs image m h
+-- an access that is no write leaves memory
+kept_access : (image : Contents) (m : Plain) (e : Event) (a : Access) (h : List Record) (kind : Kind) → a.kind ≡ kind → ((k : ℕ) → writes_byte k kind a ≡ false) → ((q : ℕ) → writes_quadword q kind a.address ≡ false) → MemoryIs image m h
     → MemoryIs image m (record { event = e; outcome = outcome.Access a } ∷ h)
-kept_access image m e a h none untouched kept = record {
+kept_access image m e a h kind is none untouched kept = record {
   size = kept.size;
-  bytes = λ k below. kept.bytes k below ∙ sym (memory_byte-kept image.segments e a h k (none k));
+  bytes = λ k below. kept.bytes k below ∙ sym (memory_byte-kept image.segments e a h k (ap (λ x. writes_byte k x a) is ∙ none k));
   marks = kept.marks;
-  touched = λ q below. kept.touched q below ∙ sym (ap (λ b. Some (b || is_touched h q)) (untouched q));
+  touched = λ q below. kept.touched q below ∙ sym (ap (λ b. Some (b || is_touched h q)) (ap (λ x. writes_quadword q x a.address) is ∙ untouched q));
 }
 
 mark_within : (image : Contents) (m : Plain) (a : Access) {h : List Record} → image.size % PAGE_BYTES ≡ 0 → IsInside image.size a.kind a.address a.size → MemoryIs image m h → a.address / QUADWORD_BYTES < length m.touched
 mark_within image m a pages inside kept =
-    let some = size_some a.size (size_of_kind a.kind a.size inside.sized) in
+    let some = size_some a.size inside.sized in
     let within = inside.within in
     let marks = kept.marks in
     omega arith
 
 memory_step_by : (image : Contents) (m : Plain) (e : Event) (a : Access) (h : List Record) (kind : Kind) → a.kind ≡ kind → image.size % PAGE_BYTES ≡ 0 → IsInside image.size a.kind a.address a.size → MemoryIs image m h
     → MemoryIs image (after_kind kind a.address a.size a.value m) (record { event = e; outcome = outcome.Access a } ∷ h)
-memory_step_by image m e a h Fetch is pages inside kept =
-    kept_access image m e a h (λ k. ap (λ kind. writes_byte k kind a) is) (λ q. ap (λ kind. writes_quadword q kind a.address) is) kept
-memory_step_by image m e a h Read is pages inside kept =
-    kept_access image m e a h (λ k. ap (λ kind. writes_byte k kind a) is) (λ q. ap (λ kind. writes_quadword q kind a.address) is) kept
+memory_step_by image m e a h Fetch is pages inside kept = kept_access image m e a h Fetch is (λ k. refl) (λ q. refl) kept
+memory_step_by image m e a h Read is pages inside kept = kept_access image m e a h Read is (λ k. refl) (λ q. refl) kept
 memory_step_by image m e a h Write is pages inside kept = record {
   size = length-with_part m.bytes a.address a.size a.value ∙ kept.size;
   bytes = bytes_written image m e a h is inside.within kept;
   marks = length-set m.touched (a.address / QUADWORD_BYTES) true ∙ kept.marks;
   touched = λ q below. mark_by m.touched (a.address / QUADWORD_BYTES) q (is_touched h q) (mark_within image m a pages inside kept) (kept.touched q below) ∙ sym (ap (λ kind. Some (writes_quadword q kind a.address || is_touched h q)) is);
 }
+memory_step_by image m e a h Locked is pages inside kept = kept_access image m e a h Locked is (λ k. refl) (λ q. refl) kept
+memory_step_by image m e a h Conditional is pages inside kept = kept_access image m e a h Conditional is (λ k. refl) (λ q. refl) kept
+memory_step_by image m e a h Barrier is pages inside kept = kept_access image m e a h Barrier is (λ k. refl) (λ q. refl) kept
+memory_step_by image m e a h WriteBarrier is pages inside kept = kept_access image m e a h WriteBarrier is (λ k. refl) (λ q. refl) kept
+memory_step_by image m e a h CodeBarrier is pages inside kept = kept_access image m e a h CodeBarrier is (λ k. refl) (λ q. refl) kept
+memory_step_by image m e a h Signal is pages inside kept = kept_access image m e a h Signal is (λ k. refl) (λ q. refl) kept
+memory_step_by image m e a h Console is pages inside kept = kept_access image m e a h Console is (λ k. refl) (λ q. refl) kept
+memory_step_by image m e a h Poll is pages inside kept = kept_access image m e a h Poll is (λ k. refl) (λ q. refl) kept
 
 pub memory_step : (image : Contents) (m : Plain) (e : Event) (a : Access) (h : List Record) → image.size % PAGE_BYTES ≡ 0 → IsInside image.size a.kind a.address a.size → MemoryIs image m h
     → MemoryIs image (after_access a m) (record { event = e; outcome = outcome.Access a } ∷ h)

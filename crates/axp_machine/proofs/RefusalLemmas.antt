@@ -1,4 +1,5 @@
--- An event is refused exactly where its processor is missing, finished, or meets what is not built.
+-- An event is refused exactly where it is not a step, or its processor is missing, finished, or meets what
+-- is not built.
 use Rattle.std.proofs.Common.{◌≡◌, ◌⊎◌, inl, inr, ℕ, ◌%◌, ◌^◌, not, Bool, true, false, cond, rules, ltb, eqb, List, [], ◌∷◌, ◌++◌, Option, Some, None, refl, sym, ap, ◌∙◌, subst, ⊎_elim}
 use Rattle.std.proofs.lemmas.Bool.{cases_Bool, eqb-true, le-ltb, ltb-false}
 use Rattle.axp_access.specs.declared.Access.{Access}
@@ -6,6 +7,7 @@ use Rattle.axp_access.specs.declared.Event.{Event}
 use Rattle.axp_access.specs.declared.Outcome.{Outcome}
 use Rattle.axp_access.specs.declared.Outcome.TheVariants as outcome
 use Rattle.axp_access.specs.declared.Record.{Record}
+use Rattle.axp_access.specs.declared.Wanted.{Wanted}
 use Rattle.axp_base.specs.Cpus.{cpu_number}
 use Rattle.axp_base.specs.Sizes.{bytes_of, low_datum}
 use Rattle.axp_base.specs.declared.processors.Cpu.{Cpu}
@@ -20,7 +22,6 @@ use Rattle.axp_cpu.specs.Rows.{group, fetched, row, address_of, quadword_at, as_
 use Rattle.axp_cpu.specs.Seats.{Seat, is_finished, leads, leads_by, moved, plan_now, stepped, wanted, wanted_by}
 use Rattle.axp_cpu.specs.Tables.{counted}
 use Rattle.axp_cpu.specs.declared.tables.Table.{Table}
-use Rattle.axp_cpu.specs.declared.tables.Wanted.{Wanted}
 use Rattle.axp_decode.specs.Format.{instr_of}
 use Rattle.axp_decode.specs.Table.{operate_opcode}
 use Rattle.axp_decode.specs.declared.instructions.Instr.{Instr}
@@ -36,8 +37,8 @@ use Rattle.axp_image.specs.Contents.{Contents}
 use Rattle.axp_image.specs.declared.limits.TheConstants.{INSTRUCTION_BYTES}
 use Rattle.axp_integer.specs.Rows as integer
 use Rattle.axp_machine.proofs.RoomLemmas.{outcome_if}
-use Rattle.axp_machine.specs.Refusals.{IsRefused, MeetsUnbuilt}
-use Rattle.axp_machine.specs.Runs.{Seen, IsRun, IsRunOf, seat, seat_of, step_by, step_of, there_after, access_of, given_by_outcome, value_given, made_access, outcome_of}
+use Rattle.axp_machine.specs.Refusals.{IsRefused, IsStepRefused, MeetsUnbuilt}
+use Rattle.axp_machine.specs.Runs.{Seen, IsRun, IsRunOf, seat, seat_of, step_by, step_of, there_after, access_of, given_by_outcome, value_given, made_access, is_step, outcome_of, outcome_of_step}
 use Rattle.axp_model.specs.PlainTurns.{turns}
 use Rattle.axp_regs.specs.States.{pc_of, register}
 use Rattle.axp_regs.specs.declared.asks.Kind.{Kind}
@@ -182,7 +183,8 @@ led_by cpu t there s (Some w) o is =
 accepted_leads : (m : Seen) (e : Event) (o : Outcome) → outcome_of m e ≡ Some o → leads (seat_of m (cpu_number e.cpu)) (given_by_outcome o) ≡ true
 unfolding outcome_of
 accepted_leads m e o is =
-    led_by e.cpu (turns m.records) (there_after m.image m.records) (seat_of m (cpu_number e.cpu)) (wanted (seat_of m (cpu_number e.cpu))) o (outcome_if (ltb (cpu_number e.cpu) m.cpus) _ o is).1
+    led_by e.cpu (turns m.records) (there_after m.image m.records) (seat_of m (cpu_number e.cpu)) (wanted (seat_of m (cpu_number e.cpu))) o
+    (outcome_if (ltb (cpu_number e.cpu) m.cpus) _ o (outcome_if (is_step e.act) _ o is).1).1
 
 between_if : (mine : Bool) (s : Seat) (v : ℕ) → Between s → (mine ≡ true → leads s v ≡ true) → Between (cond mine (stepped s v) s)
 between_if true s v at led = stepped_between s v at (led refl)
@@ -267,18 +269,25 @@ refused_if : (within : Bool) (made : Option Outcome) → cond within made None �
 refused_if true made is = inr (refl, is)
 refused_if false made is = inl refl
 
+step_refused_is : (m : Seen) (cpu : Cpu) → IsRun m → outcome_of_step m cpu ≡ None → IsStepRefused m cpu
+step_refused_is m cpu run none =
+    let s = seat_of m (cpu_number cpu) in
+    ⊎_elim
+    (λ (outside : ltb (cpu_number cpu) m.cpus ≡ false). inl (ltb-false (cpu_number cpu) m.cpus outside))
+    (λ (inside : (ltb (cpu_number cpu) m.cpus ≡ true) × (made_access (step_of cpu (turns m.records) (there_after m.image m.records) s) ≡ None)).
+    inr (⊎_elim
+    (λ (done : is_finished s ≡ true). inl done)
+    (λ (going : is_finished s ≡ false). inr (meets m cpu (turns m.records) s (seat_between m.image m.cpus m.budget m.records run (cpu_number cpu)) going (none_if _ inside.1)))
+    (cases_Bool (is_finished s))))
+    (refused_if (ltb (cpu_number cpu) m.cpus) _ none)
+
 pub refused_is : (m : Seen) (e : Event) → IsRun m → outcome_of m e ≡ None → IsRefused m e
 unfolding outcome_of
 refused_is m e run none =
-    let s = seat_of m (cpu_number e.cpu) in
     ⊎_elim
-    (λ (outside : ltb (cpu_number e.cpu) m.cpus ≡ false). inl (ltb-false (cpu_number e.cpu) m.cpus outside))
-    (λ (inside : (ltb (cpu_number e.cpu) m.cpus ≡ true) × (made_access (step_of e.cpu (turns m.records) (there_after m.image m.records) s) ≡ None)).
-    inr (⊎_elim
-    (λ (done : is_finished s ≡ true). inl done)
-    (λ (going : is_finished s ≡ false). inr (meets m e.cpu (turns m.records) s (seat_between m.image m.cpus m.budget m.records run (cpu_number e.cpu)) going (none_if _ inside.1)))
-    (cases_Bool (is_finished s))))
-    (refused_if (ltb (cpu_number e.cpu) m.cpus) _ none)
+    (λ (other : is_step e.act ≡ false). inl other)
+    (λ (step : (is_step e.act ≡ true) × (outcome_of_step m e.cpu ≡ None)). inr (step_refused_is m e.cpu run step.1))
+    (refused_if (is_step e.act) _ none)
 
 -- ---- and each of them is refused
 
@@ -317,10 +326,18 @@ outcome_none : (within : Bool) (made : Option Access) → made ≡ None → cond
 outcome_none true made is = ap made_access is
 outcome_none false made is = refl
 
+step_is_refused : (m : Seen) (cpu : Cpu) → IsStepRefused m cpu → outcome_of_step m cpu ≡ None
+step_is_refused m cpu (inl past) = rw (le-ltb (cpu_number cpu) m.cpus past) refl
+step_is_refused m cpu (inr (inl done)) =
+    outcome_none (ltb (cpu_number cpu) m.cpus) _ (step_none cpu (turns m.records) (there_after m.image m.records) (seat_of m (cpu_number cpu)) true _ done refl (inl refl))
+step_is_refused m cpu (inr (inr why)) =
+    outcome_none (ltb (cpu_number cpu) m.cpus) _ (meets_none m cpu (turns m.records) (seat_of m (cpu_number cpu)) why)
+
+either_none : (step : Bool) (o : Option Outcome) → o ≡ None → cond step o None ≡ None
+either_none true o is = is
+either_none false o is = refl
+
 pub is_refused_so : (m : Seen) (e : Event) → IsRefused m e → outcome_of m e ≡ None
 unfolding outcome_of
-is_refused_so m e (inl past) = rw (le-ltb (cpu_number e.cpu) m.cpus past) refl
-is_refused_so m e (inr (inl done)) =
-    outcome_none (ltb (cpu_number e.cpu) m.cpus) _ (step_none e.cpu (turns m.records) (there_after m.image m.records) (seat_of m (cpu_number e.cpu)) true _ done refl (inl refl))
-is_refused_so m e (inr (inr why)) =
-    outcome_none (ltb (cpu_number e.cpu) m.cpus) _ (meets_none m e.cpu (turns m.records) (seat_of m (cpu_number e.cpu)) why)
+is_refused_so m e (inl other) = rw other refl
+is_refused_so m e (inr refused) = either_none (is_step e.act) _ (step_is_refused m e.cpu refused)

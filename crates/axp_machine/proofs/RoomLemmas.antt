@@ -4,13 +4,13 @@ use Rattle.std.proofs.lemmas.Bool.{cases_eq, eq-eqb, ne_eqb, ltb-true, le-leb, c
 use Rattle.axp_access.specs.declared.Event.{Event}
 use Rattle.axp_access.specs.declared.Outcome.{Outcome}
 use Rattle.axp_access.specs.declared.Record.{Record}
+use Rattle.axp_access.specs.declared.Wanted.{Wanted}
 use Rattle.axp_base.specs.Cpus.{cpu_number}
 use Rattle.axp_image.specs.Contents.{Contents}
 use Rattle.axp_base.specs.declared.processors.Cpu.{Cpu}
-use Rattle.axp_cpu.specs.declared.tables.Wanted.{Wanted}
 use Rattle.axp_cpu.specs.Plans.{Plan, End, Want, Unbuilt}
 use Rattle.axp_cpu.specs.Seats.{Seat, moved, plan_now, stepped, wanted, wanted_by}
-use Rattle.axp_machine.specs.Runs.{Seen, seat, seat_of, step_by, there_after, made_access, outcome_of, IsRunOf, given_by_outcome}
+use Rattle.axp_machine.specs.Runs.{Seen, seat, seat_of, step_by, there_after, made_access, is_step, outcome_of, IsRunOf, given_by_outcome}
 use Rattle.axp_model.specs.PlainTurns.{turns}
 
 -- how many records a processor has
@@ -65,7 +65,7 @@ steps_left cpu t there s (Some w) o wants h = leb_false s.budget s.steps (unspen
 pub accepted_within : (m : Seen) (e : Event) (o : Outcome) → outcome_of m e ≡ Some o → (cpu_number e.cpu < m.cpus) × ((seat_of m (cpu_number e.cpu)).steps < m.budget)
 unfolding outcome_of
 accepted_within m e o h =
-    let parts = outcome_if (ltb (cpu_number e.cpu) m.cpus) _ o h in
+    let parts = outcome_if (ltb (cpu_number e.cpu) m.cpus) _ o (outcome_if (is_step e.act) _ o h).1 in
     let s = seat_of m (cpu_number e.cpu) in (
       ltb-true (cpu_number e.cpu) m.cpus parts.0,
       subst (λ n. s.steps < n) (budget-seat m.image m.budget (cpu_number e.cpu) m.records) (steps_left e.cpu (turns m.records) (there_after m.image m.records) s (wanted s) o refl parts.1),

@@ -9,10 +9,10 @@ use Rattle.axp_access.specs.declared.Access.{Access}
 use Rattle.axp_access.specs.declared.Event.{Event}
 use Rattle.axp_access.specs.declared.Outcome.TheVariants as outcome
 use Rattle.axp_access.specs.declared.Record.{Record}
+use Rattle.axp_access.specs.declared.Wanted.{Wanted}
 use Rattle.axp_base.specs.declared.processors.Cpu.{Cpu}
 use Rattle.axp_base.specs.Cpus.{cpu_number}
 use Rattle.axp_cpu.specs.declared.processors.Processor.{Processor}
-use Rattle.axp_cpu.specs.declared.tables.Wanted.{Wanted}
 use Rattle.axp_cpu.specs.Plans.{Plan, End, Want, Unbuilt}
 use Rattle.axp_cpu.specs.Seats.{Seat, is_finished, leads, moved, plan_now, stepped, wanted, wanted_by}
 use Rattle.axp_cpu.specs.Soundness.{IsSound}
@@ -22,7 +22,7 @@ use Rattle.axp_image.specs.Contents.{Contents}
 use Rattle.axp_model.specs.PlainTurns.{turns}
 use Rattle.axp_machine.specs.declared.steps.Step.{Step}
 use Rattle.axp_machine.specs.Plains.{Plain}
-use Rattle.axp_machine.specs.Runs.{seat, given_by, given_by_outcome, value_given, access_of, step_by, step_of, there_after, outcome_of}
+use Rattle.axp_machine.specs.Runs.{seat, given_by, given_by_outcome, value_given, access_of, step_by, step_of, there_after, is_step, outcome_of}
 use Rattle.axp_machine.specs.Steps.{number_there, Chooses, Does, Sits}
 use Rattle.axp_machine.specs.Ties.{AreSeated, MemoryIs}
 use Rattle.axp_machine.proofs.MemoryLemmas.{number_there-after}
@@ -103,31 +103,31 @@ Comes image cpus budget h e (Some s) =
     (outcome_of (record { image = image; cpus = cpus; budget = budget; records = h }) e ≡ Some (outcome.Access s.access))
     × Stands s.processor (stepped (seat image budget (cpu_number e.cpu) h) (given_by s.access.kind s.access.value)) × (cpu_number e.cpu < cpus)
 
-comes_of : (image : Contents) (m : Plain) (cpus budget : ℕ) (h : List Record) (e : Event) (o : Option Step) → cpu_number e.cpu < cpus
+comes_of : (image : Contents) (m : Plain) (cpus budget : ℕ) (h : List Record) (e : Event) (o : Option Step) → is_step e.act ≡ true → cpu_number e.cpu < cpus
     → Does e.cpu (turns h) (number_there m.bytes) (seat image budget (cpu_number e.cpu) h) o
     → step_of e.cpu (turns h) (number_there m.bytes) (seat image budget (cpu_number e.cpu) h) ≡ step_of e.cpu (turns h) (there_after image h) (seat image budget (cpu_number e.cpu) h)
     → Comes image cpus budget h e o
 unfolding outcome_of
-comes_of image m cpus budget h e None below does same = rw (lt-ltb (cpu_number e.cpu) cpus below, ← same, does) refl
-comes_of image m cpus budget h e (Some s) below does same = (rw (lt-ltb (cpu_number e.cpu) cpus below, ← same, does.0) refl, does.1, below)
+comes_of image m cpus budget h e None step below does same = rw (step, lt-ltb (cpu_number e.cpu) cpus below, ← same, does) refl
+comes_of image m cpus budget h e (Some s) step below does same = (rw (step, lt-ltb (cpu_number e.cpu) cpus below, ← same, does.0) refl, does.1, below)
 
-comes_past : (image : Contents) (bytes : List ℕ) (cpus budget t : ℕ) (h : List Record) (e : Event) (o : Option Step) → cpus ≤ cpu_number e.cpu → Chooses bytes t e.cpu None o → Comes image cpus budget h e o
+comes_past : (image : Contents) (bytes : List ℕ) (cpus budget t : ℕ) (h : List Record) (e : Event) (o : Option Step) → is_step e.act ≡ true → cpus ≤ cpu_number e.cpu → Chooses bytes t e.cpu None o → Comes image cpus budget h e o
 unfolding outcome_of
-comes_past image bytes cpus budget t h e None past chooses = rw (le-ltb (cpu_number e.cpu) cpus past) refl
-comes_past image bytes cpus budget t h e (Some s) past chooses = absurd chooses
+comes_past image bytes cpus budget t h e None step past chooses = rw (step, le-ltb (cpu_number e.cpu) cpus past) refl
+comes_past image bytes cpus budget t h e (Some s) step past chooses = absurd chooses
 
-comes_by : (image : Contents) (m : Plain) (ps : List Processor) (budget : ℕ) (h : List Record) (e : Event) (q : Option Processor) (o : Option Step) → slice_get ps (cpu_number e.cpu) ≡ q → MemoryIs image m h → AreSeated image budget ps h
+comes_by : (image : Contents) (m : Plain) (ps : List Processor) (budget : ℕ) (h : List Record) (e : Event) (q : Option Processor) (o : Option Step) → is_step e.act ≡ true → slice_get ps (cpu_number e.cpu) ≡ q → MemoryIs image m h → AreSeated image budget ps h
     → Chooses m.bytes (turns h) e.cpu q o → Comes image (length ps) budget h e o
-comes_by image m ps budget h e None o at kept seated chooses = comes_past image m.bytes (length ps) budget (turns h) h e o (past_of_none ps (cpu_number e.cpu) at) chooses
-comes_by image m ps budget h e (Some p) o at kept seated chooses =
+comes_by image m ps budget h e None o step at kept seated chooses = comes_past image m.bytes (length ps) budget (turns h) h e o step (past_of_none ps (cpu_number e.cpu) at) chooses
+comes_by image m ps budget h e (Some p) o step at kept seated chooses =
     let s = seat image budget (cpu_number e.cpu) h in
     let stands = seated (cpu_number e.cpu) p at in
     let sound : IsSound image.size (plan_now s) = subst (λ n. IsSound n (plan_now s)) (size-seat image budget (cpu_number e.cpu) h) (seat_sound p s stands) in
-    comes_of image m (length ps) budget h e o (slice_get_within ps (cpu_number e.cpu) p at) (chooses s stands) (step_same image m h e.cpu (turns h) s kept sound)
+    comes_of image m (length ps) budget h e o step (slice_get_within ps (cpu_number e.cpu) p at) (chooses s stands) (step_same image m h e.cpu (turns h) s kept sound)
 
-pub comes : (image : Contents) (m : Plain) (ps : List Processor) (budget : ℕ) (h : List Record) (e : Event) (o : Option Step) → MemoryIs image m h → AreSeated image budget ps h
+pub comes : (image : Contents) (m : Plain) (ps : List Processor) (budget : ℕ) (h : List Record) (e : Event) (o : Option Step) → is_step e.act ≡ true → MemoryIs image m h → AreSeated image budget ps h
     → Chooses m.bytes (turns h) e.cpu (slice_get ps (cpu_number e.cpu)) o → Comes image (length ps) budget h e o
-comes image m ps budget h e o kept seated chooses = comes_by image m ps budget h e (slice_get ps (cpu_number e.cpu)) o refl kept seated chooses
+comes image m ps budget h e o step kept seated chooses = comes_by image m ps budget h e (slice_get ps (cpu_number e.cpu)) o step refl kept seated chooses
 
 -- each processor can be asked for its step
 pub all_sit : (image : Contents) (budget : ℕ) (ps : List Processor) (h : List Record) (n : ℕ) → n ≡ image.size → AreSeated image budget ps h → (p : ℕ) (x : Processor) → slice_get ps p ≡ Some x → Sits n x

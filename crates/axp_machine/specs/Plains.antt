@@ -2,7 +2,7 @@
 use Rattle.std.specs.Prelude.{◌≡◌, ℕ, ◌+◌, ◌-◌, ◌/◌, ◌<◌, Bool, true, false, ◌&&◌, nat_lt, nat_le, List, length, replicate, slice_index, slice_set, if◌then◌else◌}
 use Rattle.axp_access.specs.declared.Access.{Access}
 use Rattle.axp_regs.specs.declared.asks.Kind.{Kind}
-use Rattle.axp_regs.specs.declared.asks.Kind.TheVariants.{Fetch, Read, Write}
+use Rattle.axp_regs.specs.declared.asks.Kind.TheVariants.{Write}
 use Rattle.axp_base.specs.Parts.{with_part}
 use Rattle.axp_base.specs.declared.parts.TheConstants.{QUADWORD_BYTES}
 use Rattle.axp_image.specs.Contents.{Contents, byte_in}
@@ -25,12 +25,11 @@ pub record PutsPiece (old new : List ℕ) (at : ℕ) (piece : List ℕ) : Type 0
 
 -- the memory after an access
 abbrev pub after_kind : Kind → ℕ → ℕ → ℕ → Plain → Plain
-after_kind Fetch address size v m = m
-after_kind Read address size v m = m
 after_kind Write address size v m = record {
   bytes = with_part m.bytes address size v;
   touched = slice_set m.touched (address / QUADWORD_BYTES) true;
 }
+after_kind _ address size v m = m
 
 abbrev pub after_access : Access → Plain → Plain
 after_access a m = after_kind a.kind a.address a.size a.value m

@@ -2,6 +2,7 @@
 use Rattle.std.specs.Prelude.{◌≡◌, ◌≤◌, ◌⊎◌, ◌%◌, ◌^◌, ℕ, true, false, []}
 use Rattle.axp_access.specs.declared.Event.{Event}
 use Rattle.axp_base.specs.Cpus.{cpu_number}
+use Rattle.axp_base.specs.declared.processors.Cpu.{Cpu}
 use Rattle.axp_cpu.specs.declared.tables.Table.{Table}
 use Rattle.axp_cpu.specs.Addresses.{physical}
 use Rattle.axp_cpu.specs.Refusals.{is_reached, is_refused}
@@ -11,7 +12,7 @@ use Rattle.axp_decode.specs.Format.{instr_of}
 use Rattle.axp_image.specs.declared.limits.TheConstants.{INSTRUCTION_BYTES}
 use Rattle.axp_model.specs.PlainSources.{memory_number}
 use Rattle.axp_regs.specs.States.{pc_of}
-use Rattle.axp_machine.specs.Runs.{Seen, seat_of}
+use Rattle.axp_machine.specs.Runs.{Seen, is_step, seat_of}
 
 -- the word that memory has at the program counter of a table state
 abbrev pub word_at : Seen → Table → ℕ
@@ -23,7 +24,11 @@ pub record MeetsUnbuilt (m : Seen) (s : Seat) : Type 0 where
   pub meets : (is_reached s.size (pc_of s.start.state) ≡ false) ⊎ (is_refused s.size (counted s.start) (instr_of (word_at m s.start)) ≡ true)
 
 -- there is no such processor, it is finished, or it meets what is not built
+abbrev pub IsStepRefused : Seen → Cpu → Type 0
+IsStepRefused m cpu =
+    (m.cpus ≤ cpu_number cpu)
+    ⊎ ((is_finished (seat_of m (cpu_number cpu)) ≡ true) ⊎ MeetsUnbuilt m (seat_of m (cpu_number cpu)))
+
+-- the event is not a step, or its step is refused
 abbrev pub IsRefused : Seen → Event → Type 0
-IsRefused m e =
-    (m.cpus ≤ cpu_number e.cpu)
-    ⊎ ((is_finished (seat_of m (cpu_number e.cpu)) ≡ true) ⊎ MeetsUnbuilt m (seat_of m (cpu_number e.cpu)))
+IsRefused m e = (is_step e.act ≡ false) ⊎ IsStepRefused m e.cpu

@@ -1,12 +1,15 @@
 -- What an event gives after any records, and the run of a list of events.
-use Rattle.std.specs.Prelude.{◌≡◌, ℕ, ◌*◌, zero, suc, Bool, true, ◌&&◌, nat_lt, ◌==◌, List, [], ◌∷◌, map, Option, Some, None, Result, ok_or, if◌then◌else◌}
+use Rattle.std.specs.Prelude.{◌≡◌, ℕ, ◌*◌, zero, suc, Bool, true, false, ◌&&◌, nat_lt, ◌==◌, List, [], ◌∷◌, map, Option, Some, None, Result, ok_or, if◌then◌else◌}
 use Rattle.axp_access.specs.declared.Access.{Access}
+use Rattle.axp_access.specs.declared.Act.{Act}
+use Rattle.axp_access.specs.declared.Act.TheVariants.{Step}
 use Rattle.axp_access.specs.declared.Event.{Event}
 use Rattle.axp_regs.specs.declared.asks.Kind.{Kind}
-use Rattle.axp_regs.specs.declared.asks.Kind.TheVariants.{Fetch, Read, Write}
+use Rattle.axp_regs.specs.declared.asks.Kind.TheVariants.{Fetch, Read}
 use Rattle.axp_access.specs.declared.Outcome.{Outcome}
 use Rattle.axp_access.specs.declared.Outcome.TheVariants as outcome
 use Rattle.axp_access.specs.declared.Record.{Record}
+use Rattle.axp_access.specs.declared.Wanted.{Wanted}
 use Rattle.axp_base.specs.declared.processors.Cpu.{Cpu}
 use Rattle.axp_base.specs.Cpus.{cpu_number}
 use Rattle.axp_image.specs.Contents.{Contents}
@@ -16,7 +19,6 @@ use Rattle.axp_model.specs.PlainSources.{memory_number}
 use Rattle.axp_machine.specs.declared.machine.NotBuilt.{NotBuilt}
 use Rattle.axp_base.specs.declared.parts.TheConstants.{QUADWORD_BYTES}
 use Rattle.axp_cpu.specs.declared.tables.Table.{Table}
-use Rattle.axp_cpu.specs.declared.tables.Wanted.{Wanted}
 use Rattle.axp_cpu.specs.Seats.{Seat, first_seat, is_finished, leads, stepped, wanted}
 
 -- A machine as its callers see it; the records are the history, the newest first.
@@ -30,15 +32,15 @@ pub record Seen : Type 0 where
 abbrev pub started : Contents → ℕ → ℕ → Seen
 started image cpus budget = record { image = image; cpus = cpus; budget = budget; records = [] }
 
--- the value that an access gives to the instruction table: 0 where it stores
+-- the value that an access gives to the instruction table: 0 where it reads nothing
 abbrev pub given_by : Kind → ℕ → ℕ
 given_by Fetch v = v
 given_by Read v = v
-given_by Write v = 0
+given_by _ v = 0
 
 abbrev pub given_by_outcome : Outcome → ℕ
 given_by_outcome (outcome.Access a) = given_by a.kind a.value
-given_by_outcome outcome.NoAccess = 0
+given_by_outcome _ = 0
 
 -- where a processor stands after a history
 abbrev pub seat : Contents → ℕ → ℕ → List Record → Seat
@@ -50,15 +52,15 @@ seat image budget p (r ∷ h) =
 abbrev pub seat_of : Seen → ℕ → Seat
 seat_of m p = seat m.image m.budget p m.records
 
--- the value of an access: what it stores, or what memory has there
+-- the value of an access: what memory has there, or what it stores
 abbrev pub value_of : Kind → ℕ → ℕ → ℕ
 value_of Fetch stored there = there
 value_of Read stored there = there
-value_of Write stored there = stored
+value_of _ stored there = stored
 
 -- the wanted access, after so many turns and with this number in memory
 abbrev pub access_of : Cpu → ℕ → Wanted → ℕ → Access
-access_of cpu count w there = record { cpu = cpu; kind = w.kind; address = w.address; size = w.size; value = value_of w.kind w.value there; place = place_at count w.kind }
+access_of cpu count w there = record { cpu = cpu; kind = w.kind; address = w.address; size = w.size; value = value_of w.kind w.value there; yes = false; place = place_at count w.kind }
 
 -- the value that a wanted access gives
 abbrev pub value_given : Wanted → ℕ → ℕ
@@ -80,12 +82,21 @@ abbrev pub made_access : Option Access → Option Outcome
 made_access None = None
 made_access (Some a) = Some (outcome.Access a)
 
+-- what a step of a processor gives
+abbrev pub outcome_of_step : Seen → Cpu → Option Outcome
+outcome_of_step m cpu =
+    if nat_lt (cpu_number cpu) m.cpus
+    then made_access (step_of cpu (turns m.records) (there_after m.image m.records) (seat_of m (cpu_number cpu)))
+    else None
+
+-- steps are all that is built: one plain memory has nothing to fill, to drain or to poll
+abbrev pub is_step : Act → Bool
+is_step Step = true
+is_step _ = false
+
 -- What an event gives; None: it is not built.
 unfoldable pub outcome_of : Seen → Event → Option Outcome
-outcome_of m e =
-    if nat_lt (cpu_number e.cpu) m.cpus
-    then made_access (step_of e.cpu (turns m.records) (there_after m.image m.records) (seat_of m (cpu_number e.cpu)))
-    else None
+outcome_of m e = if is_step e.act then outcome_of_step m e.cpu else None
 
 -- the machine with one record more
 abbrev pub with_record : Seen → Record → Seen

@@ -12,9 +12,9 @@ pub fn records_are_a_run()
     ensures from_start { (image : Contents) (cpus budget : ℕ) (events : List Event) → IsRun (run (started image cpus budget) events) }
 {}
 
-/// An event is refused exactly where its processor is not one of the machine's, is finished, or is
-/// between two instructions and the next one cannot be fetched or is not built. So the access inside of
-/// an instruction is never refused.
+/// An event is refused exactly where it is not a step, or its processor is not one of the machine's, is
+/// finished, or is between two instructions and the next one cannot be fetched or is not built. So the
+/// access inside of an instruction is never refused.
 pub fn refused_events()
     ensures { (m : Seen) (e : Event) → IsRun m → (outcome_of m e ≡ None) ↔ IsRefused m e }
 {}

@@ -2,6 +2,7 @@ ghost use Rattle.std.specs.Prelude.{◌≡◌, ◌+◌, ◌≤◌, ◌<◌, ◌^
 ghost use Rattle.axp_base.specs.declared.processors.TheConstants.{MAX_CPUS};
 ghost use Rattle.axp_cpu.specs.Soundness.{IsInside};
 ghost use Rattle.axp_machine.specs.Plains.{after_access};
+ghost use Rattle.axp_machine.specs.Runs.{is_step};
 ghost use Rattle.axp_machine.specs.Steps.{StartsAll};
 ghost use Rattle.axp_model.specs.PlainTurns.{turns_of_kind};
 
@@ -176,9 +177,9 @@ impl Machine {
             .read(quadword * QUADWORD_BYTES, QUADWORD_BYTES as u8)
     }
 
-    /// Does an event. It is accepted exactly where the processor is one of the machine's and not
-    /// finished, and all that the step leads to is built; a refused event leaves the machine as it
-    /// was.
+    /// Does an event. It is accepted exactly where it is a step, its processor is one of the machine's
+    /// and not finished, and all that the step leads to is built; a refused event leaves the machine
+    /// as it was.
     #[tactic(auto, unfolding(crate::specs::Runs::after_event))]
     pub fn event(&mut self, event: Event) -> Result<Outcome, NotBuilt>
         ensures answer { result ≡ answer_of (outcome_of self.old event) }
@@ -186,7 +187,6 @@ impl Machine {
         ensures run { IsRun self.new }
         ensures spelled { IfOk result (Spells event) }
     {
-        let Act::Step = event.act;
         match self.choose(event) {
             Some(step) => Ok(self.make(event, step)),
             None => Err(NotBuilt),
@@ -199,7 +199,11 @@ impl Machine {
         ensures run { IsRun self.now }
     {
         let processors = self.processors.as_slice();
-        next_step(processors, &self.memory, self.turns, event.cpu)
+        if is_step(event.act) {
+            next_step(processors, &self.memory, self.turns, event.cpu)
+        } else {
+            None
+        }
     }
 
     /// Makes the step of an event.
@@ -216,6 +220,13 @@ impl Machine {
         self.records.push_reserved(Record { event, outcome });
         outcome
     }
+}
+
+/// Whether an act is a step.
+fn is_step(act: Act) -> bool
+    ensures { result ≡ is_step act }
+{
+    matches!(act, Act::Step)
 }
 
 /// All processors at the start.
@@ -246,10 +257,10 @@ fn make_access(memory: &mut PlainMemory, turns: &mut u64, access: &Access)
     ensures turns { turns.new ≡ turns_of_kind access.now.kind + turns.old }
 {
     match access.kind {
-        Kind::Fetch | Kind::Read => {}
         Kind::Write => {
             memory.write(access.address, access.size, access.value);
             *turns += 1;
         }
+        _ => {}
     }
 }

@@ -7,9 +7,9 @@ ghost use Rattle.axp_machine.specs.Runs.{access_of, given_by};
 ghost use Rattle.axp_machine.specs.Steps.{number_there, AreMade, Chooses, Does, IsMade, Sits};
 
 use crate::plain_memory::PlainMemory;
-use axp_access::{Access, Kind, Place};
+use axp_access::{Access, Kind, Place, Wanted};
 use axp_base::Cpu;
-use axp_cpu::{Processor, Wanted};
+use axp_cpu::Processor;
 
 /// A step that a processor may make: its access, and the processor after it.
 #[derive(Clone, Copy, Debug)]
@@ -66,6 +66,7 @@ fn access_to(cpu: Cpu, turns: u64, wanted: Wanted, memory: &PlainMemory) -> Acce
     let (value, place) = match wanted.kind {
         Kind::Fetch | Kind::Read => (memory.read(wanted.address, wanted.size), turns),
         Kind::Write => (wanted.value, turns + 1),
+        _ => (wanted.value, turns),
     };
     Access {
         cpu,
@@ -73,16 +74,17 @@ fn access_to(cpu: Cpu, turns: u64, wanted: Wanted, memory: &PlainMemory) -> Acce
         address: wanted.address,
         size: wanted.size,
         value,
+        yes: false,
         place: Place::At(place),
     }
 }
 
-/// The value that an access gives to its group: 0 where it stores.
+/// The value that an access gives to its group: 0 where it reads nothing.
 fn value_of(access: &Access) -> u64
     ensures { result ≡ given_by access.now.kind access.now.value }
 {
     match access.kind {
         Kind::Fetch | Kind::Read => access.value,
-        Kind::Write => 0,
+        _ => 0,
     }
 }

@@ -1,6 +1,6 @@
 use super::*;
 use axp_access::{Access, Act, Event, Kind, Outcome, Place};
-use axp_base::{Cpu, NoMemory, QUADWORD_BYTES};
+use axp_base::{Bank, Cpu, Line, NoMemory, QUADWORD_BYTES};
 use axp_image::read_image;
 use std::alloc::Global;
 use std::test::Fail;
@@ -75,6 +75,7 @@ fn stores_loads_and_halts(rt: HostRuntime) -> Result<(), Fail> {
             address,
             size,
             value,
+            yes: false,
             place: Place::At(turn),
         };
         assert_eq!(rt; machine.event(step_of(cpu)), Ok(Outcome::Access(access)));
@@ -127,12 +128,53 @@ fn is_complete_once_every_processor_is(rt: HostRuntime) -> Result<(), Fail> {
         address: 0x4000,
         size: 8,
         value: 1,
+        yes: false,
         place: Place::At(2),
     };
     assert_eq!(rt; machine.event(step_of(second)), Ok(Outcome::Access(store)));
     run_on(&mut machine, second);
     assert_eq!(rt; machine.events(), 14);
     assert!(rt; machine.complete());
+    Ok(())
+}
+
+#[test]
+fn only_steps_are_built(rt: HostRuntime) -> Result<(), Fail> {
+    let cpu = Cpu::new(0).ok_or("0 is a processor's number")?;
+    let loaded = load_words(rt.alloc(), &STORE_AND_LOAD)
+        .ok()
+        .ok_or("memory")?;
+    let mut machine = loaded.ok_or("the file is an image")?;
+    for _ in 0..3 {
+        assert!(rt; machine.event(step_of(cpu)).is_ok());
+    }
+    for act in [
+        Act::Fill,
+        Act::Drain(0),
+        Act::Take(Bank::Even),
+        Act::Drop(Bank::Code, Line::of(0x2000)),
+        Act::Poll,
+        Act::Tick,
+    ] {
+        assert_eq!(rt; machine.event(Event { cpu, act }), Err(NotBuilt), "{act:?}");
+        assert_eq!(rt; machine.events(), 3, "{act:?}");
+        assert!(rt; cpu.number() < machine.cpus());
+        assert_eq!(rt; machine.steps(cpu), 3, "{act:?}");
+        assert_eq!(rt; machine.pc(cpu), 0xFFFF_FC00_0000_2008, "{act:?}");
+        assert_eq!(rt; machine.register(cpu, 1), 1, "{act:?}");
+        assert!(rt; STACK_QUADWORD * QUADWORD_BYTES < machine.memory_size());
+        assert_eq!(rt; machine.quadword(STACK_QUADWORD), 1, "{act:?}");
+    }
+    let fetch = Access {
+        cpu,
+        kind: Kind::Fetch,
+        address: 0x2008,
+        size: 4,
+        value: 0xA45E_0000,
+        yes: false,
+        place: Place::At(1),
+    };
+    assert_eq!(rt; machine.event(step_of(cpu)), Ok(Outcome::Access(fetch)));
     Ok(())
 }
 
