@@ -8,7 +8,7 @@ use Rattle.std.proofs.lemmas.Nat.{pow-add, mod-pow-add, mod_below, pow_pos}
 use Rattle.std.proofs.Math.Nat.{mod-eq_of_lt}
 use Rattle.std.proofs.Math.Pow.{pow_mono}
 use Rattle.std.proofs.lemmas.Bool.{cases_lt, lt-ltb, le-ltb, le-leb}
-use Rattle.axp_trace.specs.Digits.{hex, hex_digit, hex_digit_value, hex_value_after, hex_value, decimal_value_after, number_of}
+use Rattle.axp_trace.specs.Digits.{hex, hex_digit, hex_digit_value, hex_value_after, hex_value, hex_number_of, decimal_value_after, number_of}
 
 pub short_decimal : (n : ℕ) → n < 2 ^ 32 → length (decimal n) ≤ 10
 short_decimal n small = length-decimal-le 10 n (omega arith) (omega arith) (omega arith)
@@ -64,6 +64,28 @@ hex_value_after-hex (suc k) n acc =
 -- the digits of a number that they have room for give the number back
 pub hex_back : (k n : ℕ) → n < 2 ^ (4 * k) → hex_value (hex k n) ≡ n
 hex_back k n small = hex_value_after-hex k n 0 ∙ omega (arith, mod-eq_of_lt small)
+
+pub hex_number_back : (n : ℕ) → n < 2 ^ 32 → hex_number_of (hex 8 n) ≡ Some n
+hex_number_back n small = rw length-hex (ap Some (hex_back 8 n small))
+
+-- one turn of the loop that reads hexadecimal digits
+pub hex_number_turn : (xs : List ℕ) (i v d all : ℕ) → i < length xs → d ≡ hex_digit_value (get_or xs i 0) → hex_value_after v (drop i xs) ≡ all → hex_value_after (v * 16 + d) (drop (i + 1) xs) ≡ all
+hex_number_turn xs i v d all within is h =
+    let cell : drop i xs ≡ get_or xs i 0 ∷ drop (suc i) xs = drop-cons xs i 0 within in
+    rw (add-one, is) (sym (ap (hex_value_after v) cell) ∙ h)
+
+-- the number so far stays small
+pub hex_number_fits : (v d i : ℕ) → v < 2 ^ (5 * i + 8) → d < 2 ^ 8 → v * 16 + d < 2 ^ (5 * (i + 1) + 8)
+hex_number_fits v d i h k =
+    let e : 5 * (i + 1) + 8 ≡ 5 + (5 * i + 8) = omega arith in
+    let f : 5 * i + 8 ≡ 8 + 5 * i = omega arith in
+    let more : 2 ^ (8 + 5 * i) ≡ 2 ^ 8 * 2 ^ (5 * i) = pow-add 2 8 (5 * i) in
+    let pos = pow_pos (5 * i) in
+    let large : 256 * 2 ^ (5 * i) ≡ 2 ^ (5 * i + 8) = sym (ap (λ j. 2 ^ j) f ∙ more) in
+    rw (e, pow-add 2 5 (5 * i + 8)) (omega arith)
+
+pub hex_number_room : (v i : ℕ) → v < 2 ^ (5 * i + 8) → i ≤ 8 → v < 2 ^ 48
+hex_number_room v i h m = let up : 5 * i + 8 ≤ 48 = omega arith in omega (arith, pow_mono up)
 
 -- decimal digits are read from the left
 numbers : IsNumeralModel (λ ds. all_ascii_digits ds ≡ true) (decimal_value_after 0)

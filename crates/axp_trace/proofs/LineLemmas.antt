@@ -1,26 +1,26 @@
 -- No line has a line feed in it: its bytes are blanks, digits, letters and the like.
-use Rattle.std.proofs.Common.{◌≡◌, ◌≢◌, ℕ, zero, suc, ◌*◌, ◌/◌, ◌%◌, ◌^◌, ◌<◌, ◌≤◌, Bool, true, false, nat_le, ◌&&◌, IfSome, List, [], ◌∷◌, ◌++◌, decimal, Option, Some, None, refl, sym, ap, ◌∙◌, arith, inl, inr, ⊎_elim}
+use Rattle.std.proofs.Common.{◌≡◌, ◌≢◌, ℕ, zero, suc, ◌*◌, ◌/◌, ◌%◌, ◌^◌, ◌<◌, ◌≤◌, ◌==◌, Bool, true, false, nat_le, ◌&&◌, if◌then◌else◌, List, [], ◌∷◌, ◌++◌, decimal, Option, Some, None, refl, sym, ap, ◌∙◌, arith, inl, inr, ⊎_elim}
 use Rattle.std.specs.List.{All}
 use Rattle.std.proofs.lemmas.Bool.{and_parts, and_from, le-leb, leb-true, cases_lt, lt-ltb, le-ltb, ltb-true}
 use Rattle.std.proofs.lemmas.List.Elements.{All-from_get_or, All-nil, All-cons, All-weaker, All-head, All-tail}
-use Rattle.std.proofs.lemmas.Fmt.{decimal_is_IsNumeral}
-use Rattle.std.proofs.lemmas.Str.Parse.{digit_at}
-use Rattle.axp_base.specs.Masks.{IsSize}
+use Rattle.std.specs.Fmt.{digit_glyph, digits, digits_onto}
 use Rattle.axp_base.specs.Cpus.{cpu_number}
+use Rattle.axp_base.specs.declared.lines.Bank.{Bank}
+use Rattle.axp_base.specs.declared.lines.Bank.TheVariants.{Even, Odd, Code}
 use Rattle.axp_base.specs.declared.processors.Cpu.{Cpu}
 use Rattle.axp_base.specs.declared.processors.TheConstants.{MAX_CPUS}
-use Rattle.axp_access.specs.Spelling.{Spells, IsSizeOf, IsPlaceOf}
+use Rattle.axp_access.specs.declared.Access.{Access}
 use Rattle.axp_access.specs.declared.Act.{Act}
-use Rattle.axp_access.specs.declared.Act.TheVariants.{Step}
+use Rattle.axp_access.specs.declared.Act.TheVariants as act
 use Rattle.axp_access.specs.declared.Event.{Event}
 use Rattle.axp_regs.specs.declared.asks.Kind.{Kind}
-use Rattle.axp_regs.specs.declared.asks.Kind.TheVariants.{Fetch, Read, Write}
+use Rattle.axp_regs.specs.declared.asks.Kind.TheVariants as kind
 use Rattle.axp_access.specs.declared.Outcome.{Outcome}
 use Rattle.axp_access.specs.declared.Outcome.TheVariants as outcome
 use Rattle.axp_access.specs.declared.Place.{Place}
-use Rattle.axp_access.specs.declared.Place.TheVariants.{At}
+use Rattle.axp_access.specs.declared.Place.TheVariants.{At, Entry, Absent}
 use Rattle.axp_trace.specs.Digits.{hex, hex_digit}
-use Rattle.axp_trace.specs.Lines.{act_text, event_text, place_text, data_text, move_text, access_text, outcome_text, line_text, events_header, trace_header, end_text, processor_line, register_line, memory_line, console_line, end_line}
+use Rattle.axp_trace.specs.Lines.{bank_text, bank_number_text, act_text, event_text, turn_text, place_text, data_text, success_text, move_text, access_text, copy_text, bit_text, poll_text, outcome_text, line_text, events_header, trace_header, end_text, processor_line, register_line, memory_line, console_line, end_line}
 use Rattle.axp_trace.specs.declared.files.TheConstants.{LINE_FEED}
 
 -- each byte is a blank or above: a test, so that it computes on what is written out
@@ -48,83 +48,155 @@ plain_high : (xs : List ℕ) → All (λ b. 32 ≤ b) xs → plain xs ≡ true
 plain_high [] h = refl
 plain_high (x ∷ xs) h = and_from (nat_le 32 x) (plain xs) (le-leb 32 x (All-head (λ b. 32 ≤ b) x xs h)) (plain_high xs (All-tail (λ b. 32 ≤ b) x xs h))
 
-pub high_decimal : (n : ℕ) → n < 2 ^ 64 → All (λ d. 48 ≤ d) (decimal n)
-high_decimal n small = All-from_get_or (λ d. 48 ≤ d) (decimal n) 0 (λ i h. (digit_at (decimal n) i (decimal_is_IsNumeral n small).0.1 h).0)
+high_glyph : (d : ℕ) → 48 ≤ digit_glyph false d
+high_glyph d = ⊎_elim (λ low. rw (lt-ltb d 10 low) (omega arith)) (λ high. rw (le-ltb d 10 high) (omega arith)) (cases_lt d 10)
 
-plain_decimal : (n : ℕ) → n < 2 ^ 64 → plain (decimal n) ≡ true
-plain_decimal n small = plain_high (decimal n) (All-weaker (λ d. 48 ≤ d) (λ d. 32 ≤ d) (λ d h. omega arith) (decimal n) (high_decimal n small))
+high_digits : (k n : ℕ) (acc : List ℕ) → All (λ d. 48 ≤ d) acc → All (λ d. 48 ≤ d) (digits_onto k 10 false n acc)
+high_digits zero n acc h = h
+high_digits (suc k) n acc h = either (n / 10 == 0) _ _ more (high_digits k (n / 10) _ more)
+  where
+    more : All (λ d. 48 ≤ d) (digit_glyph false (n % 10) ∷ acc)
+    more = All-cons (λ d. 48 ≤ d) (digit_glyph false (n % 10)) acc (high_glyph (n % 10)) h
 
-high_digit : (d : ℕ) → 32 ≤ hex_digit d
+    either : (b : Bool) (xs ys : List ℕ) → All (λ d. 48 ≤ d) xs → All (λ d. 48 ≤ d) ys → All (λ d. 48 ≤ d) (if b then xs else ys)
+    either true xs ys p q = p
+    either false xs ys p q = q
+
+-- the bytes of a number are digits or letters
+pub high_decimal : (n : ℕ) → All (λ d. 48 ≤ d) (decimal n)
+unfolding digits
+high_decimal n = high_digits 64 n [] (All-nil (λ d. 48 ≤ d))
+
+high_digit : (d : ℕ) → 48 ≤ hex_digit d
 high_digit d = ⊎_elim (λ low. rw (lt-ltb d 10 low) (omega arith)) (λ high. rw (le-ltb d 10 high) (omega arith)) (cases_lt d 10)
 
-plain_hex : (k n : ℕ) → plain (hex k n) ≡ true
+pub high_hex : (k n : ℕ) → All (λ d. 48 ≤ d) (hex k n)
 unfolding hex
-plain_hex zero n = refl
-plain_hex (suc k) n = and_from (nat_le 32 (hex_digit (n / 2 ^ (4 * k) % 16))) (plain (hex k n)) (le-leb 32 _ (high_digit (n / 2 ^ (4 * k) % 16))) (plain_hex k n)
+high_hex zero n = All-nil (λ d. 48 ≤ d)
+high_hex (suc k) n = All-cons (λ d. 48 ≤ d) _ (hex k n) (high_digit (n / 2 ^ (4 * k) % 16)) (high_hex k n)
+
+plain_digits : (xs : List ℕ) → All (λ d. 48 ≤ d) xs → plain xs ≡ true
+plain_digits xs h = plain_high xs (All-weaker (λ d. 48 ≤ d) (λ d. 32 ≤ d) (λ d h. omega arith) xs h)
+
+plain_decimal : (n : ℕ) → plain (decimal n) ≡ true
+plain_decimal n = plain_digits (decimal n) (high_decimal n)
+
+plain_hex : (k n : ℕ) → plain (hex k n) ≡ true
+plain_hex k n = plain_digits (hex k n) (high_hex k n)
 
 pub small_cpu : (c : Cpu) → cpu_number c < MAX_CPUS
 small_cpu c = ltb-true c.number MAX_CPUS c.below
 
+plain_bank : (b : Bank) → plain (bank_text b) ≡ true
+plain_bank Even = refl
+plain_bank Odd = refl
+plain_bank Code = refl
+
+plain_bank_number : (b : Bank) → plain (bank_number_text b) ≡ true
+plain_bank_number Even = refl
+plain_bank_number Odd = refl
+plain_bank_number Code = refl
+
 plain_act : (a : Act) → plain (act_text a) ≡ true
-plain_act Step = refl
+unfolding act_text
+plain_act act.Step = refl
+plain_act act.Fill = refl
+plain_act (act.Drain k) = plain_decimal k
+plain_act (act.Take b) = plain_bank_number b
+plain_act (act.Drop b l) = simp (plain-append, plain_bank, plain_hex)
+plain_act act.Poll = refl
+plain_act act.Tick = refl
 
 plain_event : (e : Event) → plain (event_text e) ≡ true
 unfolding event_text
-plain_event e = let small = small_cpu e.cpu in simp (plain-append, plain_decimal (cpu_number e.cpu) (omega arith), plain_act e.act)
+plain_event e = simp (plain-append, plain_decimal, plain_act)
 
-plain_place : (kind : Kind) (p : Place) → IsPlaceOf kind p → plain (place_text p) ≡ true
-plain_place kind (At turn) h = plain_decimal turn (omega arith)
+plain_turn : (turn : ℕ) → plain (turn_text turn) ≡ true
+unfolding turn_text
+plain_turn turn = plain_decimal turn
 
-plain_data : (address size value : ℕ) → size ≤ 8 → plain (data_text address size value) ≡ true
-plain_data address size value h = simp (plain-append, plain_hex, plain_decimal size (omega arith))
+plain_place : (p : Place) → plain (place_text p) ≡ true
+plain_place (At turn) = plain_turn turn
+plain_place (Entry n) = plain_decimal n
+plain_place Absent = refl
 
-few_bytes : (size : ℕ) → IsSize size → size ≤ 8
-few_bytes size (inl e) = omega arith
-few_bytes size (inr (inl e)) = omega arith
-few_bytes size (inr (inr (inl e))) = omega arith
-few_bytes size (inr (inr (inr e))) = omega arith
+plain_data : (address size value : ℕ) → plain (data_text address size value) ≡ true
+plain_data address size value = simp (plain-append, plain_hex, plain_decimal)
 
-plain_move : (kind : Kind) (address size value : ℕ) → IsSizeOf kind size → plain (move_text kind address size value) ≡ true
+plain_success : (yes : Bool) → plain (success_text yes) ≡ true
+plain_success true = refl
+plain_success false = refl
+
+plain_move : (k : Kind) (a : Access) → plain (move_text k a) ≡ true
 unfolding move_text
-plain_move Fetch address size value h = simp (plain-append, plain_hex)
-plain_move Read address size value h = plain_data address size value (few_bytes size h)
-plain_move Write address size value h = plain_data address size value (few_bytes size h)
+plain_move kind.Fetch a = simp (plain-append, plain_hex)
+plain_move kind.Read a = plain_data a.address a.size a.value
+plain_move kind.Write a = plain_data a.address a.size a.value
+plain_move kind.Locked a = plain_data a.address a.size a.value
+plain_move kind.Conditional a = simp (plain-append, plain_hex, plain_decimal, plain_success)
+plain_move kind.Barrier a = refl
+plain_move kind.WriteBarrier a = refl
+plain_move kind.CodeBarrier a = refl
+plain_move kind.Signal a = plain_decimal a.value
+plain_move kind.Console a = plain_hex 2 a.value
+plain_move kind.Poll a = refl
 
-plain_outcome : (e : Event) (o : Outcome) → Spells e o → plain (outcome_text o) ≡ true
-unfolding outcome_text access_text
-plain_outcome e (outcome.Access a) h = simp (plain-append, plain_move a.kind a.address a.size a.value h.1.size, plain_place a.kind a.place h.1.place)
-plain_outcome e outcome.NoAccess h = refl
+plain_access : (a : Access) → plain (access_text a) ≡ true
+unfolding access_text
+plain_access a = simp (plain-append, plain_move, plain_place)
 
-plain_line : (e : Event) (o : Outcome) → Spells e o → plain (line_text e o) ≡ true
+plain_copy : (gone : Bool) → plain (copy_text gone) ≡ true
+plain_copy true = refl
+plain_copy false = refl
+
+plain_bit : (bit : Bool) → plain (bit_text bit) ≡ true
+plain_bit true = refl
+plain_bit false = refl
+
+plain_poll : (entered : Bool) → plain (poll_text entered) ≡ true
+plain_poll true = refl
+plain_poll false = refl
+
+plain_outcome : (o : Outcome) → plain (outcome_text o) ≡ true
+unfolding outcome_text
+plain_outcome (outcome.Access a) = plain_access a
+plain_outcome outcome.NoAccess = refl
+plain_outcome (outcome.Filled bank line turn) = simp (plain-append, plain_bank, plain_hex, plain_turn)
+plain_outcome (outcome.Drained entry line turn) = simp (plain-append, plain_hex, plain_decimal, plain_turn)
+plain_outcome (outcome.Taken line turn gone) = simp (plain-append, plain_hex, plain_turn, plain_copy)
+plain_outcome outcome.Done = refl
+plain_outcome (outcome.Polled pending entered turn) = simp (plain-append, plain_bit, plain_turn, plain_poll)
+
+plain_line : (e : Event) (o : Outcome) → plain (line_text e o) ≡ true
 unfolding line_text
-plain_line e o h = simp (plain-append, plain_event e, plain_outcome e o h)
+plain_line e o = simp (plain-append, plain_event, plain_outcome)
 
-plain_end : (halted : Option ℕ) → IfSome halted (λ code. code < 2 ^ 64) → plain (end_text halted) ≡ true
-plain_end (Some code) h = plain_decimal code h
-plain_end None h = refl
+plain_end : (halted : Option ℕ) → plain (end_text halted) ≡ true
+plain_end (Some code) = plain_decimal code
+plain_end None = refl
 
 -- no line has a line feed
 pub whole_event : (e : Event) → All (λ b. b ≢ LINE_FEED) (event_text e)
 whole_event e = plain_feed (event_text e) (plain_event e)
 
-pub whole_line : (e : Event) (o : Outcome) → Spells e o → All (λ b. b ≢ LINE_FEED) (line_text e o)
-whole_line e o h = plain_feed (line_text e o) (plain_line e o h)
+pub whole_line : (e : Event) (o : Outcome) → All (λ b. b ≢ LINE_FEED) (line_text e o)
+whole_line e o = plain_feed (line_text e o) (plain_line e o)
 
-pub whole_events_header : (cpus budget : ℕ) → cpus < 2 ^ 64 → budget < 2 ^ 64 → All (λ b. b ≢ LINE_FEED) (events_header cpus budget)
+pub whole_events_header : (cpus budget : ℕ) → All (λ b. b ≢ LINE_FEED) (events_header cpus budget)
 unfolding events_header
-whole_events_header cpus budget h k = plain_feed (events_header cpus budget) (simp (plain-append, plain_decimal cpus h, plain_decimal budget k))
+whole_events_header cpus budget = plain_feed (events_header cpus budget) (simp (plain-append, plain_decimal))
 
-pub whole_trace_header : (cpus budget memory : ℕ) → cpus < 2 ^ 64 → budget < 2 ^ 64 → memory < 2 ^ 64 → All (λ b. b ≢ LINE_FEED) (trace_header cpus budget memory)
+pub whole_trace_header : (cpus budget memory : ℕ) → All (λ b. b ≢ LINE_FEED) (trace_header cpus budget memory)
 unfolding trace_header
-whole_trace_header cpus budget memory h k m = plain_feed (trace_header cpus budget memory) (simp (plain-append, plain_decimal cpus h, plain_decimal budget k, plain_decimal memory m))
+whole_trace_header cpus budget memory = plain_feed (trace_header cpus budget memory) (simp (plain-append, plain_decimal))
 
-pub whole_processor : (cpu : ℕ) (halted : Option ℕ) (steps pc : ℕ) → cpu < 2 ^ 64 → IfSome halted (λ code. code < 2 ^ 64) → steps < 2 ^ 64 → All (λ b. b ≢ LINE_FEED) (processor_line cpu halted steps pc)
+pub whole_processor : (cpu : ℕ) (halted : Option ℕ) (steps pc : ℕ) → All (λ b. b ≢ LINE_FEED) (processor_line cpu halted steps pc)
 unfolding processor_line
-whole_processor cpu halted steps pc h k m = plain_feed (processor_line cpu halted steps pc) (simp (plain-append, plain_decimal cpu h, plain_end halted k, plain_decimal steps m, plain_hex))
+whole_processor cpu halted steps pc = plain_feed (processor_line cpu halted steps pc) (simp (plain-append, plain_decimal, plain_end, plain_hex))
 
-pub whole_register : (cpu n value : ℕ) → cpu < 2 ^ 64 → n < 2 ^ 64 → All (λ b. b ≢ LINE_FEED) (register_line cpu n value)
+pub whole_register : (cpu n value : ℕ) → All (λ b. b ≢ LINE_FEED) (register_line cpu n value)
 unfolding register_line
-whole_register cpu n value h k = plain_feed (register_line cpu n value) (simp (plain-append, plain_decimal cpu h, plain_decimal n k, plain_hex))
+whole_register cpu n value = plain_feed (register_line cpu n value) (simp (plain-append, plain_decimal, plain_hex))
 
 pub whole_memory : (address value : ℕ) → All (λ b. b ≢ LINE_FEED) (memory_line address value)
 unfolding memory_line
@@ -134,6 +206,6 @@ pub whole_console : All (λ b. b ≢ LINE_FEED) console_line
 unfolding console_line
 whole_console = plain_feed console_line refl
 
-pub whole_end : (events : ℕ) → events < 2 ^ 64 → All (λ b. b ≢ LINE_FEED) (end_line events)
+pub whole_end : (events : ℕ) → All (λ b. b ≢ LINE_FEED) (end_line events)
 unfolding end_line
-whole_end events h = plain_feed (end_line events) (plain_decimal events h)
+whole_end events = plain_feed (end_line events) (plain_decimal events)

@@ -50,7 +50,9 @@ pub event_in_long : (words : List (List ℕ)) → 8 < length words → event_in 
 event_in_long [] h = absurd (omega arith)
 event_in_long (a ∷ []) h = absurd (omega arith)
 event_in_long (a ∷ b ∷ []) h = absurd (omega arith)
-event_in_long (a ∷ b ∷ c ∷ more) h = event_by-none (cpu_in (number_of a))
+event_in_long (a ∷ b ∷ c ∷ []) h = absurd (omega arith)
+event_in_long (a ∷ b ∷ c ∷ d ∷ []) h = absurd (omega arith)
+event_in_long (a ∷ b ∷ c ∷ d ∷ e ∷ more) h = event_by-none (cpu_in (number_of a))
 
 -- no header has so many words
 pub header_in_long : (words : List (List ℕ)) → 8 < length words → header_in words ≡ None

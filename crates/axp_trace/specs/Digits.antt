@@ -1,6 +1,6 @@
 -- Numbers as digits, and digits as numbers.
 use Rattle.std.specs.Prelude.{ℕ, suc, zero, ◌+◌, ◌-◌, ◌*◌, ◌/◌, ◌%◌, ◌^◌, nat_lt, nat_le, if◌then◌else◌, List, [], ◌∷◌, length, Option, Some, None}
-use Rattle.axp_trace.specs.declared.digits.TheConstants.{MOST_DIGITS}
+use Rattle.axp_trace.specs.declared.digits.TheConstants.{ADDRESS_DIGITS, MOST_DIGITS}
 
 -- one hexadecimal digit, in upper case
 abbrev pub hex_digit : ℕ → ℕ
@@ -31,3 +31,7 @@ decimal_value_after acc (c ∷ cs) = decimal_value_after (acc * 10 + (c - 48)) c
 -- the number that a word stands for if its bytes are decimal digits; none for more bytes than a number of a line has
 abbrev pub number_of : List ℕ → Option ℕ
 number_of word = if nat_le (length word) MOST_DIGITS then Some (decimal_value_after 0 word) else None
+
+-- the number that a word stands for if its bytes are hexadecimal digits; none for more bytes than an address has
+abbrev pub hex_number_of : List ℕ → Option ℕ
+hex_number_of word = if nat_le (length word) ADDRESS_DIGITS then Some (hex_value word) else None

@@ -1,16 +1,21 @@
 -- The lines of event lists and traces, as bytes without the line feed. 32 is a blank.
-use Rattle.std.specs.Prelude.{ℕ, ◌*◌, List, [], ◌∷◌, ◌++◌, codes, decimal, Option, Some, None}
+use Rattle.std.specs.Prelude.{ℕ, ◌*◌, Bool, true, false, List, [], ◌∷◌, ◌++◌, codes, decimal, Option, Some, None}
 use Rattle.axp_base.specs.Cpus.{cpu_number}
+use Rattle.axp_base.specs.Lines.{line_number}
+use Rattle.axp_base.specs.declared.lines.Bank.{Bank}
+use Rattle.axp_base.specs.declared.lines.Bank.TheVariants.{Even, Odd, Code}
+use Rattle.axp_base.specs.declared.lines.Line.{Line}
+use Rattle.axp_base.specs.declared.lines.TheConstants.{LINE_BYTES}
 use Rattle.axp_access.specs.declared.Access.{Access}
 use Rattle.axp_access.specs.declared.Act.{Act}
-use Rattle.axp_access.specs.declared.Act.TheVariants.{Step}
+use Rattle.axp_access.specs.declared.Act.TheVariants as act
 use Rattle.axp_access.specs.declared.Event.{Event}
 use Rattle.axp_regs.specs.declared.asks.Kind.{Kind}
-use Rattle.axp_regs.specs.declared.asks.Kind.TheVariants.{Fetch, Read, Write}
+use Rattle.axp_regs.specs.declared.asks.Kind.TheVariants as kind
 use Rattle.axp_access.specs.declared.Outcome.{Outcome}
 use Rattle.axp_access.specs.declared.Outcome.TheVariants as outcome
 use Rattle.axp_access.specs.declared.Place.{Place}
-use Rattle.axp_access.specs.declared.Place.TheVariants.{At}
+use Rattle.axp_access.specs.declared.Place.TheVariants.{At, Entry, Absent}
 use Rattle.axp_trace.specs.Digits.{hex}
 use Rattle.axp_trace.specs.declared.files.TheConstants.{LINE_FEED}
 
@@ -18,36 +23,101 @@ use Rattle.axp_trace.specs.declared.files.TheConstants.{LINE_FEED}
 abbrev pub with_feed : List ℕ → List ℕ
 with_feed line = line ++ LINE_FEED ∷ []
 
+-- a bank
+abbrev pub bank_text : Bank → List ℕ
+bank_text Even = codes "d0"
+bank_text Odd = codes "d1"
+bank_text Code = codes "i"
+
+-- the number of a data bank; nothing for the code bank, which has none
+abbrev pub bank_number_text : Bank → List ℕ
+bank_number_text Even = codes "0"
+bank_number_text Odd = codes "1"
+bank_number_text Code = []
+
+-- a line of memory: the address of its first byte
+abbrev pub address_text : Line → List ℕ
+address_text l = hex 8 (line_number l * LINE_BYTES)
+
 -- what a processor does
-abbrev pub act_text : Act → List ℕ
-act_text Step = codes "step"
+unfoldable pub act_text : Act → List ℕ
+act_text act.Step = codes "step"
+act_text act.Fill = codes "fill"
+act_text (act.Drain k) = codes "drain " ++ decimal k
+act_text (act.Take bank) = codes "take " ++ bank_number_text bank
+act_text (act.Drop bank line) = codes "drop " ++ bank_text bank ++ 32 ∷ address_text line
+act_text act.Poll = codes "poll"
+act_text act.Tick = codes "tick"
 
 -- an event: the processor, and what it does
 unfoldable pub event_text : Event → List ℕ
 event_text e = decimal (cpu_number e.cpu) ++ 32 ∷ act_text e.act
 
--- where an access stands in the order of memory
+-- the number of a turn, behind a blank
+unfoldable pub turn_text : ℕ → List ℕ
+turn_text turn = codes " @" ++ decimal turn
+
+-- an entry of a write buffer
+abbrev pub entry_text : ℕ → List ℕ
+entry_text n = codes "e" ++ decimal n
+
+-- where an access stands in the order of memory, behind a blank; nothing for no place
 abbrev pub place_text : Place → List ℕ
-place_text (At turn) = codes "@" ++ decimal turn
+place_text (At turn) = turn_text turn
+place_text (Entry n) = 32 ∷ entry_text n
+place_text Absent = []
 
 -- what an access of data moves, after the letter of its kind
 abbrev pub data_text : ℕ → ℕ → ℕ → List ℕ
 data_text address size value = hex 8 address ++ 32 ∷ decimal size ++ 32 ∷ hex (2 * size) value
 
--- what an access moves
-unfoldable pub move_text : Kind → ℕ → ℕ → ℕ → List ℕ
-move_text Fetch address size value = codes "i " ++ hex 8 address ++ 32 ∷ hex 8 value
-move_text Read address size value = codes "r " ++ data_text address size value
-move_text Write address size value = codes "w " ++ data_text address size value
+-- whether a store-conditional succeeded
+abbrev pub success_text : Bool → List ℕ
+success_text true = codes "yes"
+success_text false = codes "no"
 
--- an access: what it moves, and where it stands
+-- what an access does; nothing for a poll, which is printed as what came of its event
+unfoldable pub move_text : Kind → Access → List ℕ
+move_text kind.Fetch a = codes "i " ++ hex 8 a.address ++ 32 ∷ hex 8 a.value
+move_text kind.Read a = codes "r " ++ data_text a.address a.size a.value
+move_text kind.Write a = codes "w " ++ data_text a.address a.size a.value
+move_text kind.Locked a = codes "l " ++ data_text a.address a.size a.value
+move_text kind.Conditional a = codes "c " ++ data_text a.address a.size a.value ++ 32 ∷ success_text a.yes
+move_text kind.Barrier a = codes "m"
+move_text kind.WriteBarrier a = codes "s"
+move_text kind.CodeBarrier a = codes "b"
+move_text kind.Signal a = codes "g " ++ decimal a.value
+move_text kind.Console a = codes "p " ++ hex 2 a.value
+move_text _ a = []
+
+-- an access: what it does, and where it stands
 unfoldable pub access_text : Access → List ℕ
-access_text a = move_text a.kind a.address a.size a.value ++ 32 ∷ place_text a.place
+access_text a = move_text a.kind a ++ place_text a.place
+
+-- what became of the copy of a line for which a late invalidation was delivered
+abbrev pub copy_text : Bool → List ℕ
+copy_text true = codes "gone"
+copy_text false = codes "kept"
+
+-- a bit
+abbrev pub bit_text : Bool → List ℕ
+bit_text true = codes "1"
+bit_text false = codes "0"
+
+-- whether the processor takes the interrupt for which it polled
+abbrev pub poll_text : Bool → List ℕ
+poll_text true = codes "enter"
+poll_text false = codes "stay"
 
 -- what came of an event
 unfoldable pub outcome_text : Outcome → List ℕ
 outcome_text (outcome.Access a) = access_text a
 outcome_text outcome.NoAccess = codes "n"
+outcome_text (outcome.Filled bank line turn) = bank_text bank ++ 32 ∷ address_text line ++ turn_text turn
+outcome_text (outcome.Drained entry line turn) = entry_text entry ++ 32 ∷ address_text line ++ turn_text turn
+outcome_text (outcome.Taken line turn gone) = address_text line ++ turn_text turn ++ 32 ∷ copy_text gone
+outcome_text outcome.Done = codes "ok"
+outcome_text (outcome.Polled pending entered turn) = bit_text pending ++ turn_text turn ++ 32 ∷ poll_text entered
 
 -- an event with its outcome, as a trace has it
 unfoldable pub line_text : Event → Outcome → List ℕ

@@ -1,15 +1,20 @@
 -- What a line of an event list means. A line is the text of an event, or of a header, if it is spelled just so: what
 -- its words would mean is guessed without regard to spelling, and the guess is spelled again and compared.
-use Rattle.std.specs.Prelude.{ℕ, ◌≤◌, nat_le, nat_lt, ◌==◌, ◌&&◌, Bool, if◌then◌else◌, List, [], ◌∷◌, codes, Option, Some, None}
+use Rattle.std.specs.Prelude.{◌≡◌, ℕ, ◌*◌, ◌/◌, ◌^◌, ◌≤◌, nat_le, nat_lt, ◌==◌, ◌&&◌, Bool, true, false, if◌then◌else◌, List, [], ◌∷◌, codes, Option, Some, None, refl}
 use Rattle.std.specs.Str.{bytes_eq}
 use Rattle.std.specs.List.{slice_split}
-use Rattle.axp_base.specs.declared.processors.Cpu.{Cpu}
 use Rattle.axp_base.specs.Cpus.{cpu_number, cpu_of}
+use Rattle.axp_base.specs.declared.lines.Bank.{Bank}
+use Rattle.axp_base.specs.declared.lines.Bank.TheVariants.{Even, Odd, Code}
+use Rattle.axp_base.specs.declared.lines.Line.{Line}
+use Rattle.axp_base.specs.declared.lines.TheConstants.{LINE_BYTES}
+use Rattle.axp_base.specs.declared.processors.Cpu.{Cpu}
 use Rattle.axp_base.specs.declared.processors.TheConstants.{MIN_CPUS, MAX_CPUS, MAX_BUDGET}
 use Rattle.axp_access.specs.declared.Act.{Act}
-use Rattle.axp_access.specs.declared.Act.TheVariants.{Step}
+use Rattle.axp_access.specs.declared.Act.TheVariants.{Step, Fill, Drain, Take, Drop, Poll, Tick}
 use Rattle.axp_access.specs.declared.Event.{Event}
-use Rattle.axp_trace.specs.Digits.{number_of}
+use Rattle.axp_access.specs.declared.TheConstants.{MAX_DRAINS}
+use Rattle.axp_trace.specs.Digits.{number_of, hex_number_of}
 use Rattle.axp_trace.specs.Lines.{event_text, events_header}
 use Rattle.axp_trace.specs.declared.reading.Header.{Header}
 use Rattle.axp_trace.specs.declared.reading.TheConstants.{BLANK}
@@ -23,11 +28,60 @@ abbrev pub cpu_in : Option ℕ → Option Cpu
 cpu_in None = None
 cpu_in (Some n) = cpu_of n
 
+-- the line of this number, by the test whether its bytes have addresses
+abbrev pub line_by : (n : ℕ) (addressed : Bool) → nat_lt (n * LINE_BYTES) (2 ^ 64) ≡ addressed → Option Line
+line_by n true h = Some (record { number = n; addressed = h })
+line_by n false h = None
+
+-- the line of this number, where its bytes have addresses
+abbrev pub line_of : ℕ → Option Line
+line_of n = line_by n (nat_lt (n * LINE_BYTES) (2 ^ 64)) refl
+
+-- the line of the byte at an address
+abbrev pub line_in : Option ℕ → Option Line
+line_in None = None
+line_in (Some address) = if nat_lt address (2 ^ 32) then line_of (address / LINE_BYTES) else None
+
+-- the bank of a name
+abbrev pub bank_in : List ℕ → Option Bank
+bank_in name = if bytes_eq name (codes "d0") then Some Even else if bytes_eq name (codes "d1") then Some Odd else if bytes_eq name (codes "i") then Some Code else None
+
+-- the data bank of a number
+abbrev pub data_bank_in : Option ℕ → Option Bank
+data_bank_in None = None
+data_bank_in (Some n) = if n == 0 then Some Even else if n == 1 then Some Odd else None
+
+-- what an act of one word means
+abbrev pub bare_act_in : List ℕ → Option Act
+bare_act_in verb = if bytes_eq verb (codes "step") then Some Step else if bytes_eq verb (codes "fill") then Some Fill else if bytes_eq verb (codes "poll") then Some Poll else if bytes_eq verb (codes "tick") then Some Tick else None
+
+-- the drain of this number
+abbrev pub drain_in : Option ℕ → Option Act
+drain_in None = None
+drain_in (Some k) = if nat_lt k MAX_DRAINS then Some (Drain k) else None
+
+-- the delivery to this bank
+abbrev pub take_in : Option Bank → Option Act
+take_in None = None
+take_in (Some bank) = Some (Take bank)
+
+-- what an act of a word and a number means
+abbrev pub numbered_act_in : List ℕ → Option ℕ → Option Act
+numbered_act_in verb n = if bytes_eq verb (codes "drain") then drain_in n else if bytes_eq verb (codes "take") then take_in (data_bank_in n) else None
+
+-- the drop of both
+abbrev pub drop_by : Option Bank → Option Line → Option Act
+drop_by None line = None
+drop_by (Some bank) None = None
+drop_by (Some bank) (Some line) = Some (Drop bank line)
+
 -- what the words of an act mean
 abbrev pub act_in : List (List ℕ) → Option Act
 act_in [] = None
-act_in (verb ∷ []) = if bytes_eq verb (codes "step") then Some Step else None
-act_in (verb ∷ other ∷ more) = None
+act_in (verb ∷ []) = bare_act_in verb
+act_in (verb ∷ number ∷ []) = numbered_act_in verb (number_of number)
+act_in (verb ∷ bank ∷ address ∷ []) = if bytes_eq verb (codes "drop") then drop_by (bank_in bank) (line_in (hex_number_of address)) else None
+act_in (verb ∷ bank ∷ address ∷ other ∷ more) = None
 
 -- the event of both
 abbrev pub event_by : Option Cpu → Option Act → Option Event

@@ -1,14 +1,17 @@
 ghost use Rattle.std.specs.Prelude.{ℕ, ◌≡◌, ◌+◌, ◌*◌, ◌^◌, ◌≤◌, ◌<◌, ◌++◌, length, decimal, Some};
 ghost use Rattle.arrayvec.specs.ArrayVec.{array_vec_len};
-ghost use Rattle.axp_trace.specs.Digits.{hex, hex_digit, hex_value, number_of};
+ghost use Rattle.axp_trace.specs.Digits.{hex, hex_digit, hex_digit_value, hex_value, number_of, hex_number_of};
 ghost use Rattle.axp_trace.specs.declared.lines.TheConstants.{LINE_ROOM};
-ghost use Rattle.axp_trace.specs.declared.digits.TheConstants.{MOST_DIGITS};
+ghost use Rattle.axp_trace.specs.declared.digits.TheConstants.{MOST_DIGITS, ADDRESS_DIGITS};
 
 use crate::{LINE_ROOM, LineText};
 use itoa::Buffer;
 
 /// The most digits of a number below 2 ^ 32.
 const MOST_DIGITS: usize = 10;
+
+/// The hexadecimal digits of an address.
+const ADDRESS_DIGITS: usize = 8;
 
 /// Appends bytes.
 pub fn push_all(out: &mut LineText, bytes: &[u8])
@@ -72,6 +75,32 @@ pub(crate) fn read_number(word: &[u8]) -> Option<u64>
     let mut value: u64 = 0;
     for byte in word {
         value = value * 10 + byte.saturating_sub(b'0') as u64;
+    }
+    Some(value)
+}
+
+/// What a hexadecimal digit in upper case stands for.
+fn digit_value(byte: u8) -> u8
+    ensures { result ≡ hex_digit_value byte }
+{
+    if byte < b'A' {
+        byte.saturating_sub(b'0')
+    } else {
+        byte - (b'A' - 10)
+    }
+}
+
+/// The number that a word stands for if its bytes are hexadecimal digits; `None` where it has more
+/// than [`ADDRESS_DIGITS`].
+pub(crate) fn read_hex(word: &[u8]) -> Option<u64>
+    ensures { result ≡ hex_number_of word.now }
+{
+    if word.len() > ADDRESS_DIGITS {
+        return None;
+    }
+    let mut value: u64 = 0;
+    for byte in word {
+        value = value * 16 + digit_value(*byte) as u64;
     }
     Some(value)
 }

@@ -1,5 +1,4 @@
 ghost use Rattle.std.specs.Prelude.{◌≡◌, ◌==◌, ◌<◌, ◌∷◌, ◌++◌, [], ℕ, List, None, Some, IsNone, IfSome, ◌↔◌, length, ◌^◌, Option, if◌then◌else◌};
-ghost use Rattle.axp_access.specs.Spelling.{Spells};
 ghost use Rattle.axp_access.specs.declared.Event.{Event};
 ghost use Rattle.axp_access.specs.declared.Outcome.{Outcome};
 ghost use Rattle.axp_trace.specs.Lines.{event_text, line_text, events_header, trace_header, processor_line, register_line, memory_line, console_line, end_line};
@@ -30,14 +29,14 @@ pub fn lines_begin()
 /// No line of an event list or a trace has a line feed in it.
 pub fn lines_are_whole()
     ensures event { (e : Event) → IsOneLine (event_text e) }
-    ensures line { (e : Event) (o : Outcome) → Spells e o → IsOneLine (line_text e o) }
-    ensures events_header { (cpus budget : ℕ) → cpus < 2 ^ 64 → budget < 2 ^ 64 → IsOneLine (events_header cpus budget) }
-    ensures trace_header { (cpus budget memory : ℕ) → cpus < 2 ^ 64 → budget < 2 ^ 64 → memory < 2 ^ 64 → IsOneLine (trace_header cpus budget memory) }
-    ensures processor { (cpu : ℕ) (halted : Option ℕ) (steps pc : ℕ) → cpu < 2 ^ 64 → IfSome halted (λ code. code < 2 ^ 64) → steps < 2 ^ 64 → IsOneLine (processor_line cpu halted steps pc) }
-    ensures register { (cpu n value : ℕ) → cpu < 2 ^ 64 → n < 2 ^ 64 → IsOneLine (register_line cpu n value) }
+    ensures line { (e : Event) (o : Outcome) → IsOneLine (line_text e o) }
+    ensures events_header { (cpus budget : ℕ) → IsOneLine (events_header cpus budget) }
+    ensures trace_header { (cpus budget memory : ℕ) → IsOneLine (trace_header cpus budget memory) }
+    ensures processor { (cpu : ℕ) (halted : Option ℕ) (steps pc : ℕ) → IsOneLine (processor_line cpu halted steps pc) }
+    ensures register { (cpu n value : ℕ) → IsOneLine (register_line cpu n value) }
     ensures memory { (address value : ℕ) → IsOneLine (memory_line address value) }
     ensures console { IsOneLine console_line }
-    ensures end { (events : ℕ) → events < 2 ^ 64 → IsOneLine (end_line events) }
+    ensures end { (events : ℕ) → IsOneLine (end_line events) }
 {}
 
 #[cfg(test)]

@@ -1,17 +1,18 @@
 ghost use Rattle.std.specs.Prelude.{ℕ, List, ◌≡◌, ◌<◌, IsNone, IfSome, Some, map, length, ◌↔◌};
 ghost use Rattle.axp_base.specs.Cpus.{cpu_number};
+ghost use Rattle.axp_access.specs.Spelling.{IsNamed};
 ghost use Rattle.axp_access.specs.declared.Event.{Event};
-ghost use Rattle.axp_trace.specs.Digits.{number_of};
+ghost use Rattle.axp_trace.specs.Digits.{number_of, hex_number_of};
 ghost use Rattle.axp_trace.specs.Lines.{event_text, events_header};
-ghost use Rattle.axp_trace.specs.Reading.{words_of, cpu_in, act_in, event_in, event_of, header_in, header_of, header_by, HasRange};
+ghost use Rattle.axp_trace.specs.Reading.{words_of, cpu_in, line_in, bank_in, data_bank_in, bare_act_in, drain_in, take_in, numbered_act_in, drop_by, act_in, event_in, event_of, header_in, header_of, header_by, HasRange};
 
 use crate::LineText;
 use crate::cuts::cut;
-use crate::digits::{push_all, push_byte, push_decimal, read_number};
+use crate::digits::{push_all, push_byte, push_decimal, read_hex, read_number};
 use crate::lines::push_event;
 use arrayvec::ArrayVec;
-use axp_access::{Act, Event};
-use axp_base::{Cpu, MAX_BUDGET, MAX_CPUS, MIN_CPUS};
+use axp_access::{Act, Event, MAX_DRAINS};
+use axp_base::{Bank, Cpu, Line, MAX_BUDGET, MAX_CPUS, MIN_CPUS};
 
 /// The most words that a line has.
 const MOST_WORDS: usize = 8;
@@ -57,12 +58,100 @@ fn guess_cpu(word: &[u8]) -> Option<Cpu>
     Cpu::new(number)
 }
 
+/// The line whose first byte has the address that a word names.
+fn guess_line(word: &[u8]) -> Option<Line>
+    ensures { result ≡ line_in (hex_number_of word.now) }
+{
+    let address = read_hex(word)?;
+    if address < 1 << 32 {
+        Some(Line::of(address))
+    } else {
+        None
+    }
+}
+
+/// The bank that a word names.
+fn guess_bank(word: &[u8]) -> Option<Bank>
+    ensures { result ≡ bank_in word.now }
+{
+    if word == b"d0" as &[u8] {
+        Some(Bank::Even)
+    } else if word == b"d1" as &[u8] {
+        Some(Bank::Odd)
+    } else if word == b"i" as &[u8] {
+        Some(Bank::Code)
+    } else {
+        None
+    }
+}
+
+/// The data bank of a number.
+fn data_bank(number: u64) -> Option<Bank>
+    ensures { result ≡ data_bank_in (Some number) }
+{
+    match number {
+        0 => Some(Bank::Even),
+        1 => Some(Bank::Odd),
+        _ => None,
+    }
+}
+
+/// What an act of one word means.
+fn guess_bare_act(verb: &[u8]) -> Option<Act>
+    ensures { result ≡ bare_act_in verb.now }
+{
+    if verb == b"step" as &[u8] {
+        Some(Act::Step)
+    } else if verb == b"fill" as &[u8] {
+        Some(Act::Fill)
+    } else if verb == b"poll" as &[u8] {
+        Some(Act::Poll)
+    } else if verb == b"tick" as &[u8] {
+        Some(Act::Tick)
+    } else {
+        None
+    }
+}
+
+/// The drain of this number.
+fn drain(number: u64) -> Option<Act>
+    ensures { result ≡ drain_in (Some number) }
+{
+    if number < MAX_DRAINS as u64 {
+        Some(Act::Drain(number as u8))
+    } else {
+        None
+    }
+}
+
+/// What an act of a word and a number means.
+fn guess_numbered_act(verb: &[u8], word: &[u8]) -> Option<Act>
+    ensures { result ≡ numbered_act_in verb.now (number_of word.now) }
+{
+    if verb == b"drain" as &[u8] {
+        drain(read_number(word)?)
+    } else if verb == b"take" as &[u8] {
+        Some(Act::Take(data_bank(read_number(word)?)?))
+    } else {
+        None
+    }
+}
+
+/// What the words behind `drop` mean.
+fn guess_drop(bank: &[u8], address: &[u8]) -> Option<Act>
+    ensures { result ≡ drop_by (bank_in bank.now) (line_in (hex_number_of address.now)) }
+{
+    Some(Act::Drop(guess_bank(bank)?, guess_line(address)?))
+}
+
 /// What the words of an act mean.
 fn guess_act(words: &[&[u8]]) -> Option<Act>
     ensures { result ≡ act_in (map (λ w. w.now) words.now) }
 {
     match words {
-        [verb] if *verb == b"step" as &[u8] => Some(Act::Step),
+        [verb] => guess_bare_act(verb),
+        [verb, number] => guess_numbered_act(verb, number),
+        [verb, bank, address] if *verb == b"drop" as &[u8] => guess_drop(bank, address),
         _ => None,
     }
 }
@@ -136,6 +225,7 @@ pub fn read_event(line: &[u8], cpus: u8) -> Option<Event>
     ensures value { result ≡ event_of cpus line.now }
     ensures spelled { IfSome result (λ e. line.now ≡ event_text e) }
     ensures below { IfSome result (λ e. cpu_number e.cpu < cpus) }
+    ensures named { IfSome result (λ e. IsNamed e.act) }
 {
     let words = words(line)?;
     let event = guess_event(words.as_slice())?;
@@ -163,10 +253,10 @@ pub fn read_header(line: &[u8]) -> Option<Header>
     }
 }
 
-/// A line is read as an event exactly where it is the event's text and the event's processor is
-/// below the count.
+/// A line is read as an event exactly where it is the event's text, the event's processor is below
+/// the count, and its act is one that is printed.
 pub fn events_are_their_texts()
-    ensures { (cpus : ℕ) (line : List ℕ) (e : Event) → (event_of cpus line ≡ Some e) ↔ ((line ≡ event_text e) × (cpu_number e.cpu < cpus)) }
+    ensures { (cpus : ℕ) (line : List ℕ) (e : Event) → (event_of cpus line ≡ Some e) ↔ ((line ≡ event_text e) × (cpu_number e.cpu < cpus) × IsNamed e.act) }
 {}
 
 /// A line is read as a header exactly where it is the header's text and the header's numbers are in
