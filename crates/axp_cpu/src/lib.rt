@@ -11,6 +11,5 @@ mod processors;
 mod rows;
 mod tables;
 
-pub use axp_access::Wanted;
 pub use laws::what_is_not_built;
 pub use processors::Processor;

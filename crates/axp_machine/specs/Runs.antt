@@ -32,7 +32,7 @@ pub record Seen : Type 0 where
 abbrev pub started : Contents → ℕ → ℕ → Seen
 started image cpus budget = record { image = image; cpus = cpus; budget = budget; records = [] }
 
--- the value that an access gives to the instruction table: 0 where it reads nothing
+-- the value that an access gives to the instruction table: what a fetch or a read has read, else 0
 abbrev pub given_by : Kind → ℕ → ℕ
 given_by Fetch v = v
 given_by Read v = v
@@ -52,7 +52,7 @@ seat image budget p (r ∷ h) =
 abbrev pub seat_of : Seen → ℕ → Seat
 seat_of m p = seat m.image m.budget p m.records
 
--- the value of an access: what memory has there, or what it stores
+-- the value of an access: what memory has there for a fetch or a read, else what it stores
 abbrev pub value_of : Kind → ℕ → ℕ → ℕ
 value_of Fetch stored there = there
 value_of Read stored there = there

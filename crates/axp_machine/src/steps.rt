@@ -79,7 +79,7 @@ fn access_to(cpu: Cpu, turns: u64, wanted: Wanted, memory: &PlainMemory) -> Acce
     }
 }
 
-/// The value that an access gives to its group: 0 where it reads nothing.
+/// The value that an access gives to its group: what a fetch or a read has read, else 0.
 fn value_of(access: &Access) -> u64
     ensures { result ≡ given_by access.now.kind access.now.value }
 {
