@@ -221,6 +221,15 @@ fn ends_at_the_first_event_that_is_not_built(rt: HostRuntime) -> Result<(), Fail
             "axp-trace 1 cpus 2 budget 1 memory 8192\naxp: not built at event 1\n",
             Status::NotBuilt { event: 1 },
         ),
+        // an event that is not a step
+        replayed(
+            &ZEROS,
+            "axp-events 1 cpus 2 budget 1\n0 step\n1 drain 0\n1 step\n",
+            "axp-trace 1 cpus 2 budget 1 memory 8192\n\
+             0 step : i 00000000 00000000 @0\n\
+             axp: not built at event 2\n",
+            Status::NotBuilt { event: 2 },
+        ),
         // a line that is no event
         replayed(
             &ZEROS,
