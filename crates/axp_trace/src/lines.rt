@@ -139,7 +139,7 @@ fn push_place(out: &mut LineText, access: &Access)
 fn push_data(out: &mut LineText, access: &Access)
     requires room { array_vec_len out.old + 29 ≤ LINE_ROOM }
     requires size { IsSize access.now.size }
-    ensures text { out.new.items ≡ out.old.items ++ data_text access.now.address access.now.size access.now.value }
+    ensures text { out.new.items ≡ out.old.items ++ data_text access.now }
     ensures len { array_vec_len out.new ≤ array_vec_len out.old + 29 }
 {
     push_hex(out, 8, access.address);
