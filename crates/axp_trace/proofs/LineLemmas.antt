@@ -1,8 +1,8 @@
 -- No line has a line feed in it: its bytes are blanks, digits, letters and the like.
-use Rattle.std.proofs.Common.{◌≡◌, ◌≢◌, ℕ, zero, suc, ◌*◌, ◌/◌, ◌%◌, ◌^◌, ◌<◌, ◌≤◌, ◌==◌, Bool, true, false, nat_le, ◌&&◌, if◌then◌else◌, List, [], ◌∷◌, ◌++◌, decimal, Option, Some, None, refl, sym, ap, ◌∙◌, arith, inl, inr, ⊎_elim}
+use Rattle.std.proofs.Common.{◌≡◌, ◌≢◌, ℕ, zero, suc, ◌*◌, ◌/◌, ◌%◌, ◌^◌, ◌<◌, ◌≤◌, ◌==◌, Bool, true, false, nat_le, ◌&&◌, if◌then◌else◌, List, [], ◌∷◌, ◌++◌, decimal, Option, Some, None, refl, sym, ap, ◌∙◌, arith, ⊎_elim}
 use Rattle.std.specs.List.{All}
 use Rattle.std.proofs.lemmas.Bool.{and_parts, and_from, le-leb, leb-true, cases_lt, lt-ltb, le-ltb, ltb-true}
-use Rattle.std.proofs.lemmas.List.Elements.{All-from_get_or, All-nil, All-cons, All-weaker, All-head, All-tail}
+use Rattle.std.proofs.lemmas.List.Elements.{All-nil, All-cons, All-weaker, All-head, All-tail}
 use Rattle.std.specs.Fmt.{digit_glyph, digits, digits_onto}
 use Rattle.axp_base.specs.Cpus.{cpu_number}
 use Rattle.axp_base.specs.declared.lines.Bank.{Bank}
@@ -120,8 +120,8 @@ plain_place (At turn) = plain_turn turn
 plain_place (Entry n) = plain_decimal n
 plain_place Absent = refl
 
-plain_data : (address size value : ℕ) → plain (data_text address size value) ≡ true
-plain_data address size value = simp (plain-append, plain_hex, plain_decimal)
+plain_data : (a : Access) → plain (data_text a) ≡ true
+plain_data a = simp (plain-append, plain_hex, plain_decimal)
 
 plain_success : (yes : Bool) → plain (success_text yes) ≡ true
 plain_success true = refl
@@ -130,9 +130,9 @@ plain_success false = refl
 plain_move : (k : Kind) (a : Access) → plain (move_text k a) ≡ true
 unfolding move_text
 plain_move kind.Fetch a = simp (plain-append, plain_hex)
-plain_move kind.Read a = plain_data a.address a.size a.value
-plain_move kind.Write a = plain_data a.address a.size a.value
-plain_move kind.Locked a = plain_data a.address a.size a.value
+plain_move kind.Read a = plain_data a
+plain_move kind.Write a = plain_data a
+plain_move kind.Locked a = plain_data a
 plain_move kind.Conditional a = simp (plain-append, plain_hex, plain_decimal, plain_success)
 plain_move kind.Barrier a = refl
 plain_move kind.WriteBarrier a = refl

@@ -1,5 +1,5 @@
 -- What the words of an event mean is printed.
-use Rattle.std.proofs.Common.{◌≡◌, ℕ, ◌*◌, ◌/◌, ◌^◌, ◌<◌, ◌==◌, nat_lt, Bool, true, false, if◌then◌else◌, List, [], ◌∷◌, codes, Option, Some, None, IfSome, refl, sym, subst, arith}
+use Rattle.std.proofs.Common.{◌≡◌, ℕ, ◌*◌, ◌/◌, ◌^◌, ◌<◌, ◌==◌, nat_lt, Bool, true, false, if◌then◌else◌, List, [], ◌∷◌, codes, Option, Some, None, IfSome, refl, subst, arith}
 use Rattle.std.specs.Str.{bytes_eq}
 use Rattle.std.proofs.lemmas.Bool.{ltb-true}
 use Rattle.axp_base.specs.declared.lines.Bank.{Bank}
@@ -12,7 +12,7 @@ use Rattle.axp_access.specs.declared.Event.{Event}
 use Rattle.axp_access.specs.declared.TheConstants.{MAX_DRAINS}
 use Rattle.axp_access.specs.Spelling.{IsNamed}
 use Rattle.axp_trace.specs.Digits.{number_of, hex_number_of}
-use Rattle.axp_trace.specs.Reading.{cpu_in, line_by, line_of, line_in, bank_in, data_bank_in, bare_act_in, drain_in, take_in, numbered_act_in, drop_by, act_in, event_by, event_in}
+use Rattle.axp_trace.specs.Reading.{cpu_in, line_by, line_of, line_in, bank_in, data_bank_in, bare_act_in, drain_in, take_in, drop_by, act_in, event_by, event_in}
 
 either : {A : Type 0} (P : A → Type 0) (t : Bool) (x y : Option A) → IfSome x P → IfSome y P → IfSome (if t then x else y) P
 either P true x y p q = p

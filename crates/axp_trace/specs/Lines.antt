@@ -68,8 +68,8 @@ place_text (Entry n) = 32 ∷ entry_text n
 place_text Absent = []
 
 -- what an access of data moves, after the letter of its kind
-abbrev pub data_text : ℕ → ℕ → ℕ → List ℕ
-data_text address size value = hex 8 address ++ 32 ∷ decimal size ++ 32 ∷ hex (2 * size) value
+abbrev pub data_text : Access → List ℕ
+data_text a = hex 8 a.address ++ 32 ∷ decimal a.size ++ 32 ∷ hex (2 * a.size) a.value
 
 -- whether a store-conditional succeeded
 abbrev pub success_text : Bool → List ℕ
@@ -79,10 +79,10 @@ success_text false = codes "no"
 -- what an access does; nothing for a poll, which is printed as what came of its event
 unfoldable pub move_text : Kind → Access → List ℕ
 move_text kind.Fetch a = codes "i " ++ hex 8 a.address ++ 32 ∷ hex 8 a.value
-move_text kind.Read a = codes "r " ++ data_text a.address a.size a.value
-move_text kind.Write a = codes "w " ++ data_text a.address a.size a.value
-move_text kind.Locked a = codes "l " ++ data_text a.address a.size a.value
-move_text kind.Conditional a = codes "c " ++ data_text a.address a.size a.value ++ 32 ∷ success_text a.yes
+move_text kind.Read a = codes "r " ++ data_text a
+move_text kind.Write a = codes "w " ++ data_text a
+move_text kind.Locked a = codes "l " ++ data_text a
+move_text kind.Conditional a = codes "c " ++ data_text a ++ 32 ∷ success_text a.yes
 move_text kind.Barrier a = codes "m"
 move_text kind.WriteBarrier a = codes "s"
 move_text kind.CodeBarrier a = codes "b"

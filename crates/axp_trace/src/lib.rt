@@ -17,3 +17,6 @@ pub use lines::{
 pub use reading::{
     Header, events_are_their_texts, headers_are_their_texts, read_event, read_header,
 };
+
+#[cfg(test)]
+mod tests;

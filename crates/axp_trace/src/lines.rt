@@ -3,7 +3,7 @@ ghost use Rattle.arrayvec.specs.ArrayVec.{array_vec_len};
 ghost use Rattle.axp_base.specs.Masks.{IsSize};
 ghost use Rattle.axp_base.specs.Cpus.{cpu_number};
 ghost use Rattle.axp_access.specs.declared.Act.TheVariants.{Step};
-ghost use Rattle.axp_access.specs.Spelling.{Spells, IsSpelled, IsTurn, IsOutcomeOf};
+ghost use Rattle.axp_access.specs.Spelling.{Spells, IsSpelled, IsTurn};
 ghost use Rattle.axp_trace.specs.Lines.{bank_text, bank_number_text, address_text, act_text, event_text, turn_text, entry_text, place_text, data_text, success_text, move_text, access_text, copy_text, bit_text, poll_text, outcome_text, line_text, trace_header, end_text, processor_line, register_line, memory_line, console_line, end_line};
 
 use crate::digits::{push_all, push_byte, push_decimal, push_hex};
@@ -139,7 +139,7 @@ fn push_place(out: &mut LineText, access: &Access)
 fn push_data(out: &mut LineText, access: &Access)
     requires room { array_vec_len out.old + 29 ≤ LINE_ROOM }
     requires size { IsSize access.now.size }
-    ensures text { out.new.items ≡ out.old.items ++ data_text access.now.address access.now.size access.now.value }
+    ensures text { out.new.items ≡ out.old.items ++ data_text access.now }
     ensures len { array_vec_len out.new ≤ array_vec_len out.old + 29 }
 {
     push_hex(out, 8, access.address);
@@ -422,74 +422,4 @@ pub fn write_end(events: u32) -> LineText
     push_all(&mut out, b"end ");
     push_decimal(&mut out, events);
     out
-}
-
-#[cfg(test)]
-mod tests {
-    use super::*;
-
-    // The line of a step that makes an access at address 0x4000 in turn 1.
-    fn accessed(cpu: Cpu, kind: Kind, size: u8, value: u64) -> LineText
-        requires size { IsSizeOf kind size }
-        requires aligned { 16384 % size ≡ 0 }
-        requires value { value < 2 ^ (8 * size) }
-    {
-        let event = Event {
-            cpu,
-            act: Act::Step,
-        };
-        let access = Access {
-            cpu,
-            kind,
-            address: 0x4000,
-            size,
-            value,
-            place: Place::At(1),
-        };
-        write_event(event, Outcome::Access(access))
-    }
-
-    #[test]
-    fn lines_have_their_text(rt: HostRuntime) {
-        let zero = Cpu::new(0).expect(&rt, "0 is a processor");
-        let one = Cpu::new(1).expect(&rt, "1 is a processor");
-        let event = Event {
-            cpu: one,
-            act: Act::Step,
-        };
-        let lines: [(LineText, &[u8]); 11] = [
-            (
-                accessed(zero, Kind::Fetch, 4, 0x47FF_041F),
-                b"0 step : i 00004000 47FF041F @1",
-            ),
-            (
-                accessed(zero, Kind::Read, 2, 0xBEEF),
-                b"0 step : r 00004000 2 BEEF @1",
-            ),
-            (
-                accessed(zero, Kind::Write, 8, 1),
-                b"0 step : w 00004000 8 0000000000000001 @1",
-            ),
-            (write_event(event, Outcome::NoAccess), b"1 step : n"),
-            (
-                write_header(2, 20, 65_536),
-                b"axp-trace 1 cpus 2 budget 20 memory 65536",
-            ),
-            (
-                write_processor(zero, Some(1), 1, 0xFFFF_FC00_0000_0004),
-                b"cpu 0 halt 1 steps 1 pc FFFFFC0000000004",
-            ),
-            (
-                write_processor(one, None, 20, 0),
-                b"cpu 1 spent steps 20 pc 0000000000000000",
-            ),
-            (write_register(one, 16, 1), b"reg 1 16 0000000000000001"),
-            (write_memory(0x4000, 1), b"mem 00004000 0000000000000001"),
-            (write_console(), b"console -"),
-            (write_end(14), b"end 14"),
-        ];
-        for (line, text) in &lines {
-            assert!(rt; line.as_slice() == *text);
-        }
-    }
 }

@@ -220,7 +220,7 @@ fn header_line(header: Header) -> LineText
 
 /// The event that a line spells, in a list for this many processors; `None` where the line is the
 /// text of no event of one of them.
-#[tactic(auto, unfolding(crate::specs::Reading::event_of), using(crate::proofs::ReadingLemmas::event_in_long))]
+#[tactic(auto, unfolding(crate::specs::Reading::event_of), using(crate::proofs::ReadingLemmas::event_in_long, crate::proofs::NamedLemmas::named_event))]
 pub fn read_event(line: &[u8], cpus: u8) -> Option<Event>
     ensures value { result ≡ event_of cpus line.now }
     ensures spelled { IfSome result (λ e. line.now ≡ event_text e) }
@@ -281,11 +281,70 @@ mod tests {
             ("0  step", 8, None),
             ("0 step ", 8, None),
             ("0 stepx", 8, None),
-            ("0 fill", 8, None),
+            ("0 fill", 8, Some(0)),
             ("", 8, None),
         ] {
             let event = read_event(line.as_bytes(), cpus);
             assert!(rt; event.map(|e| e.cpu.number()) == cpu, "at {line}");
+        }
+    }
+
+    #[test]
+    fn acts_are_read_as_they_are_spelled(rt: HostRuntime) {
+        let even = Line::of(0x4000);
+        for (line, act) in [
+            ("0 step", Act::Step),
+            ("0 fill", Act::Fill),
+            ("0 drain 0", Act::Drain(0)),
+            ("0 drain 7", Act::Drain(7)),
+            ("0 take 0", Act::Take(Bank::Even)),
+            ("0 take 1", Act::Take(Bank::Odd)),
+            ("0 drop d0 00004000", Act::Drop(Bank::Even, even)),
+            (
+                "0 drop d1 FFFFFFC0",
+                Act::Drop(Bank::Odd, Line::of(0xFFFF_FFC0)),
+            ),
+            ("0 drop i 00000000", Act::Drop(Bank::Code, Line::of(0))),
+            ("0 poll", Act::Poll),
+            ("0 tick", Act::Tick),
+        ] {
+            let event = read_event(line.as_bytes(), 8);
+            assert!(rt; event.map(|e| e.act) == Some(act), "at {line}");
+        }
+    }
+
+    #[test]
+    fn acts_spelled_otherwise_are_refused(rt: HostRuntime) {
+        for line in [
+            "0 Step",
+            "0 step 0",
+            "0 fill ",
+            "0 fill d0",
+            "0 drain",
+            "0 drain ",
+            "0 drain 8",
+            "0 drain 08",
+            "0 drain 07",
+            "0 drain 256",
+            "0 drain x",
+            "0 take",
+            "0 take 2",
+            "0 take i",
+            "0 take d0",
+            "0 take 00",
+            "0 drop d0",
+            "0 drop d0 00004010",
+            "0 drop d2 00004000",
+            "0 drop 0 00004000",
+            "0 drop d0 4000",
+            "0 drop d0 000004000",
+            "0 drop d0 0000400O",
+            "0 drop d0 ffffffc0",
+            "0 drop d0 00004000 ",
+            "0 poll 1",
+            "0 ticks",
+        ] {
+            assert!(rt; read_event(line.as_bytes(), 8).is_none(), "at {line}");
         }
     }
 
