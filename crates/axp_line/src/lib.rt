@@ -3,8 +3,10 @@
 
 mod contents;
 mod laws;
+mod messages;
 
 pub use contents::{LineData, NoRoom};
+pub use messages::{Held, MAX_HELD, Reply, Request};
 pub use laws::{line_is_whole, merged_bytes};
 
 #[cfg(test)]

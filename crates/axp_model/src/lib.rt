@@ -2,6 +2,20 @@
 //! each proved as the contract of a function that does nothing.
 #![tactic(auto)]
 
+mod examples;
+mod order;
 mod plain;
+mod storage;
 
-pub use plain::{bytes_of_memory, numbers_of_memory, source_of_a_byte, touched_quadwords, turns_of_a_history};
+pub use examples::{
+    invalidations_come_late, locks_are_of_blocks, shown_traces_are_runs, writes_wait,
+    written_code_wants_imb,
+};
+pub use order::{
+    before_is_a_strict_order, counts_grow, order_is_kept, overlapping_accesses_are_ordered,
+    places_are_bounded, runs_begin_with_runs,
+};
+pub use plain::{
+    bytes_of_memory, numbers_of_memory, source_of_a_byte, touched_quadwords, turns_of_a_history,
+};
+pub use storage::{closed_form_of_sources, memory_of_past_turns_stays, storage_is_kept};

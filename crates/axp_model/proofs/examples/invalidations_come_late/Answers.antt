@@ -1,0 +1,10 @@
+use Rattle.axp_model.proofs.ExamplesComputed as example
+use Rattle.axp_model.proofs.examples.invalidations_come_late.Goals as goal
+
+pub returns : goal.returns
+returns c = record {
+  dependent_load = example.dependent_load;
+  taken_in_time = example.taken_in_time;
+  read_wants_copy = example.read_wants_copy;
+  barrier_between = example.barrier_between;
+}

@@ -1,0 +1,44 @@
+-- The issue constraint and the write barrier: what must be BEFORE what, of one processor's accesses.
+use Rattle.std.specs.Prelude.{ℕ, ◌+◌, nat_lt, Bool, true, false, ◌&&◌, ◌||◌}
+use Rattle.axp_access.specs.declared.Access.{Access}
+use Rattle.axp_access.specs.declared.Place.{Place}
+use Rattle.axp_access.specs.declared.Place.TheVariants.{At, Entry, Absent}
+use Rattle.axp_model.specs.Records.{is_read, is_write, is_memory_write, is_fetch, is_barrier, is_code_barrier, is_poll}
+use Rattle.axp_model.specs.Places.{Item}
+use Rattle.axp_model.specs.Before.{precedes}
+
+-- two accesses overlap where each is a read, a memory write or a fetch and they have a byte in common
+abbrev pub in_memory : Access → Bool
+in_memory a = is_read a.kind || (is_memory_write a || is_fetch a.kind)
+
+abbrev pub touch : ℕ → ℕ → ℕ → ℕ → Bool
+touch a s b t = nat_lt a (b + t) && nat_lt b (a + s)
+
+abbrev pub overlap : Access → Access → Bool
+overlap u v = (in_memory u && in_memory v) && touch u.address u.size v.address v.size
+
+abbrev pub has_place : Place → Bool
+has_place (At turn) = true
+has_place (Entry n) = true
+has_place Absent = false
+
+-- the issue constraint of u and of v, which comes later in issue order, case by case:
+-- fetches that overlap; a read and a read or memory write that overlaps it; memory writes that overlap;
+-- what stands before an MB; what stands after one; an IMB and whatever has a place; a fetch and a memory
+-- write of what was fetched
+abbrev pub demanded : Access → Access → Bool
+demanded u v =
+    ((is_fetch u.kind && is_fetch v.kind) && overlap u v)
+    || (((is_read u.kind && (is_read v.kind || is_memory_write v)) && overlap u v)
+    || (((is_memory_write v && is_memory_write u) && overlap u v)
+    || ((is_barrier v.kind && (is_read u.kind || (is_write u || is_poll u.kind)))
+    || ((is_barrier u.kind && (is_read v.kind || (is_write v || (is_poll v.kind || is_barrier v.kind))))
+    || (((is_code_barrier u.kind && has_place v.place) || (is_code_barrier v.kind && has_place u.place))
+    || ((is_fetch u.kind && is_memory_write v) && overlap u v))))))
+
+abbrev pub issue_demands : Item → Item → Bool
+issue_demands u v = precedes u v && demanded u.access v.access
+
+-- both are writes, and a WMB of their processor stands between them in issue order
+abbrev pub barrier_demands : Item → Item → Bool
+barrier_demands u v = precedes u v && ((is_write u.access && is_write v.access) && nat_lt u.parts v.parts)
