@@ -70,6 +70,21 @@ pub struct Wanted {
     pub value: u64,
 }
 
+/// What a processor is about to do, by the instruction table.
+#[derive(Clone, Copy, Debug, PartialEq, Eq)]
+pub struct Intent {
+    /// Whether it is halted or has made its budget of steps.
+    pub finished: bool,
+    /// Whether it is at a boundary: between two groups of accesses.
+    pub boundary: bool,
+    /// Whether its interrupt level is below 5, so that it takes interrupts.
+    pub low: bool,
+    /// Whether its lock flag is set.
+    pub armed: bool,
+    /// The access that it wants; none where its next group makes none.
+    pub wanted: Option<Wanted>,
+}
+
 /// One access.
 #[derive(Clone, Copy, Debug, PartialEq, Eq)]
 pub struct Access {

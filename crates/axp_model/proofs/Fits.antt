@@ -24,7 +24,8 @@ use Rattle.axp_model.specs.Turns.{turns}
 use Rattle.axp_model.specs.Entries.{Waiting, buffer, oldest, has_closed, has_line}
 use Rattle.axp_model.specs.Locks.{lock}
 use Rattle.axp_model.specs.Late.{late, late_by_own, late_by_other, takes}
-use Rattle.axp_model.specs.Legal.{Intent, legal, is_empty, ready, may, may_now, since_step, is_fill}
+use Rattle.axp_access.specs.declared.Intent.{Intent}
+use Rattle.axp_model.specs.Legal.{legal, is_empty, ready, may, may_now, since_step, is_fill}
 use Rattle.axp_model.specs.Outcomes.{step_by, outcome_by, outcome_of, drained_as, taken, filled, Intents, IsRun}
 use Rattle.axp_model.specs.OrderLaws.{IsInLine, WantsInLine, AreInLine}
 use Rattle.axp_model.proofs.Kept.{FitsOutcome, Fitting}

@@ -21,7 +21,7 @@ use Rattle.axp_model.specs.Late.{late}
 use Rattle.axp_model.specs.Places.{next_item, Item, Times, times, accesses, parts_in}
 use Rattle.axp_model.specs.Before.{key, before, precedes, visible, gives, source}
 use Rattle.axp_model.specs.Sources.{takes_bytes, byte_of_source, source_byte}
-use Rattle.axp_model.specs.Legal.{Intent}
+use Rattle.axp_access.specs.declared.Intent.{Intent}
 use Rattle.axp_model.specs.Outcomes.{Intents, step_by, stepped, outcome_by, outcome_of, drained_as, taken, filled, IsRun}
 use Rattle.axp_model.proofs.Kept.{Fits, FitsOutcome, Fitting, AtMost, Known, KnownItem, Kept, Named}
 use Rattle.axp_model.specs.OrderLaws.{AreInLine, AllPairs}

@@ -11,21 +11,12 @@ use Rattle.axp_regs.specs.declared.asks.Kind.TheVariants as kind
 use Rattle.axp_access.specs.declared.Act.{Act}
 use Rattle.axp_access.specs.declared.Act.TheVariants as act
 use Rattle.axp_access.specs.declared.Event.{Event}
+use Rattle.axp_access.specs.declared.Intent.{Intent}
 use Rattle.axp_access.specs.declared.Record.{Record}
 use Rattle.axp_access.specs.declared.Wanted.{Wanted}
 use Rattle.axp_model.specs.Records.{by, line_of, in_bank}
 use Rattle.axp_model.specs.Entries.{Buffer, buffer, joins, oldest, has_closed, has_line}
 use Rattle.axp_model.specs.Late.{late, held, code_held, copies, code_copies}
-
--- what a processor is about to do, by the instruction table: whether it is finished, whether it is at a
--- boundary between groups, whether its interrupt level is below 5, whether its lock flag is set, and the
--- access that it wants
-pub record Intent : Type 0 where
-  pub finished : Bool
-  pub boundary : Bool
-  pub low : Bool
-  pub armed : Bool
-  pub wanted : Option Wanted
 
 -- kinds of act
 abbrev pub is_step : Act → Bool

@@ -24,7 +24,8 @@ use Rattle.axp_model.specs.Places.{accesses, next_item}
 use Rattle.axp_model.specs.Sources.{source_value}
 use Rattle.axp_model.specs.Locks.{undisturbed, signalled}
 use Rattle.axp_model.specs.Late.{late, held}
-use Rattle.axp_model.specs.Legal.{Intent, legal}
+use Rattle.axp_access.specs.declared.Intent.{Intent}
+use Rattle.axp_model.specs.Legal.{legal}
 
 -- the wanted access, with this value, success and place
 abbrev pub made_with : Cpu → Wanted → ℕ → Bool → Place → Outcome
