@@ -1,0 +1,4 @@
+pub mod Keeping
+pub mod Asking
+pub mod Going
+pub mod Within
