@@ -15,6 +15,15 @@ pub mod Closed
 pub mod Bytes
 pub mod Located
 pub mod RunSources
+pub mod Reached
+pub mod Counted
+pub mod TurnsLate
+pub mod Locked
+pub mod Paired
+pub mod Seen
+pub mod Guarded
+pub mod Ascending
+pub mod Copies
 pub mod ExamplesComputed
 pub mod ExamplesAreRuns
 pub mod PlainSources

@@ -13,6 +13,9 @@ pub mod Outcomes
 pub mod Examples
 pub mod OrderLaws
 pub mod StorageLaws
+pub mod Counts
+pub mod LateLaws
+pub mod LockLaws
 pub mod BusCalls
 pub mod BusReply
 pub mod PlainTurns

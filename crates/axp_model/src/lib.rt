@@ -3,6 +3,8 @@
 #![tactic(auto)]
 
 mod examples;
+mod late;
+mod locks;
 mod order;
 mod plain;
 mod storage;
@@ -11,6 +13,8 @@ pub use examples::{
     invalidations_come_late, locks_are_of_blocks, shown_traces_are_runs, writes_wait,
     written_code_wants_imb,
 };
+pub use late::{copies_are_held_lines, held_copies, late_by_counting, late_pairs_are_turns};
+pub use locks::{locking, undisturbed_in_words};
 pub use order::{
     before_is_a_strict_order, counts_grow, order_is_kept, overlapping_accesses_are_ordered,
     places_are_bounded, runs_begin_with_runs,
