@@ -77,7 +77,7 @@ fetch_gives t n at v u fetch reads vat =
     and_same (is_memory_write u.access) (has_byte at u.access) (visible t u v) (is_by n (spot t u.access.cpu.number u.access.place))
     (λ w _. ap (λ b. before t u v || (not b && precedes u v)) fetch ∙ or_false (before t u v) ∙ before_by t u v n w reads vat)
 
-latest_same : (t : Times) (p q : Item → Bool) (us : List Item) → AllByRecursion (λ u. q u ≡ p u) us → latest t q us ≡ latest t p us
+pub latest_same : (t : Times) (p q : Item → Bool) (us : List Item) → AllByRecursion (λ u. q u ≡ p u) us → latest t q us ≡ latest t p us
 latest_same t p q us tests = latest_now t t p q us tests (pairs_refl us) where
   pairs_refl : (us : List Item) → AllPairs (λ y x. p y ≡ true → p x ≡ true → before t y x ≡ before t y x) us
   pairs_refl [] = tt

@@ -24,6 +24,12 @@ pub mod Seen
 pub mod Guarded
 pub mod Ascending
 pub mod Copies
+pub mod HeldMemory
+pub mod Listed
+pub mod Grouped
+pub mod Drained
+pub mod Polled
+pub mod Caused
 pub mod ExamplesComputed
 pub mod ExamplesAreRuns
 pub mod PlainSources

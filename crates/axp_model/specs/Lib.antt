@@ -16,6 +16,9 @@ pub mod StorageLaws
 pub mod Counts
 pub mod LateLaws
 pub mod LockLaws
+pub mod EntryLaws
+pub mod PollLaws
+pub mod Causality
 pub mod BusCalls
 pub mod BusReply
 pub mod PlainTurns

@@ -6,7 +6,8 @@ ghost use Rattle.axp_regs.specs.declared.asks.Kind.TheVariants.{Fetch, Read, Loc
 ghost use Rattle.axp_access.specs.declared.Access.{Access};
 ghost use Rattle.axp_access.specs.declared.Record.{Record};
 ghost use Rattle.axp_model.specs.Records.{has_byte, line_of};
-ghost use Rattle.axp_model.specs.Turns.{turns, code_stamp, read_place};
+ghost use Rattle.axp_model.specs.Turns.{turns, stamp, code_stamp, read_place};
+ghost use Rattle.axp_model.specs.Late.{held};
 ghost use Rattle.axp_model.specs.Memory.{newest_waiting};
 ghost use Rattle.axp_model.specs.Outcomes.{Intents, IsRun};
 ghost use Rattle.axp_model.specs.OrderLaws.{AreInLine};
@@ -39,4 +40,11 @@ pub fn closed_form_of_sources()
 pub fn memory_of_past_turns_stays()
     ensures { (image : ℕ → ℕ) (intent : Intents) (more h : List Record) (n at : ℕ) → AreInLine intent → IsRun image intent (more ++ h) → n ≤ turns h
         → memory_after (more ++ h) n at ≡ memory_after h n at }
+{}
+
+/// A copy that a processor holds has the bytes that memory had after its stamp; where a plain read of
+/// the line stands, memory has the same bytes still.
+pub fn held_copies_are_memory()
+    ensures { (image : ℕ → ℕ) (intent : Intents) (h : List Record) (p at : ℕ) → AreInLine intent → IsRun image intent h → held p (line_of at) h ≡ true
+        → memory_after h (read_place p (line_of at) h) at ≡ memory_after h (stamp p (line_of at) h) at }
 {}

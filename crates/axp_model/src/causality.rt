@@ -1,0 +1,19 @@
+//! No value of a run has itself as a cause.
+ghost use Rattle.std.specs.Prelude.{ℕ, List, ◌<◌};
+ghost use Rattle.axp_access.specs.declared.Record.{Record};
+ghost use Rattle.axp_model.specs.Causality.{IsChain, IsSourceOf, MayGoInto, value_moment};
+ghost use Rattle.axp_model.specs.OrderLaws.{AreInLine};
+ghost use Rattle.axp_model.specs.Outcomes.{Intents, IsRun};
+ghost use Rattle.axp_model.specs.Places.{Item};
+
+/// In every run a memory write that gives a read or fetch a byte had its value before the read or
+/// fetch had its own; a read or fetch had its value before each memory write that its processor makes
+/// later; so no chain of accesses, each the source of the next or a read or fetch before the next,
+/// leads from an access back to itself.
+pub fn no_causal_loop()
+    ensures source { (image : ℕ → ℕ) (intent : Intents) (h : List Record) → AreInLine intent → IsRun image intent h
+        → (u v : Item) → IsSourceOf h u v → value_moment u < value_moment v }
+    ensures write { (u v : Item) → MayGoInto u v → value_moment u < value_moment v }
+    ensures loops { (image : ℕ → ℕ) (intent : Intents) (h : List Record) → AreInLine intent → IsRun image intent h
+        → (u : Item) (via : List Item) → IsChain h u via u → ⊥ }
+{}
