@@ -1,35 +1,31 @@
 -- The closed form of a source: the newest own write that waits, else the latest write that reached memory
 -- by the place of the read.
-use Rattle.std.proofs.Common.{true, false, ℕ, ◌+◌, ◌/◌, ◌%◌, ◌*◌, ◌<◌, ◌≤◌, ◌≡◌, ◌⊎◌, ⊎_elim, max, eqb, ltb, leb, cond, Bool, not, ◌&&◌, ◌||◌, List, [], ◌∷◌, ◌++◌, length, Option, Some, None, refl, sym, ap, ◌∙◌, subst, arith}
+use Rattle.std.proofs.Common.{true, false, ℕ, ◌+◌, ◌<◌, ◌≤◌, ◌≡◌, ⊎_elim, eqb, ltb, leb, Bool, not, ◌&&◌, ◌||◌, List, [], ◌∷◌, ◌++◌, length, Option, Some, None, refl, sym, ap, ◌∙◌, subst, arith}
 use Rattle.std.specs.List.{AllByRecursion, find}
 use Rattle.std.specs.Option.{option_or}
 use Rattle.std.specs.declared.cmp.Ordering.{Ordering}
-use Rattle.std.specs.declared.cmp.Ordering.TheVariants.{Less, Equal, Greater}
+use Rattle.std.specs.declared.cmp.Ordering.TheVariants.{Less}
 use Rattle.std.specs.Ordering.{ordering_then, nat_cmp, bool_cmp, is_lt}
-use Rattle.std.proofs.lemmas.Bool.{cases_Bool, and_parts, and_from, or_cases, cases_lt, lt-ltb, le-ltb, le-leb, lt-leb, leb-true, ltb-true, eq-eqb, ne_eqb, eqb-true, false≢true}
-use Rattle.axp_base.specs.declared.lines.TheConstants.{LINE_BYTES}
-use Rattle.axp_base.specs.declared.processors.Cpu.{Cpu}
-use Rattle.axp_regs.specs.declared.asks.Kind.{Kind}
+use Rattle.std.proofs.lemmas.Bool.{cases_Bool, and_parts, cases_lt, lt-ltb, le-ltb, le-leb, lt-leb, leb-true, ltb-true, eq-eqb, eqb-true, false≢true}
 use Rattle.axp_regs.specs.declared.asks.Kind.TheVariants as kind
 use Rattle.axp_access.specs.declared.Access.{Access}
 use Rattle.axp_access.specs.declared.Outcome.{Outcome}
 use Rattle.axp_access.specs.declared.Outcome.TheVariants as outcome
-use Rattle.axp_access.specs.declared.Place.TheVariants.{At, Entry, Absent}
+use Rattle.axp_access.specs.declared.Place.TheVariants.{At}
 use Rattle.axp_access.specs.declared.Record.{Record}
-use Rattle.axp_model.specs.Records.{by, line_of, fills, locks, access_in, is_fetch, is_memory_write, is_write, is_conditional, is_signal, is_turn, turns_on, has_byte}
-use Rattle.axp_model.specs.Turns.{turns, stamp, read_place}
-use Rattle.axp_model.specs.Entries.{buffer, has_line}
+use Rattle.axp_model.specs.Records.{line_of, fills, locks, access_in, is_fetch, is_memory_write, is_write, is_conditional, is_signal, is_turn, turns_on, has_byte}
+use Rattle.axp_model.specs.Turns.{turns, stamp}
 use Rattle.axp_model.specs.Places.{Item, cpu_of, accesses, with_access, Times, times, Spot, spot}
 use Rattle.axp_model.specs.Before.{key, key_before, before, precedes, visible, latest, gives, source}
 use Rattle.axp_model.specs.Memory.{is_by, is_waiting, reached, memory_source, own_waits, newest_waiting}
 use Rattle.axp_model.specs.OrderLaws.{IsInLine, AllPairs}
-use Rattle.axp_model.proofs.Kept.{FitsOutcome, Fitting, KnownItem, Kept, waits}
-use Rattle.axp_model.proofs.Grows.{turns_grow, stamp_grows, stamp_most}
+use Rattle.axp_model.proofs.Kept.{FitsOutcome, Fitting, KnownItem, Kept}
+use Rattle.axp_model.proofs.Grows.{turns_grow, stamp_grows}
 use Rattle.axp_model.proofs.Orders.{at_key}
 use Rattle.axp_model.proofs.Steps.{kept}
 use Rattle.axp_model.proofs.Stable.{latest_now, each_all}
 use Rattle.axp_model.proofs.Storages.{source_stays}
-use Rattle.axp_model.proofs.Forwards.{own_is_source, mem_placed, own_parts, waiting_entry}
+use Rattle.axp_model.proofs.Forwards.{own_is_source, mem_placed}
 use Rattle.axp_model.proofs.Settled.{Settles, OnPlace, Settled, settled}
 
 -- a write is BEFORE a read exactly where it has a number that is not above the read's

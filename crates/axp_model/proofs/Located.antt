@@ -1,7 +1,7 @@
 -- Each access to memory has a place, and none stands above the turn count.
-use Rattle.std.proofs.Common.{true, false, ℕ, ◌<◌, ◌≤◌, ◌≡◌, ◌⊎◌, ⊎_elim, eqb, Bool, not, ◌&&◌, ◌||◌, List, [], ◌∷◌, ◌++◌, Option, Some, None, refl, sym, ap, ◌∙◌, arith}
+use Rattle.std.proofs.Common.{true, false, ℕ, ◌≤◌, ◌≡◌, ⊎_elim, Bool, ◌&&◌, ◌||◌, List, [], ◌∷◌, ◌++◌, Option, Some, None, refl, sym, arith}
 use Rattle.std.specs.List.{AllByRecursion}
-use Rattle.std.proofs.lemmas.Bool.{cases_Bool, and_parts, or_cases, false≢true}
+use Rattle.std.proofs.lemmas.Bool.{and_parts, or_cases, false≢true}
 use Rattle.axp_regs.specs.declared.asks.Kind.{Kind}
 use Rattle.axp_regs.specs.declared.asks.Kind.TheVariants as kind
 use Rattle.axp_access.specs.declared.Place.{Place}
@@ -9,11 +9,11 @@ use Rattle.axp_access.specs.declared.Place.TheVariants.{At, Entry, Absent}
 use Rattle.axp_access.specs.declared.Record.{Record}
 use Rattle.axp_model.specs.Records.{line_of, is_read, is_fetch, is_memory_write}
 use Rattle.axp_model.specs.Turns.{turns, drained}
-use Rattle.axp_model.specs.Places.{Item, cpu_of, accesses, Spot, spot, spot_at, times}
+use Rattle.axp_model.specs.Places.{Item, accesses, spot, spot_at, times}
 use Rattle.axp_model.specs.Before.{key}
-use Rattle.axp_model.specs.Issue.{in_memory, touch, overlap}
+use Rattle.axp_model.specs.Issue.{in_memory, touch}
 use Rattle.axp_model.specs.Outcomes.{Intents, IsRun}
-use Rattle.axp_model.specs.OrderLaws.{AllPairs, AreComparable, AreInLine, IsLocated, StandsBy, is_placed}
+use Rattle.axp_model.specs.OrderLaws.{AllPairs, AreInLine, IsLocated, StandsBy, is_placed}
 use Rattle.axp_model.proofs.Kept.{Known, KnownItem, PairOk, AtMost}
 use Rattle.axp_model.proofs.Grows.{AtMostO, drained_most}
 use Rattle.axp_model.proofs.Orders.{before_total}

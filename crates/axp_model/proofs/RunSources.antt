@@ -1,30 +1,26 @@
 -- The sources of the accesses of a run.
-use Rattle.std.proofs.Common.{true, false, ℕ, ◌+◌, ◌<◌, ◌≤◌, ◌≡◌, ◌⊎◌, ⊎_elim, eqb, Bool, not, ◌&&◌, ◌||◌, List, [], ◌∷◌, ◌++◌, length, Option, Some, None, refl, sym, ap, ◌∙◌, subst, arith}
-use Rattle.std.specs.List.{AllByRecursion, find}
+use Rattle.std.proofs.Common.{true, false, ℕ, ◌<◌, ◌≤◌, ◌≡◌, eqb, ◌&&◌, List, [], ◌∷◌, ◌++◌, Option, Some, None, refl, sym, ap, ◌∙◌, subst, arith}
 use Rattle.std.specs.Option.{option_or}
-use Rattle.std.proofs.lemmas.Bool.{cases_Bool, and_parts, false≢true}
+use Rattle.std.proofs.lemmas.Bool.{and_parts, false≢true}
 use Rattle.axp_base.specs.Cpus.{cpu_number}
-use Rattle.axp_base.specs.Parts.{byte}
 use Rattle.axp_regs.specs.declared.asks.Kind.{Kind}
 use Rattle.axp_regs.specs.declared.asks.Kind.TheVariants as kind
 use Rattle.axp_access.specs.declared.Access.{Access}
 use Rattle.axp_access.specs.declared.Event.{Event}
-use Rattle.axp_access.specs.declared.Outcome.{Outcome}
 use Rattle.axp_access.specs.declared.Outcome.TheVariants as outcome
-use Rattle.axp_access.specs.declared.Place.{Place}
 use Rattle.axp_access.specs.declared.Place.TheVariants.{At, Entry}
 use Rattle.axp_access.specs.declared.Record.{Record}
-use Rattle.axp_model.specs.Records.{line_of, has_byte, is_fetch, is_write, is_memory_write}
+use Rattle.axp_model.specs.Records.{line_of, has_byte, is_write, is_memory_write}
 use Rattle.axp_model.specs.Turns.{turns, stamp, code_stamp, read_place, drained}
 use Rattle.axp_model.specs.Entries.{buffer, has_line}
 use Rattle.axp_model.specs.Places.{Item, accesses, next_item, times, Spot, spot}
 use Rattle.axp_model.specs.Before.{source}
-use Rattle.axp_model.specs.Sources.{takes_bytes, byte_of_source, source_byte, source_value}
-use Rattle.axp_model.specs.Memory.{memory_source, own_waits, is_waiting, newest_waiting}
+use Rattle.axp_model.specs.Sources.{takes_bytes, byte_of_source, source_byte}
+use Rattle.axp_model.specs.Memory.{own_waits, is_waiting, newest_waiting}
 use Rattle.axp_model.specs.Outcomes.{Intents, IsRun}
-use Rattle.axp_model.specs.OrderLaws.{IsInLine, AreInLine}
-use Rattle.axp_model.specs.StorageLaws.{HasSources, KeepsStorage, HasEachSource, KeepsEachByte, HasBytes, Makes, source_in, memory_after}
-use Rattle.axp_model.proofs.Kept.{Fits, FitsOutcome, Fitting, KnownItem, Kept, Goes, waits}
+use Rattle.axp_model.specs.OrderLaws.{AreInLine}
+use Rattle.axp_model.specs.StorageLaws.{HasSources, HasEachSource, KeepsEachByte, HasBytes, Makes, source_in, memory_after}
+use Rattle.axp_model.proofs.Kept.{FitsOutcome, Fitting, KnownItem, Goes}
 use Rattle.axp_model.proofs.Grows.{turns_grow, stamp_most, code_stamp_most, read_place_most}
 use Rattle.axp_model.proofs.Fits.{run_fits}
 use Rattle.axp_model.proofs.Keeps.{waits_line}

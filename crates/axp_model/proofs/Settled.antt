@@ -1,27 +1,26 @@
 -- The turn at which a memory write stands is a turn of its processor on its line: what holds of these turns
 -- holds of the places of all memory writes.
-use Rattle.std.proofs.Common.{true, false, ℕ, ◌+◌, ◌<◌, ◌≤◌, ◌≡◌, ◌⊎◌, ⊎_elim, eqb, cond, Bool, not, ◌&&◌, ◌||◌, List, [], ◌∷◌, length, Option, Some, None, refl, sym, ap, ◌∙◌, subst, arith}
+use Rattle.std.proofs.Common.{true, false, ℕ, ◌+◌, ◌≡◌, ⊎_elim, Bool, ◌&&◌, List, [], ◌∷◌, Option, Some, None, refl, sym, ◌∙◌, subst}
 use Rattle.std.specs.List.{AllByRecursion}
 use Rattle.std.proofs.lemmas.Bool.{cases_Bool, and_parts, eqb-true, eq-eqb, false≢true}
 use Rattle.axp_base.specs.declared.processors.Cpu.{Cpu}
 use Rattle.axp_regs.specs.declared.asks.Kind.{Kind}
 use Rattle.axp_regs.specs.declared.asks.Kind.TheVariants as kind
-use Rattle.axp_access.specs.declared.Access.{Access}
 use Rattle.axp_access.specs.declared.Event.{Event}
 use Rattle.axp_access.specs.declared.Outcome.{Outcome}
 use Rattle.axp_access.specs.declared.Outcome.TheVariants as outcome
 use Rattle.axp_access.specs.declared.Place.{Place}
 use Rattle.axp_access.specs.declared.Place.TheVariants.{At, Entry, Absent}
 use Rattle.axp_access.specs.declared.Record.{Record}
-use Rattle.axp_model.specs.Records.{by, line_of, is_plain_write, is_conditional, is_memory_write, turns_on, drains, access_in}
+use Rattle.axp_model.specs.Records.{by, line_of, is_memory_write, turns_on, drains}
 use Rattle.axp_model.specs.Turns.{turns, drained}
-use Rattle.axp_model.specs.Entries.{Waiting, buffer, has_number, least_age, oldest}
-use Rattle.axp_model.specs.Places.{Item, cpu_of, accesses, next_item, Spot, spot, spot_at, times}
-use Rattle.axp_model.proofs.Kept.{Fits, FitsOutcome, Fitting, Named, waits, Known, KnownItem, SoundBuffer, Kept}
+use Rattle.axp_model.specs.Entries.{Waiting, buffer, least_age}
+use Rattle.axp_model.specs.Places.{Item, cpu_of, accesses, Spot, spot, spot_at, times}
+use Rattle.axp_model.proofs.Kept.{Fits, FitsOutcome, Fitting, Named, waits, Known, KnownItem, Kept}
 use Rattle.axp_model.proofs.Keeps.{acc}
 use Rattle.axp_model.proofs.Knows.{waits_has}
-use Rattle.axp_model.proofs.Drains.{of_age_waits, entry_write}
-use Rattle.axp_model.proofs.Steps.{turn_same, spot_same, kept, fresh_at, poll_access}
+use Rattle.axp_model.proofs.Drains.{of_age_waits}
+use Rattle.axp_model.proofs.Steps.{turn_same, kept, fresh_at}
 
 -- a statement on turns that later records leave, and that holds of each new turn of processor q on line l
 pub record Settles (q l : ℕ) (Q : ℕ → List Record → Type 0) : Type 0 where

@@ -23,7 +23,7 @@ use Rattle.axp_model.specs.Before.{key, before, precedes, visible, gives, source
 use Rattle.axp_model.specs.Sources.{takes_bytes, byte_of_source, source_byte}
 use Rattle.axp_access.specs.declared.Intent.{Intent}
 use Rattle.axp_model.specs.Outcomes.{Intents, step_by, stepped, outcome_by, outcome_of, drained_as, taken, filled, IsRun}
-use Rattle.axp_model.proofs.Kept.{Fits, FitsOutcome, Fitting, AtMost, Known, KnownItem, Kept, Named}
+use Rattle.axp_model.proofs.Kept.{Fits, FitsOutcome, Fitting, AtMost, Known, KnownItem, Kept}
 use Rattle.axp_model.specs.OrderLaws.{AreInLine, AllPairs}
 use Rattle.axp_model.specs.StorageLaws.{HasSources, KeepsStorage}
 use Rattle.std.specs.List.{AllByRecursion}
@@ -32,7 +32,7 @@ use Rattle.axp_access.specs.declared.Wanted.{Wanted}
 use Rattle.axp_model.proofs.Fits.{run_fits}
 use Rattle.axp_model.proofs.Orders.{at_less, before_asymmetric}
 use Rattle.axp_model.proofs.Keeps.{acc, mark, most_of}
-use Rattle.axp_model.proofs.Steps.{each_map, turn_same, spot_same, naming_of, kept, kept_by, fresh_at, poll_access}
+use Rattle.axp_model.proofs.Steps.{turn_same, spot_same, naming_of, kept, kept_by, fresh_at, poll_access}
 use Rattle.axp_model.proofs.Stable.{latest_now, hidden, source_drain, each_all}
 
 -- a run's values

@@ -1,6 +1,6 @@
 -- The history of the bus: the list of the calls that processors made, the newest first, and what each
 -- left behind.
-use Rattle.std.specs.Prelude.{ℕ, ◌+◌, ◌*◌, ◌/◌, ◌%◌, ◌==◌, Bool, true, false, ◌&&◌, if◌then◌else◌, List, [], ◌∷◌, ◌++◌, replicate, slice_index, Option, Some, None}
+use Rattle.std.specs.Prelude.{ℕ, ◌+◌, ◌%◌, ◌==◌, Bool, true, false, ◌&&◌, if◌then◌else◌, List, [], ◌∷◌, ◌++◌, replicate, slice_index, Option, Some, None}
 use Rattle.axp_base.specs.Cpus.{cpu_number}
 use Rattle.axp_base.specs.Lines.{line_number}
 use Rattle.axp_base.specs.Masks.{has_bit, mask_bits, span_of}
@@ -15,7 +15,7 @@ use Rattle.axp_line.specs.declared.messages.Reply.{Reply}
 use Rattle.axp_line.specs.declared.messages.Reply.TheVariants as reply
 use Rattle.axp_line.specs.declared.messages.Request.{Request}
 use Rattle.axp_line.specs.declared.messages.Request.TheVariants as request
-use Rattle.axp_lockreg.specs.Blocks.{block_of, after_write}
+use Rattle.axp_lockreg.specs.Blocks.{block_of}
 use Rattle.axp_model.specs.Records.{line_of, line_at}
 use Rattle.axp_model.specs.Late.{late_by_other}
 use Rattle.axp_model.specs.Locks.{lock_by_other}

@@ -1,5 +1,5 @@
 -- Memory as the turns leave it, and what a read takes from its own write buffer.
-use Rattle.std.specs.Prelude.{ℕ, ◌==◌, nat_le, Bool, not, ◌&&◌, List, Option, Some, None}
+use Rattle.std.specs.Prelude.{ℕ, ◌==◌, nat_le, Bool, not, ◌&&◌, List, Option}
 use Rattle.std.specs.List.{find}
 use Rattle.axp_access.specs.declared.Record.{Record}
 use Rattle.axp_model.specs.Records.{is_memory_write, has_byte}

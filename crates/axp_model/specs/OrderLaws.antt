@@ -5,7 +5,7 @@ use Rattle.axp_base.specs.declared.lines.TheConstants.{LINE_BYTES}
 use Rattle.axp_access.specs.declared.Record.{Record}
 use Rattle.axp_access.specs.declared.Wanted.{Wanted}
 use Rattle.axp_model.specs.Records.{is_memory_write}
-use Rattle.axp_model.specs.Places.{Item, cpu_of, accesses, Times, times, Spot, spot}
+use Rattle.axp_model.specs.Places.{Item, cpu_of, accesses, Times, times, spot}
 use Rattle.axp_model.specs.Before.{before}
 use Rattle.axp_model.specs.Issue.{overlap, issue_demands, barrier_demands}
 use Rattle.axp_model.specs.Outcomes.{Intents}

@@ -13,7 +13,10 @@ mod polls;
 mod storage;
 
 pub use causality::no_causal_loop;
-pub use entries::{ages_are_write_barriers, drained_turns, entries_that_wait, numbers_of_accesses, oldest_group_is_in_front, write_barrier_stands_between};
+pub use entries::{
+    ages_are_write_barriers, drained_turns, entries_that_wait, numbers_of_accesses,
+    oldest_group_is_in_front, write_barrier_stands_between,
+};
 pub use examples::{
     invalidations_come_late, locks_are_of_blocks, shown_traces_are_runs, writes_wait,
     written_code_wants_imb,
@@ -28,4 +31,6 @@ pub use plain::{
     bytes_of_memory, numbers_of_memory, source_of_a_byte, touched_quadwords, turns_of_a_history,
 };
 pub use polls::poll_rule;
-pub use storage::{closed_form_of_sources, held_copies_are_memory, memory_of_past_turns_stays, storage_is_kept};
+pub use storage::{
+    closed_form_of_sources, held_copies_are_memory, memory_of_past_turns_stays, storage_is_kept,
+};
