@@ -1,6 +1,7 @@
 -- Every plan of the instruction table is sound.
-use Rattle.std.proofs.Common.{◌≡◌, ℕ, ◌+◌, ◌%◌, ◌^◌, ◌<◌, ◌≤◌, ◌&&◌, Bool, true, false, cond, eqb, ltb, List, [], ◌∷◌, arith, rules, refl, inl, inr}
+use Rattle.std.proofs.Common.{◌≡◌, ℕ, ◌+◌, ◌*◌, ◌/◌, ◌%◌, ◌^◌, ◌<◌, ◌≤◌, ◌&&◌, Bool, true, false, cond, eqb, ltb, List, [], ◌∷◌, arith, rules, refl, inl, inr}
 use Rattle.std.proofs.lemmas.Bool.{ltb-true, eqb-true}
+use Rattle.axp_access.specs.declared.Wanted.{Wanted}
 use Rattle.axp_base.specs.Masks.{IsSize}
 use Rattle.axp_base.specs.Numbers.{sign_extended}
 use Rattle.axp_base.specs.Sizes.{bytes_of, low_datum}
@@ -24,15 +25,16 @@ use Rattle.axp_decode.specs.declared.names.PalOp.{PalOp}
 use Rattle.axp_decode.specs.declared.names.PalOp.TheVariants as pal
 use Rattle.axp_image.specs.declared.limits.TheConstants.{PAGE_BYTES, INSTRUCTION_BYTES}
 use Rattle.axp_integer.specs.Rows as integer
-use Rattle.axp_regs.specs.States.{register, pc_of}
+use Rattle.axp_lsu.specs.Within.{IsInMemory}
+use Rattle.axp_regs.specs.States.{register, pc_of, ptbr_of}
 use Rattle.axp_regs.specs.declared.asks.Kind.{Kind}
-use Rattle.axp_regs.specs.declared.asks.Kind.TheVariants.{Fetch, Read, Write}
+use Rattle.axp_regs.specs.declared.asks.Kind.TheVariants.{Fetch, Read, Write, Barrier, WriteBarrier, CodeBarrier}
 use Rattle.axp_regs.specs.declared.states.TheConstants.{ZERO_REGISTER}
 use Rattle.axp_cpu.specs.declared.tables.Table.{Table}
-use Rattle.axp_cpu.specs.Addresses.{in_kseg, physical, reached, aligned}
+use Rattle.axp_cpu.specs.Addresses.{in_kseg, physical, reached, aligned, is_canonical, first_entry, looked_up}
 use Rattle.axp_cpu.specs.Plans.{Plan, End, Want, Unbuilt, given, along}
-use Rattle.axp_cpu.specs.Rows.{group, fetched, row, memory_row, branch_row, branch_goal, operate_row, misc_row, pal_row, ended, wrote, loaded, stored, as_read, as_longword, address_of, quadword_at, operand}
-use Rattle.axp_cpu.specs.Soundness.{IsSound, IsInside, IsPlain}
+use Rattle.axp_cpu.specs.Rows.{group, fetched, fenced, row, memory_row, branch_row, branch_goal, operate_row, misc_row, pal_row, ended, wrote, loaded, stored, as_read, as_longword, address_of, quadword_at, operand}
+use Rattle.axp_cpu.specs.Soundness.{IsSound, IsSoundAs, IsBare, IsFetched}
 use Rattle.axp_cpu.specs.Tables.{counted, next_pc}
 
 -- the end of an aligned part of whole pages lies in them
@@ -55,7 +57,14 @@ size_some n (inr (inl e)) = omega arith
 size_some n (inr (inr (inl e))) = omega arith
 size_some n (inr (inr (inr e))) = omega arith
 
--- the kind and size of an access of the instruction table
+-- an access of memory that the instruction table wants
+abbrev IsPlain : Kind → Type 0
+IsPlain Fetch = Unit {0}
+IsPlain Read = Unit {0}
+IsPlain Write = Unit {0}
+IsPlain _ = ⊥
+
+-- its kind and size
 record Asks (kind : Kind) (n : ℕ) : Type 0 where
   plain : IsPlain kind
   sized : IsSize n
@@ -76,10 +85,16 @@ asks_read what = record { plain = tt; sized = sized what; fetched = λ is. cc }
 asks_write : (what : Size) → Asks Write (bytes_of what)
 asks_write what = record { plain = tt; sized = sized what; fetched = λ is. cc }
 
-reached_by : (tested : Bool) (size : ℕ) (kind : Kind) (a n v : ℕ) (k : ℕ → Plan) → (tested ≡ true → IsInside size kind a n) → ((x : ℕ) → IsSound size (k x))
-    → IsSound size (cond tested (Want (record { kind = kind; address = a; size = n; value = v }) k) Unbuilt)
-reached_by true size kind a n v k inside follows = (inside refl, follows)
-reached_by false size kind a n v k inside follows = tt
+-- an access that lies in memory is sound
+sound_as : (size : ℕ) (kind : Kind) (w : Wanted) → Asks kind w.size → IsInMemory size w → IsSoundAs size kind w
+sound_as size Fetch w asks inside = record { inside = inside; bytes = asks.fetched refl }
+sound_as size Read w asks inside = inside
+sound_as size Write w asks inside = inside
+sound_as size _ w asks inside = absurd asks.plain
+
+reached_by : (tested : Bool) (size : ℕ) (w : Wanted) (k : ℕ → Plan) → (tested ≡ true → IsSoundAs size w.kind w) → ((x : ℕ) → IsSound size (k x)) → IsSound size (cond tested (Want w k) Unbuilt)
+reached_by true size w k inside follows = (inside refl, follows)
+reached_by false size w k inside follows = tt
 
 both-true : (a b : Bool) → a && b ≡ true → b ≡ true
 both-true true b h = h
@@ -88,14 +103,13 @@ both-true false b h = cc
 reached_sound : (size : ℕ) (kind : Kind) (a n v : ℕ) (k : ℕ → Plan) → size % PAGE_BYTES ≡ 0 → Asks kind n → a % n ≡ 0 → ((x : ℕ) → IsSound size (k x)) → IsSound size (reached size kind a n v k)
 reached_sound size kind a n v k pages asks h follows =
     let one = asks.sized in
-    reached_by (in_kseg a && ltb (physical a) size) size kind (physical a) n v k
-    (λ passed. record {
-      plain = asks.plain;
+    let w : Wanted = record { kind = kind; address = physical a; size = n; value = v } in
+    reached_by (in_kseg a && ltb (physical a) size) size w k
+    (λ passed. sound_as size kind w asks (record {
       sized = one;
-      fetched = asks.fetched;
       aligned = low_aligned n a one h;
       within = part_within n (physical a) size one (low_aligned n a one h) (ltb-true (physical a) size (both-true (in_kseg a) (ltb (physical a) size) passed)) pages;
-    })
+    }))
     follows
 
 -- a plan is sound where both ways of a test are
@@ -169,6 +183,9 @@ operate_sound size t op a b c h =
     either (eqb (operate_opcode op) BYTE_OPCODE) size (wrote t c (bytes.value_of op a b)) _ (λ _. next_aligned t h)
     (λ _. either (integer.overflow_of op a b) size Unbuilt (wrote t c (integer.value_of op a b (register t.state c))) (λ _. tt) (λ _. next_aligned t h))
 
+fenced_sound : (size : ℕ) (t : Table) (kind : Kind) → IsSoundAs size kind (record { kind = kind; address = 0; size = 0; value = 0 }) → IsAligned t → IsSound size (fenced t kind)
+fenced_sound size t kind sound h = (sound, λ v. next_aligned t h)
+
 misc_sound : (size : ℕ) (t : Table) (op : MiscOp) (a : ℕ) → IsAligned t → IsSound size (misc_row t op a)
 misc_sound size t misc.TRAPB a h = next_aligned t h
 misc_sound size t misc.EXCB a h = next_aligned t h
@@ -176,12 +193,13 @@ misc_sound size t misc.FETCH a h = next_aligned t h
 misc_sound size t misc.FETCH_M a h = next_aligned t h
 misc_sound size t misc.ECB a h = next_aligned t h
 misc_sound size t misc.WH64 a h = next_aligned t h
-misc_sound size t misc.MB a h = tt
-misc_sound size t misc.WMB a h = tt
+misc_sound size t misc.MB a h = fenced_sound size t Barrier (record { address = refl; size = refl; value = refl }) h
+misc_sound size t misc.WMB a h = fenced_sound size t WriteBarrier (record { address = refl; size = refl; value = refl }) h
 misc_sound size t misc.RPCC a h = next_aligned t h
 
 pal_sound : (size : ℕ) (t : Table) (op : PalOp) → IsAligned t → IsSound size (pal_row t op)
 pal_sound size t pal.HALT h = next_aligned t h
+pal_sound size t pal.IMB h = fenced_sound size t CodeBarrier (record { address = refl; size = refl; value = refl }) h
 pal_sound size t op h = search rules
 
 row_sound : (size : ℕ) (t : Table) (i : Instr) → size % PAGE_BYTES ≡ 0 → IsAligned t → IsSound size (row size t i)
@@ -195,10 +213,28 @@ row_sound size t (instr.Pal op) pages h = pal_sound size t op h
 row_sound size t (instr.Floating word) pages h = tt
 row_sound size t (instr.Reserved word) pages h = tt
 
+-- the entry by which a page is looked up lies in memory
+looked_up_sound : (size table a : ℕ) → size % PAGE_BYTES ≡ 0 → IsSound size (looked_up size table a)
+looked_up_sound size table a pages =
+    let w : Wanted = record { kind = Read; address = first_entry table a; size = 8; value = 0 } in
+    reached_by (is_canonical a && ltb (first_entry table a) size) size w (λ v. Unbuilt)
+    (λ passed. record {
+      sized = inr (inr (inr refl));
+      aligned = entry_aligned (table * PAGE_BYTES + 8 * (a / 2 ^ 33 % 2 ^ 10)) (whole table (a / 2 ^ 33 % 2 ^ 10));
+      within = part_within 8 (first_entry table a) size (inr (inr (inr refl))) (entry_aligned (table * PAGE_BYTES + 8 * (a / 2 ^ 33 % 2 ^ 10)) (whole table (a / 2 ^ 33 % 2 ^ 10))) (ltb-true (first_entry table a) size (both-true (is_canonical a) (ltb (first_entry table a) size) passed)) pages;
+    })
+    (λ v. tt) where
+  whole : (m n : ℕ) → (m * PAGE_BYTES + 8 * n) % 8 ≡ 0
+  whole m n = omega arith
+  entry_aligned : (n : ℕ) → n % 8 ≡ 0 → n % 2 ^ 64 % 8 ≡ 0
+  entry_aligned n e = omega arith
+
 pub group_sound : (size : ℕ) (t : Table) → size % PAGE_BYTES ≡ 0 → IsAligned t → IsSound size (group size t)
 unfolding group
 group_sound size t pages h =
-    reached_sound size Fetch (pc_of t.state) INSTRUCTION_BYTES 0 (fetched size t) pages asks_fetch h (λ v. row_sound size (counted t) (instr_of (v % 2 ^ 32)) pages h)
+    either (in_kseg (pc_of t.state)) size (reached size Fetch (pc_of t.state) INSTRUCTION_BYTES 0 (fetched size t)) (looked_up size (ptbr_of t.state) (pc_of t.state))
+    (λ _. reached_sound size Fetch (pc_of t.state) INSTRUCTION_BYTES 0 (fetched size t) pages asks_fetch h (λ v. row_sound size (counted t) (instr_of (v % 2 ^ 32)) pages h))
+    (λ _. looked_up_sound size (ptbr_of t.state) (pc_of t.state) pages)
 
 given_sound : (size v : ℕ) (p : Plan) → IsSound size p → IsSound size (given v p)
 given_sound size v (End t) sound = sound

@@ -1,5 +1,5 @@
 -- A row is built exactly where its instruction is not refused.
-use Rattle.std.proofs.Common.{◌≡◌, ℕ, ◌%◌, ◌&&◌, not, Bool, true, false, cond, eqb, rules, refl, sym, ap, ◌∙◌}
+use Rattle.std.proofs.Common.{◌≡◌, ℕ, ◌%◌, ◌&&◌, not, Bool, true, false, cond, eqb, ltb, rules, refl, sym, ap, ◌∙◌}
 use Rattle.axp_access.specs.declared.Wanted.{Wanted}
 use Rattle.axp_base.specs.Sizes.{bytes_of, low_datum}
 use Rattle.axp_base.specs.declared.sizes.Size.{Size}
@@ -17,14 +17,14 @@ use Rattle.axp_decode.specs.declared.names.PalOp.{PalOp}
 use Rattle.axp_decode.specs.declared.numbers.TheConstants.{BYTE_OPCODE}
 use Rattle.axp_image.specs.declared.limits.TheConstants.{INSTRUCTION_BYTES}
 use Rattle.axp_integer.specs.Rows as integer
-use Rattle.axp_regs.specs.States.{register, pc_of}
+use Rattle.axp_regs.specs.States.{register, pc_of, ptbr_of}
 use Rattle.axp_regs.specs.declared.asks.Kind.{Kind}
 use Rattle.axp_regs.specs.declared.asks.Kind.TheVariants.{Fetch, Read, Write}
 use Rattle.axp_regs.specs.declared.states.TheConstants.{ZERO_REGISTER}
 use Rattle.axp_cpu.specs.declared.tables.Table.{Table}
-use Rattle.axp_cpu.specs.Addresses.{aligned, reached}
-use Rattle.axp_cpu.specs.Plans.{Plan, Want, Unbuilt, is_built}
-use Rattle.axp_cpu.specs.Refusals.{is_reached, is_accessible, load_refused, store_refused, memory_refused, misc_refused, pal_refused, is_refused}
+use Rattle.axp_cpu.specs.Addresses.{aligned, first_entry, in_kseg, is_canonical, looked_up, reached}
+use Rattle.axp_cpu.specs.Plans.{Plan, Want, Unbuilt, given, is_built}
+use Rattle.axp_cpu.specs.Refusals.{is_reached, is_accessible, load_refused, store_refused, memory_refused, pal_refused, is_refused, is_begun}
 use Rattle.axp_cpu.specs.Rows.{group, fetched, row, memory_row, branch_row, operate_row, misc_row, pal_row, ended, wrote, loaded, stored, as_read, as_longword, address_of, quadword_at, operand}
 
 wants_if : (tested : Bool) (w : Wanted) (k : ℕ → Plan) → is_built (cond tested (Want w k) Unbuilt) ≡ tested
@@ -77,7 +77,7 @@ memory_built size t memory.STQ_C a base disp = refl
 branch_built : (t : Table) (op : BranchOp) (a disp : ℕ) → is_built (branch_row t op a disp) ≡ true
 branch_built t op a disp = search rules
 
-misc_built : (t : Table) (op : MiscOp) (a : ℕ) → is_built (misc_row t op a) ≡ not (misc_refused op)
+misc_built : (t : Table) (op : MiscOp) (a : ℕ) → is_built (misc_row t op a) ≡ true
 misc_built t op a = search rules
 
 pal_built : (t : Table) (op : PalOp) → is_built (pal_row t op) ≡ not (pal_refused op)
@@ -108,6 +108,19 @@ row_built size t (instr.Pal op) = pal_built t op
 row_built size t (instr.Floating word) = refl
 row_built size t (instr.Reserved word) = refl
 
-pub group_built : (size : ℕ) (t : Table) → is_built (group size t) ≡ is_reached size (pc_of t.state)
+looked_up_built : (size table a : ℕ) → is_built (looked_up size table a) ≡ (is_canonical a && ltb (first_entry table a) size)
+looked_up_built size table a = wants_if (is_canonical a && ltb (first_entry table a) size) (record { kind = Read; address = first_entry table a; size = 8; value = 0 }) (λ v. Unbuilt)
+
+pub looked_up_leads : (size v table a : ℕ) → is_built (given v (looked_up size table a)) ≡ false
+looked_up_leads size v table a = leads_if (is_canonical a && ltb (first_entry table a) size) where
+  leads_if : (tested : Bool) → is_built (given v (cond tested (Want (record { kind = Read; address = first_entry table a; size = 8; value = 0 }) (λ x. Unbuilt)) Unbuilt)) ≡ false
+  leads_if true = refl
+  leads_if false = refl
+
+pub group_built : (size : ℕ) (t : Table) → is_built (group size t) ≡ is_begun size t
 unfolding group
-group_built size t = reached_built size Fetch (pc_of t.state) INSTRUCTION_BYTES 0 (fetched size t)
+group_built size t =
+    both (in_kseg (pc_of t.state)) _ _ _ _ (reached_built size Fetch (pc_of t.state) INSTRUCTION_BYTES 0 (fetched size t)) (looked_up_built size (ptbr_of t.state) (pc_of t.state)) where
+  both : (tested : Bool) (p q : Plan) (a b : Bool) → is_built p ≡ a → is_built q ≡ b → is_built (cond tested p q) ≡ cond tested a b
+  both true p q a b left right = left
+  both false p q a b left right = right

@@ -1,37 +1,53 @@
 -- A processor stays at its seat, step by step.
-use Rattle.std.proofs.Common.{◌≡◌, ℕ, ◌+◌, List, [], ◌∷◌, ◌++◌, Option, Some, None, rules, refl, sym, ap, ◌∙◌, subst}
+use Rattle.std.proofs.Common.{◌≡◌, ℕ, Bool, true, false, ◌+◌, ◌%◌, List, [], ◌∷◌, ◌++◌, Option, Some, None, rules, refl, sym, ap, ◌∙◌, subst}
 use Rattle.axp_access.specs.declared.Wanted.{Wanted}
 use Rattle.axp_image.specs.Contents.{Contents, IsValid}
 use Rattle.axp_cpu.specs.declared.phases.Phase.{Phase}
 use Rattle.axp_cpu.specs.declared.phases.Phase.TheVariants as phase
 use Rattle.axp_cpu.specs.declared.phases.Then.{Then}
-use Rattle.axp_cpu.specs.declared.processors.Processor.{Processor}
+use Rattle.axp_cpu.specs.declared.sequencers.Sequencer.{Sequencer}
 use Rattle.axp_cpu.specs.declared.tables.Table.{Table}
 use Rattle.axp_cpu.specs.Phases.{Fits, PhaseFits, after, plan_of}
 use Rattle.axp_cpu.specs.Plans.{Plan, End, Want, given, along, is_built}
 use Rattle.axp_cpu.specs.Rows.{group}
-use Rattle.axp_cpu.specs.Seats.{Seat, first_seat, first_table, leads_by, moved, plan_now, stepped}
+use Rattle.axp_cpu.specs.Seats.{Seat, intent_of, is_finished, wanted, first_seat, first_table, leads_by, moved, plan_now, stepped}
 use Rattle.axp_cpu.specs.Soundness.{IsSound}
 use Rattle.axp_cpu.specs.Stands.{GoesOn, IsMakeable, Stands, plan_left}
-use Rattle.axp_cpu.specs.Tables.{core}
+use Rattle.axp_cpu.specs.Tables.{core, uncounted}
+use Rattle.axp_model.specs.Legal.{is_empty}
+use Rattle.axp_regs.specs.States.{ps_of, locked_of}
+use Rattle.std.specs.Prelude.{nat_lt, is_none}
 use Rattle.axp_cpu.proofs.PlanLemmas.{group_sound, along_sound}
+
+never_empty : (vs : List ℕ) (v : ℕ) → is_empty (vs ++ v ∷ []) ≡ false
+never_empty [] v = refl
+never_empty (x ∷ vs) v = refl
+
+-- the parts of a processor's state that its seat has
+pub intent_is : (p : Sequencer) (s : Seat) (finished boundary low armed : Bool) (o : Option Wanted) → Stands p s → finished ≡ is_finished s → boundary ≡ is_none p.making → low ≡ nat_lt (ps_of p.table.state % 8) 5 → armed ≡ locked_of p.table.state → o ≡ wanted s
+    → record { finished = finished; boundary = boundary; low = low; armed = armed; wanted = o } ≡ intent_of s
+intent_is p s finished boundary low armed o stands is_f is_b is_l is_a is_w =
+    let state : uncounted p.table.state ≡ uncounted s.start.state = ap (λ t. t.state) stands.core in
+    let ps : ps_of p.table.state ≡ ps_of s.start.state = ap ps_of state in
+    let flag : locked_of p.table.state ≡ locked_of s.start.state = ap locked_of state in
+    rw (is_f, is_b ∙ stands.boundary, is_l ∙ ap (λ n. nat_lt (n % 8) 5) ps, is_a ∙ flag, is_w) refl
 
 along-more : (vs : List ℕ) (v : ℕ) (p : Plan) → along (vs ++ v ∷ []) p ≡ given v (along vs p)
 along-more [] v p = refl
 along-more (x ∷ vs) v p = along-more vs v (given x p)
 
 -- what a seat's group still has to do is sound
-pub seat_sound : (p : Processor) (s : Seat) → Stands p s → IsSound s.size (plan_now s)
+pub seat_sound : (p : Sequencer) (s : Seat) → Stands p s → IsSound s.size (plan_now s)
 seat_sound p s stands = along_sound s.size s.values (group s.size s.start) (group_sound s.size s.start stands.pages stands.pc)
 
 -- the processor after a step that led to a phase, over this table state
-abbrev pub moved_on : Processor → Table → Phase → Option Processor
+abbrev pub moved_on : Sequencer → Table → Phase → Option Sequencer
 moved_on p t (phase.Makes w next) = Some (record { size = p.size; budget = p.budget; table = t; making = Some (w, next); steps = p.steps + 1 })
 moved_on p t (phase.Ends u) = Some (record { size = p.size; budget = p.budget; table = u; making = None; steps = p.steps + 1 })
 moved_on p t phase.NotBuilt = None
 
 -- a processor goes on to a phase as its seat does with the value
-pub goes_on : (p : Processor) (s : Seat) (w : Wanted) (next : Then) (v : ℕ) (t : Table) (ph : Phase) → Stands p s → Want w (after p.size p.table next) ≡ plan_left p → plan_of p.size t ph ≡ after p.size p.table next v → core t ≡ core p.table → PhaseFits ph
+pub goes_on : (p : Sequencer) (s : Seat) (w : Wanted) (next : Then) (v : ℕ) (t : Table) (ph : Phase) → Stands p s → Want w (after p.size p.table next) ≡ plan_left p → plan_of p.size t ph ≡ after p.size p.table next v → core t ≡ core p.table → PhaseFits ph
     → GoesOn s v (moved_on p t ph)
 goes_on p s w next v t (phase.Makes w' next') stands left plan same fits =
     let vs = s.values ++ v ∷ [] in
@@ -45,6 +61,7 @@ goes_on p s w next v t (phase.Makes w' next') stands left plan same fits =
         core = same ∙ stands.core;
         plan = comes;
         fits = fits;
+        boundary = sym (never_empty s.values v);
         steps = ap (λ n. n + 1) stands.steps;
         pages = stands.pages;
         pc = stands.pc;
@@ -63,6 +80,7 @@ goes_on p s w next v t (phase.Ends u) stands left plan same fits =
         core = refl;
         plan = ap (λ n. group n u) stands.size;
         fits = tt;
+        boundary = refl;
         steps = ap (λ n. n + 1) stands.steps;
         pages = stands.pages;
         pc = sound;
@@ -73,7 +91,7 @@ goes_on p s w next v t phase.NotBuilt stands left plan same fits =
     sym (ap (leads_by v) wants) ∙ sym (ap (λ q. is_built q) plan)
 
 -- a wanted access can be made
-pub makeable : (p : Processor) (s : Seat) (w : Wanted) (next : Then) → Stands p s → Want w (after p.size p.table next) ≡ plan_left p → Fits w next → IsMakeable s.size w
+pub makeable : (p : Sequencer) (s : Seat) (w : Wanted) (next : Then) → Stands p s → Want w (after p.size p.table next) ≡ plan_left p → Fits w next → IsMakeable s.size w
 makeable p s w next stands left fits =
     let sound : IsSound s.size (Want w (after p.size p.table next)) = subst (IsSound s.size) (sym (left ∙ stands.plan)) (seat_sound p s stands) in
     record { inside = sound.0; small = fits.value }
@@ -87,6 +105,7 @@ first_stands image budget n size t is first valid = record {
   core = ap core first;
   plan = ap (λ m. group m t) is ∙ ap (group image.size) first;
   fits = tt;
+  boundary = refl;
   steps = refl;
   pages = valid.whole_pages;
   pc = search rules;

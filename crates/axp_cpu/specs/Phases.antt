@@ -15,7 +15,8 @@ abbrev pub after : ℕ → Table → Then → ℕ → Plan
 after size t next.Instruct v = fetched size t v
 after size t (next.Load a) v = as_read t a v
 after size t (next.LoadLong a) v = as_longword t a v
-after size t next.Store v = ended t
+after size t next.Finish v = ended t
+after size t next.Translate v = Unbuilt
 
 abbrev pub plan_of : ℕ → Table → Phase → Plan
 plan_of size t (phase.Makes w next) = Want w (after size t next)
@@ -27,7 +28,8 @@ abbrev pub FollowFits : Then → Type 0
 FollowFits next.Instruct = Unit {0}
 FollowFits (next.Load a) = a < REGISTERS
 FollowFits (next.LoadLong a) = a < REGISTERS
-FollowFits next.Store = Unit {0}
+FollowFits next.Finish = Unit {0}
+FollowFits next.Translate = Unit {0}
 
 -- and what is stored has the access's size
 pub record Fits (w : Wanted) (next : Then) : Type 0 where

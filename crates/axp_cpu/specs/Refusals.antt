@@ -1,5 +1,5 @@
 -- What is not built yet, said without plans.
-use Rattle.std.specs.Prelude.{ℕ, ◌%◌, ◌==◌, ◌&&◌, nat_lt, not, Bool, true, false}
+use Rattle.std.specs.Prelude.{ℕ, ◌%◌, ◌==◌, ◌&&◌, nat_lt, not, if◌then◌else◌, Bool, true, false}
 use Rattle.axp_base.specs.Sizes.{bytes_of}
 use Rattle.axp_base.specs.declared.sizes.Size.{Size}
 use Rattle.axp_base.specs.declared.sizes.Size.TheVariants.{Byte, Word, Long, Quad}
@@ -7,15 +7,13 @@ use Rattle.axp_decode.specs.declared.instructions.Instr.{Instr}
 use Rattle.axp_decode.specs.declared.instructions.Instr.TheVariants.{Memory, Branch, Jump, Operate, Misc, Pal, Floating, Reserved}
 use Rattle.axp_decode.specs.declared.names.MemOp.{MemOp}
 use Rattle.axp_decode.specs.declared.names.MemOp.TheVariants.{LDA, LDAH, LDBU, LDWU, LDL, LDQ, LDQ_U, LDL_L, LDQ_L, STB, STW, STL, STQ, STQ_U, STL_C, STQ_C}
-use Rattle.axp_decode.specs.declared.names.MiscOp.{MiscOp}
-use Rattle.axp_decode.specs.declared.names.MiscOp.TheVariants.{MB, WMB}
 use Rattle.axp_decode.specs.declared.names.PalOp.{PalOp}
-use Rattle.axp_decode.specs.declared.names.PalOp.TheVariants.{HALT}
+use Rattle.axp_decode.specs.declared.names.PalOp.TheVariants.{HALT, IMB}
 use Rattle.axp_integer.specs.Rows.{overflow_of}
-use Rattle.axp_regs.specs.States.{register}
+use Rattle.axp_regs.specs.States.{register, pc_of, ptbr_of}
 use Rattle.axp_regs.specs.declared.states.TheConstants.{ZERO_REGISTER}
 use Rattle.axp_cpu.specs.declared.tables.Table.{Table}
-use Rattle.axp_cpu.specs.Addresses.{in_kseg, physical}
+use Rattle.axp_cpu.specs.Addresses.{first_entry, in_kseg, is_canonical, physical}
 use Rattle.axp_cpu.specs.Rows.{address_of, operand, quadword_at}
 
 -- the address lies in the kernel segment and in memory
@@ -51,24 +49,28 @@ memory_refused size STQ_U a address = store_refused size Quad (quadword_at addre
 memory_refused size STL_C a address = true
 memory_refused size STQ_C a address = true
 
-abbrev pub misc_refused : MiscOp → Bool
-misc_refused MB = true
-misc_refused WMB = true
-misc_refused _ = false
-
 abbrev pub pal_refused : PalOp → Bool
 pal_refused HALT = false
+pal_refused IMB = false
 pal_refused _ = true
 
 -- the instruction is not built: load-locked and store-conditional, a load or store of an address that is
--- not accessible, a /V form that overflows, a barrier, a PAL call other than halt, and every word that
--- is floating or reserved
+-- not accessible, a /V form that overflows, a PAL call other than halt and imb, and every word that is
+-- floating or reserved
 abbrev pub is_refused : ℕ → Table → Instr → Bool
 is_refused size t (Memory op a b disp) = memory_refused size op a (address_of (register t.state b) disp)
 is_refused size t (Branch op a disp) = false
 is_refused size t (Jump kind a b hint) = false
 is_refused size t (Operate op a b c) = overflow_of op (register t.state a) (operand t b)
-is_refused size t (Misc op a b) = misc_refused op
+is_refused size t (Misc op a b) = false
 is_refused size t (Pal op) = pal_refused op
 is_refused size t (Floating word) = true
 is_refused size t (Reserved word) = true
+
+-- the page of an instruction's address is looked up
+abbrev pub is_looked_up : ℕ → Table → Bool
+is_looked_up size t = is_canonical (pc_of t.state) && nat_lt (first_entry (ptbr_of t.state) (pc_of t.state)) size
+
+-- the group wants an access: a fetch in the kernel segment and in memory, or outside of it the look-up
+abbrev pub is_begun : ℕ → Table → Bool
+is_begun size t = if in_kseg (pc_of t.state) then is_reached size (pc_of t.state) else is_looked_up size t

@@ -23,15 +23,16 @@ use Rattle.axp_decode.specs.declared.names.MiscOp.{MiscOp}
 use Rattle.axp_decode.specs.declared.names.MiscOp.TheVariants.{TRAPB, EXCB, FETCH, FETCH_M, ECB, WH64, MB, WMB, RPCC}
 use Rattle.axp_decode.specs.declared.names.Op.{Op}
 use Rattle.axp_decode.specs.declared.names.PalOp.{PalOp}
-use Rattle.axp_decode.specs.declared.names.PalOp.TheVariants.{HALT}
+use Rattle.axp_decode.specs.declared.names.PalOp.TheVariants.{HALT, IMB}
 use Rattle.axp_image.specs.declared.limits.TheConstants.{INSTRUCTION_BYTES}
 use Rattle.axp_integer.specs.Rows as integer
-use Rattle.axp_regs.specs.States.{register, pc_of, fetched_of, offset_of}
-use Rattle.axp_regs.specs.declared.asks.Kind.TheVariants.{Fetch, Read, Write}
+use Rattle.axp_regs.specs.States.{register, pc_of, ptbr_of, fetched_of, offset_of}
+use Rattle.axp_regs.specs.declared.asks.Kind.{Kind}
+use Rattle.axp_regs.specs.declared.asks.Kind.TheVariants.{Fetch, Read, Write, Barrier, WriteBarrier, CodeBarrier}
 use Rattle.axp_regs.specs.declared.states.TheConstants.{ZERO_REGISTER}
 use Rattle.axp_cpu.specs.declared.tables.Table.{Table}
-use Rattle.axp_cpu.specs.Addresses.{aligned, reached}
-use Rattle.axp_cpu.specs.Plans.{Plan, End, Unbuilt}
+use Rattle.axp_cpu.specs.Addresses.{aligned, in_kseg, looked_up, reached}
+use Rattle.axp_cpu.specs.Plans.{Plan, End, Want, Unbuilt}
 use Rattle.axp_cpu.specs.Tables.{next_pc, at_pc, with_value, counted}
 
 -- the instruction ends
@@ -49,6 +50,10 @@ wrote t n v = wrote_at t n v (next_pc t)
 -- it goes on elsewhere, and its register holds the updated program counter
 abbrev pub linked : Table → ℕ → ℕ → Plan
 linked t n target = wrote_at t n (next_pc t) target
+
+-- a barrier: an access that names no memory
+abbrev pub fenced : Table → Kind → Plan
+fenced t kind = Want (record { kind = kind; address = 0; size = 0; value = 0 }) (λ v. ended t)
 
 -- the processor halts behind the instruction
 abbrev pub stopped : Table → ℕ → Plan
@@ -144,13 +149,14 @@ misc_row t FETCH a = ended t
 misc_row t FETCH_M a = ended t
 misc_row t ECB a = ended t
 misc_row t WH64 a = ended t
-misc_row t MB a = Unbuilt
-misc_row t WMB a = Unbuilt
+misc_row t MB a = fenced t Barrier
+misc_row t WMB a = fenced t WriteBarrier
 misc_row t RPCC a = wrote t a (cycle_counter t)
 
 -- the PAL calls
 abbrev pub pal_row : Table → PalOp → Plan
 pal_row t HALT = stopped t 1
+pal_row t IMB = fenced t CodeBarrier
 pal_row t _ = Unbuilt
 
 -- what an instruction does once its word is fetched
@@ -168,6 +174,10 @@ row size t (Reserved word) = Unbuilt
 abbrev pub fetched : ℕ → Table → ℕ → Plan
 fetched size t v = row size (counted t) (instr_of (v % 2 ^ 32))
 
--- the group that begins at a table state: the fetch of the instruction at the program counter, and its row
+-- the group that begins at a table state: the fetch of the instruction at the program counter, and its
+-- row; outside of the kernel segment the look-up of its page
 unfoldable pub group : ℕ → Table → Plan
-group size t = reached size Fetch (pc_of t.state) INSTRUCTION_BYTES 0 (fetched size t)
+group size t =
+    if in_kseg (pc_of t.state)
+    then reached size Fetch (pc_of t.state) INSTRUCTION_BYTES 0 (fetched size t)
+    else looked_up size (ptbr_of t.state) (pc_of t.state)

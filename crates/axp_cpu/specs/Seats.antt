@@ -1,8 +1,11 @@
 -- One processor by itself, led by the values that its accesses gave.
-use Rattle.std.specs.Prelude.{ℕ, ◌+◌, Bool, false, ◌||◌, nat_le, List, [], ◌∷◌, ◌++◌, Option, Some, None, is_some, if◌then◌else◌}
+use Rattle.std.specs.Prelude.{ℕ, ◌+◌, ◌%◌, nat_lt, Bool, false, ◌||◌, nat_le, List, [], ◌∷◌, ◌++◌, Option, Some, None, is_some, if◌then◌else◌}
+use Rattle.axp_access.specs.declared.Intent.{Intent}
 use Rattle.axp_access.specs.declared.Wanted.{Wanted}
+use Rattle.axp_model.specs.Legal.{is_empty}
 use Rattle.axp_image.specs.Contents.{Contents}
-use Rattle.axp_regs.specs.States.{first_state, with_pc, with_ptbr, with_register}
+use Rattle.axp_regs.specs.States.{first_state, locked_of, ps_of, with_pc, with_ptbr, with_register}
+use Rattle.axp_regs.specs.declared.states.State.{State}
 use Rattle.axp_cpu.specs.declared.tables.Table.{Table}
 use Rattle.axp_cpu.specs.Plans.{Plan, End, Want, Unbuilt, along, is_built}
 use Rattle.axp_cpu.specs.Rows.{group}
@@ -62,3 +65,18 @@ moved s values Unbuilt = record { size = s.size; budget = s.budget; start = s.st
 -- after a step whose access gave this value
 abbrev pub stepped : Seat → ℕ → Seat
 stepped s v = moved s (s.values ++ v ∷ []) (along (s.values ++ v ∷ []) (group s.size s.start))
+
+-- the interrupt level: the three low bits of PS
+abbrev pub interrupt_level : State → ℕ
+interrupt_level s = ps_of s % 8
+
+-- what the processor is about to do: at a boundary no access of its group is made yet, and it takes
+-- interrupts below level 5
+abbrev pub intent_of : Seat → Intent
+intent_of s = record {
+  finished = is_finished s;
+  boundary = is_empty s.values;
+  low = nat_lt (interrupt_level s.start.state) 5;
+  armed = locked_of s.start.state;
+  wanted = wanted s;
+}

@@ -1,16 +1,17 @@
 -- How a processor of the code stands for a seat.
-use Rattle.std.specs.Prelude.{◌≡◌, ℕ, ◌*◌, ◌%◌, ◌^◌, ◌<◌, true, false, Option, Some, None}
+use Rattle.std.specs.Prelude.{is_none, ◌≡◌, ℕ, ◌*◌, ◌%◌, ◌^◌, ◌<◌, true, false, Option, Some, None}
 use Rattle.axp_access.specs.declared.Wanted.{Wanted}
 use Rattle.axp_image.specs.declared.limits.TheConstants.{INSTRUCTION_BYTES, PAGE_BYTES}
 use Rattle.axp_regs.specs.States.{pc_of}
 use Rattle.axp_cpu.specs.declared.phases.Then.{Then}
-use Rattle.axp_cpu.specs.declared.processors.Processor.{Processor}
+use Rattle.axp_cpu.specs.declared.sequencers.Sequencer.{Sequencer}
 use Rattle.axp_cpu.specs.declared.tables.Table.{Table}
+use Rattle.axp_model.specs.Legal.{is_empty}
 use Rattle.axp_cpu.specs.Phases.{Fits, after}
 use Rattle.axp_cpu.specs.Plans.{Plan, Want}
 use Rattle.axp_cpu.specs.Rows.{group}
 use Rattle.axp_cpu.specs.Seats.{Seat, is_finished, leads, plan_now, stepped}
-use Rattle.axp_cpu.specs.Soundness.{IsInside}
+use Rattle.axp_cpu.specs.Soundness.{IsSoundAs}
 use Rattle.axp_cpu.specs.Tables.{core}
 
 -- what a processor's group still has to do
@@ -18,7 +19,7 @@ abbrev pub left_by : ℕ → Table → Option (Wanted × Then) → Plan
 left_by size t None = group size t
 left_by size t (Some (w, next)) = Want w (after size t next)
 
-abbrev pub plan_left : Processor → Plan
+abbrev pub plan_left : Sequencer → Plan
 plan_left p = left_by p.size p.table p.making
 
 abbrev pub MakesFit : Option (Wanted × Then) → Type 0
@@ -26,33 +27,34 @@ MakesFit None = Unit {0}
 MakesFit (Some (w, next)) = Fits w next
 
 -- the processor is at this seat
-pub record Stands (p : Processor) (s : Seat) : Type 0 where
+pub record Stands (p : Sequencer) (s : Seat) : Type 0 where
   pub size : p.size ≡ s.size
   pub budget : p.budget ≡ s.budget
   pub core : core p.table ≡ core s.start
   pub plan : plan_left p ≡ plan_now s
   pub fits : MakesFit p.making
+  pub boundary : is_none p.making ≡ is_empty s.values
   pub steps : p.steps ≡ s.steps
   pub pages : s.size % PAGE_BYTES ≡ 0
   pub pc : pc_of s.start.state % INSTRUCTION_BYTES ≡ 0
 
 -- the processor is at some seat
-pub record Standing (p : Processor) : Type 0 where
+pub record Standing (p : Sequencer) : Type 0 where
   pub seat : Seat
   pub stands : Stands p seat
 
 -- and is not finished
-pub record Going (p : Processor) : Type 0 where
+pub record Going (p : Sequencer) : Type 0 where
   pub seat : Seat
   pub stands : Stands p seat
   pub unfinished : is_finished seat ≡ false
 
 -- a wanted access lies in memory, and what it stores has its size
 pub record IsMakeable (size : ℕ) (w : Wanted) : Type 0 where
-  pub inside : IsInside size w.kind w.address w.size
+  pub inside : IsSoundAs size w.kind w
   pub small : w.value < 2 ^ (8 * w.size)
 
 -- the processor after a step whose access gave this value; None: not all is built that it leads to
-abbrev pub GoesOn : Seat → ℕ → Option Processor → Type 0
+abbrev pub GoesOn : Seat → ℕ → Option Sequencer → Type 0
 GoesOn s v None = leads s v ≡ false
 GoesOn s v (Some p) = (leads s v ≡ true) × Stands p (stepped s v)

@@ -7,9 +7,9 @@
 
 mod laws;
 mod phases;
-mod processors;
 mod rows;
+mod sequencers;
 mod tables;
 
 pub use laws::what_is_not_built;
-pub use processors::Processor;
+pub use sequencers::Sequencer;

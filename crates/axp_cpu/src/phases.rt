@@ -1,19 +1,20 @@
 //! How far a group of accesses has come.
 ghost use Rattle.std.specs.Prelude.{◌≡◌, ◌<◌, ℕ};
 ghost use Rattle.axp_cpu.specs.declared.tables.Table.{Table};
-ghost use Rattle.axp_cpu.specs.Addresses.{aligned, reached};
+ghost use Rattle.axp_cpu.specs.Addresses.{aligned, first_entry, in_kseg, looked_up, reached};
 ghost use Rattle.axp_cpu.specs.Phases.{after, plan_of, Fits, FollowFits, PhaseFits};
 ghost use Rattle.axp_cpu.specs.Plans.{End, is_built};
 ghost use Rattle.axp_cpu.specs.Rows.{ended, group, stopped, wrote, wrote_at};
 ghost use Rattle.axp_cpu.specs.Tables.{at_pc, core};
+ghost use Rattle.axp_regs.specs.States.{ptbr_of};
 ghost use Rattle.axp_regs.specs.declared.states.TheConstants.{REGISTERS};
 
 use crate::rows::instruct;
 use crate::tables::Table;
 use axp_access::Wanted;
-use axp_base::sext;
+use axp_base::{QUADWORD_BYTES, sext};
 use axp_decode::decode;
-use axp_image::{INSTRUCTION_BYTES, KSEG};
+use axp_image::{INSTRUCTION_BYTES, KSEG, PAGE_BYTES};
 use axp_regs::Kind;
 
 /// The bytes of the kernel segment, whose virtual addresses have their physical address in the low
@@ -30,7 +31,9 @@ pub enum Then {
     /// Writes the longword to a register, sign-extended.
     LoadLong { a: u8 },
     /// Ends.
-    Store,
+    Finish,
+    /// Translates the instruction's address, which is not built.
+    Translate,
 }
 
 /// How far a group has come.
@@ -50,13 +53,52 @@ pub fn begin(size: u64, table: &Table) -> Phase
     ensures plan { plan_of size table.now result ≡ group size table.now }
     ensures fits { PhaseFits result }
 {
+    let pc = table.state.pc();
+    if !in_kseg(pc) {
+        return look_up(size, table, pc);
+    }
     let fetch = Wanted {
         kind: Kind::Fetch,
-        address: table.state.pc(),
+        address: pc,
         size: INSTRUCTION_BYTES as u8,
         value: 0,
     };
     reach(size, table, fetch, Then::Instruct)
+}
+
+/// Whether a virtual address lies in the kernel segment.
+fn in_kseg(address: u64) -> bool
+    ensures { result ≡ in_kseg address }
+{
+    address / KSEG_BYTES == KSEG / KSEG_BYTES
+}
+
+/// The look-up of an instruction's address outside of the kernel segment: the read of its page-table
+/// entry of level 1.
+fn look_up(size: u64, table: &Table, pc: u64) -> Phase
+    ensures plan { plan_of size table.now result ≡ looked_up size (ptbr_of table.now.state) pc }
+    ensures fits { PhaseFits result }
+{
+    let address = first_entry(table.state.ptbr(), pc);
+    if sext(pc, 43) == pc && address < size {
+        let entry = Wanted {
+            kind: Kind::Read,
+            address,
+            size: QUADWORD_BYTES as u8,
+            value: 0,
+        };
+        Phase::Makes(entry, Then::Translate)
+    } else {
+        Phase::NotBuilt
+    }
+}
+
+/// Where the page-table entry of level 1 lies for an address, in the table of this page.
+fn first_entry(table: u64, address: u64) -> u64
+    ensures { result ≡ first_entry table address }
+{
+    let index = (address >> 33) & 0x3FF;
+    table.wrapping_mul(PAGE_BYTES).wrapping_add(8 * index)
 }
 
 /// What is left of a group once its wanted access gave this value. A fetch counts in the table state,
@@ -74,7 +116,8 @@ pub fn resume(size: u64, table: &mut Table, then: Then, value: u64) -> Phase
         }
         Then::Load { a } => write(table, a, value),
         Then::LoadLong { a } => write(table, a, sext(value, 32)),
-        Then::Store => end(table),
+        Then::Finish => end(table),
+        Then::Translate => Phase::NotBuilt,
     }
 }
 
@@ -101,7 +144,7 @@ fn reach(size: u64, table: &Table, far: Wanted, then: Then) -> Phase
     ensures fits { PhaseFits result }
 {
     let address = far.address % KSEG_BYTES;
-    if far.address / KSEG_BYTES == KSEG / KSEG_BYTES && address < size {
+    if in_kseg(far.address) && address < size {
         Phase::Makes(Wanted { address, ..far }, then)
     } else {
         Phase::NotBuilt

@@ -1,7 +1,8 @@
 //! The rows of the instruction table.
 ghost use Rattle.std.specs.Prelude.{◌≡◌, ◌<◌, ℕ};
+ghost use Rattle.axp_cpu.specs.declared.tables.Table.{Table};
 ghost use Rattle.axp_cpu.specs.Phases.{after, plan_of, FollowFits, PhaseFits};
-ghost use Rattle.axp_cpu.specs.Rows.{address_of, branch_goal, branch_row, cycle_counter, high_address_of, jump_row, loaded, memory_row, misc_row, operand, operate_row, pal_row, quadword_at, row, stored};
+ghost use Rattle.axp_cpu.specs.Rows.{address_of, branch_goal, branch_row, cycle_counter, fenced, high_address_of, jump_row, loaded, memory_row, misc_row, operand, operate_row, pal_row, quadword_at, row, stored};
 ghost use Rattle.axp_decode.specs.Format.{FieldsFit, OperandFits};
 ghost use Rattle.axp_regs.specs.declared.states.TheConstants.{REGISTERS};
 
@@ -117,7 +118,7 @@ fn store(size: u64, table: &Table, what: Size, a: u8, address: u64) -> Phase
         size: what.bytes(),
         value: what.low(table.state.get(a)),
     };
-    align(size, table, write, Then::Store)
+    align(size, table, write, Then::Finish)
 }
 
 /// The branch format.
@@ -206,8 +207,23 @@ fn misc(table: &Table, op: MiscOp, a: u8) -> Phase
         | MiscOp::ECB
         | MiscOp::WH64 => end(table),
         MiscOp::RPCC => write(table, a, count(table)),
-        MiscOp::MB | MiscOp::WMB => Phase::NotBuilt,
+        MiscOp::MB => fence(Kind::Barrier),
+        MiscOp::WMB => fence(Kind::WriteBarrier),
     }
+}
+
+/// A barrier: an access that names no memory, and then the end.
+fn fence(kind: Kind) -> Phase
+    ensures plan { (size : ℕ) (t : Table) → plan_of size t result ≡ fenced t kind }
+    ensures fits { PhaseFits result }
+{
+    let barrier = Wanted {
+        kind,
+        address: 0,
+        size: 0,
+        value: 0,
+    };
+    Phase::Makes(barrier, Then::Finish)
 }
 
 /// The cycle counter: the number of fetched instructions, below the offset.
@@ -224,6 +240,7 @@ fn call_pal(table: &Table, op: PalOp) -> Phase
 {
     match op {
         PalOp::HALT => halt(table, 1),
+        PalOp::IMB => fence(Kind::CodeBarrier),
         _ => Phase::NotBuilt,
     }
 }

@@ -1,6 +1,6 @@
 use Rattle.axp_cpu.specs.declared.phases.Phase.TheVariants as phase
 use Rattle.axp_cpu.proofs.SeatLemmas.{goes_on}
-use Rattle.axp_cpu.proofs.processors.Processor.advanced.Goals as goal
+use Rattle.axp_cpu.proofs.sequencers.Sequencer.advanced.Goals as goal
 
 pub returns-in-Makes-phase : goal.returns-in-Makes-phase
 returns-in-Makes-phase c = λ s stands.

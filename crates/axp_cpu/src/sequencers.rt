@@ -1,13 +1,13 @@
 ghost use Rattle.std.specs.Prelude.{◌≡◌, IfSome};
 ghost use Rattle.axp_base.specs.Cpus.{cpu_number};
 ghost use Rattle.axp_cpu.specs.Phases.{plan_of, PhaseFits};
-ghost use Rattle.axp_cpu.specs.Seats.{Seat, first_seat, is_finished, wanted};
+ghost use Rattle.axp_cpu.specs.Seats.{Seat, first_seat, intent_of, is_finished, wanted};
 ghost use Rattle.axp_cpu.specs.Tables.{uncounted};
 ghost use Rattle.axp_cpu.specs.Stands.{Going, GoesOn, IsMakeable, MakesFit, Standing, Stands, plan_left};
 
 use crate::phases::{Phase, Then, begin, resume};
 use crate::tables::Table;
-use axp_access::Wanted;
+use axp_access::{Intent, Wanted};
 use axp_base::Cpu;
 use axp_image::Image;
 use axp_regs::State;
@@ -15,7 +15,7 @@ use axp_regs::State;
 /// One processor: its table state, the access that it wants inside of a group, and the number of steps
 /// that it made.
 #[derive(Clone, Copy, Debug)]
-pub struct Processor {
+pub struct Sequencer {
     size: u64,
     budget: u32,
     table: Table,
@@ -23,10 +23,10 @@ pub struct Processor {
     steps: u32,
 }
 
-impl Processor {
+impl Sequencer {
     /// A processor of a machine at the start, with a budget of steps: R16 is its number, R30 the
     /// image's stack word, the program counter the image's entry.
-    pub fn start(cpu: Cpu, image: &Image, budget: u32) -> Processor
+    pub fn start(cpu: Cpu, image: &Image, budget: u32) -> Sequencer
         ensures { Stands result (first_seat image.now budget (cpu_number cpu)) }
     {
         let number = cpu.number();
@@ -35,7 +35,7 @@ impl Processor {
         state.set(30, image.stack());
         state.set_pc(image.entry());
         state.set_ptbr(image.table());
-        Processor {
+        Sequencer {
             size: image.size(),
             budget,
             table: Table {
@@ -91,9 +91,24 @@ impl Processor {
         }
     }
 
+    /// What the processor is about to do.
+    pub fn intent(&self) -> Intent
+        requires { Standing self.now }
+        ensures value { (s : Seat) → Stands self.now s → result ≡ intent_of s }
+        ensures makeable { (s : Seat) → Stands self.now s → IfSome result.wanted (IsMakeable s.size) }
+    {
+        Intent {
+            finished: self.finished(),
+            boundary: self.making.is_none(),
+            low: self.table.state.ps() % 8 < 5,
+            armed: self.table.state.locked(),
+            wanted: self.wanted(),
+        }
+    }
+
     /// The processor after a step whose access gave this value (0 where it stores); `None` where not
     /// all is built that the value leads to.
-    pub fn advanced(&self, value: u64) -> Option<Processor>
+    pub fn advanced(&self, value: u64) -> Option<Sequencer>
         requires { Going self.now }
         ensures { (s : Seat) → Stands self.now s → GoesOn s value result }
     {
@@ -103,13 +118,13 @@ impl Processor {
         let mut table = self.table;
         let phase = resume(self.size, &mut table, then, value);
         match phase {
-            Phase::Makes(wanted, then) => Some(Processor {
+            Phase::Makes(wanted, then) => Some(Sequencer {
                 table,
                 making: Some((wanted, then)),
                 steps: self.steps + 1,
                 ..*self
             }),
-            Phase::Ends(table) => Some(Processor {
+            Phase::Ends(table) => Some(Sequencer {
                 table,
                 making: None,
                 steps: self.steps + 1,
