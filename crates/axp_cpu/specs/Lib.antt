@@ -7,3 +7,4 @@ pub mod Phases
 pub mod Seats
 pub mod Soundness
 pub mod Stands
+pub mod Actors

@@ -7,9 +7,11 @@
 
 mod laws;
 mod phases;
+mod refusals;
 mod rows;
 mod sequencers;
 mod tables;
 
 pub use laws::what_is_not_built;
+pub use refusals::Refusal;
 pub use sequencers::Sequencer;

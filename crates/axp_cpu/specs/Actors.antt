@@ -1,0 +1,70 @@
+-- One processor whole: the instruction table's side and what it keeps of memory. What it asks of the bus,
+-- what it gives and what it becomes are fixed by this and by the bus's answer.
+use Rattle.std.specs.Prelude.{ℕ, Bool, true, false, Option, Some, None, Result, Ok, Err}
+use Rattle.axp_access.specs.declared.Act.{Act}
+use Rattle.axp_access.specs.declared.Act.TheVariants as act
+use Rattle.axp_access.specs.declared.Intent.{Intent}
+use Rattle.axp_access.specs.declared.Outcome.{Outcome}
+use Rattle.axp_access.specs.declared.Wanted.{Wanted}
+use Rattle.axp_base.specs.Cpus.{cpu_number}
+use Rattle.axp_base.specs.declared.processors.Cpu.{Cpu}
+use Rattle.axp_image.specs.Contents.{Contents}
+use Rattle.axp_line.specs.declared.messages.Reply.{Reply}
+use Rattle.axp_lsu.specs.declared.asks.Ask2.{Ask2}
+use Rattle.axp_lsu.specs.Asking.{ask_of}
+use Rattle.axp_lsu.specs.Going as going
+use Rattle.axp_lsu.specs.Keeping.{Kept, none_kept}
+use Rattle.axp_cpu.specs.declared.refusals.Refusal.{Refusal}
+use Rattle.axp_cpu.specs.declared.refusals.Refusal.TheVariants.{NotLegal, NotBuilt}
+use Rattle.axp_cpu.specs.Seats.{Seat, first_seat, intent_of, leads, stepped}
+
+pub record Actor : Type 0 where
+  pub cpu : Cpu
+  pub seat : Seat
+  pub kept : Kept
+
+-- at the start
+abbrev pub first_actor : Contents → ℕ → Cpu → Actor
+first_actor image budget cpu = record { cpu = cpu; seat = first_seat image budget (cpu_number cpu); kept = none_kept }
+
+-- what it is about to do
+abbrev pub about : Actor → Intent
+about a = intent_of a.seat
+
+-- all is built that a Step leads to: it makes an access, and what follows the access's value is built
+abbrev pub step_built : Option Wanted → Actor → Bool
+step_built None a = false
+step_built (Some w) a = leads a.seat (going.value_of w a.kept None)
+
+-- an interrupt is not built
+abbrev pub is_built : Act → Actor → Bool
+is_built act.Step a = step_built (about a).wanted a
+is_built act.Poll a = false
+is_built act.Tick a = false
+is_built _ a = true
+
+abbrev pub asked_by : Option Ask2 → Bool → Result Ask2 Refusal
+asked_by None built = Err NotLegal
+asked_by (Some q) true = Ok q
+asked_by (Some q) false = Err NotBuilt
+
+-- what an act asks, or why it is refused: not legal, as far as the processor knows; or legal, and not built
+unfoldable pub request_of : Actor → Act → Result Ask2 Refusal
+request_of a e = asked_by (ask_of e (about a) a.kept) (is_built e a)
+
+-- a Step goes on with the value that its access gave
+abbrev pub moved_by : Option Wanted → Option Reply → Actor → Seat
+moved_by None r a = a.seat
+moved_by (Some w) r a = stepped a.seat (going.value_of w a.kept r)
+
+abbrev pub seat_after : Act → Option Reply → Actor → Seat
+seat_after act.Step r a = moved_by (about a).wanted r a
+seat_after _ r a = a.seat
+
+-- the processor after an act, with the bus's answer where it asked
+unfoldable pub advanced : Actor → Act → Option Reply → Actor
+advanced a e r = record { cpu = a.cpu; seat = seat_after e r a; kept = going.advanced e (about a) r a.kept }
+
+-- what the act gives
+unfoldable pub outcome_of : Actor → Act → Option Reply → Outcome
+outcome_of a e r = going.outcome_of e a.cpu (about a) a.kept r
