@@ -1,3 +1,4 @@
 pub mod PlanLemmas
 pub mod SeatLemmas
 pub mod RefusalLemmas
+pub mod ActorLemmas

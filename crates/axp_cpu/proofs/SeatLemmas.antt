@@ -64,6 +64,7 @@ goes_on p s w next v t (phase.Makes w' next') stands left plan same fits =
         boundary = sym (never_empty s.values v);
         steps = ap (λ n. n + 1) stands.steps;
         pages = stands.pages;
+        most = stands.most;
         pc = stands.pc;
       }),
     )
@@ -83,6 +84,7 @@ goes_on p s w next v t (phase.Ends u) stands left plan same fits =
         boundary = refl;
         steps = ap (λ n. n + 1) stands.steps;
         pages = stands.pages;
+        most = stands.most;
         pc = sound;
       }),
     )
@@ -108,5 +110,6 @@ first_stands image budget n size t is first valid = record {
   boundary = refl;
   steps = refl;
   pages = valid.whole_pages;
+  most = valid.most_size;
   pc = search rules;
 }

@@ -8,3 +8,4 @@ pub mod Seats
 pub mod Soundness
 pub mod Stands
 pub mod Actors
+pub mod ActorStands

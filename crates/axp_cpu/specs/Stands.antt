@@ -1,7 +1,7 @@
 -- How a processor of the code stands for a seat.
-use Rattle.std.specs.Prelude.{is_none, ◌≡◌, ℕ, ◌*◌, ◌%◌, ◌^◌, ◌<◌, true, false, Option, Some, None}
+use Rattle.std.specs.Prelude.{is_none, ◌≡◌, ℕ, ◌*◌, ◌%◌, ◌^◌, ◌<◌, ◌≤◌, true, false, Option, Some, None}
 use Rattle.axp_access.specs.declared.Wanted.{Wanted}
-use Rattle.axp_image.specs.declared.limits.TheConstants.{INSTRUCTION_BYTES, PAGE_BYTES}
+use Rattle.axp_image.specs.declared.limits.TheConstants.{INSTRUCTION_BYTES, MAX_MEMORY, PAGE_BYTES}
 use Rattle.axp_regs.specs.States.{pc_of}
 use Rattle.axp_cpu.specs.declared.phases.Then.{Then}
 use Rattle.axp_cpu.specs.declared.sequencers.Sequencer.{Sequencer}
@@ -36,6 +36,7 @@ pub record Stands (p : Sequencer) (s : Seat) : Type 0 where
   pub boundary : is_none p.making ≡ is_empty s.values
   pub steps : p.steps ≡ s.steps
   pub pages : s.size % PAGE_BYTES ≡ 0
+  pub most : s.size ≤ MAX_MEMORY
   pub pc : pc_of s.start.state % INSTRUCTION_BYTES ≡ 0
 
 -- the processor is at some seat

@@ -7,11 +7,14 @@
 
 mod laws;
 mod phases;
+mod processors;
 mod refusals;
 mod rows;
 mod sequencers;
 mod tables;
 
 pub use laws::what_is_not_built;
+pub use axp_lsu::Ask2;
+pub use processors::Processor;
 pub use refusals::Refusal;
 pub use sequencers::Sequencer;

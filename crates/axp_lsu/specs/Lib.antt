@@ -2,3 +2,5 @@ pub mod Keeping
 pub mod Asking
 pub mod Going
 pub mod Within
+pub mod Fitting
+pub mod Views

@@ -1,6 +1,6 @@
 -- The history of the bus: the list of the calls that processors made, the newest first, and what each
 -- left behind.
-use Rattle.std.specs.Prelude.{ℕ, ◌+◌, ◌%◌, ◌==◌, Bool, true, false, ◌&&◌, if◌then◌else◌, List, [], ◌∷◌, ◌++◌, replicate, slice_index, Option, Some, None}
+use Rattle.std.specs.Prelude.{ℕ, ◌+◌, ◌*◌, ◌/◌, ◌%◌, ◌^◌, ◌==◌, Bool, true, false, not, ◌&&◌, ◌||◌, if◌then◌else◌, List, [], ◌∷◌, ◌++◌, replicate, slice_index, Option, Some, None}
 use Rattle.axp_base.specs.Cpus.{cpu_number}
 use Rattle.axp_base.specs.Lines.{line_number}
 use Rattle.axp_base.specs.Masks.{has_bit, mask_bits, span_of}
@@ -8,6 +8,7 @@ use Rattle.axp_base.specs.Parts.{with_part}
 use Rattle.axp_base.specs.declared.lines.Bank.{Bank}
 use Rattle.axp_base.specs.declared.lines.Line.{Line}
 use Rattle.axp_base.specs.declared.lines.TheConstants.{LINE_BYTES}
+use Rattle.axp_base.specs.declared.parts.TheConstants.{QUADWORD_BYTES}
 use Rattle.axp_call.specs.declared.calls.Call.{Call}
 use Rattle.axp_inval.specs.Queues.{others}
 use Rattle.axp_line.specs.Lines.{bytes_of_line}
@@ -126,3 +127,16 @@ printed_by _ = []
 abbrev pub console : List BusCall → List ℕ
 console [] = []
 console (c ∷ cs) = console cs ++ printed_by c.ask
+
+-- a turn writes a byte of the aligned quadword of this number: the quadword is in its line, and one of
+-- its bits there is set
+abbrev pub reaches_quadword : ℕ → Option Written → Bool
+reaches_quadword q None = false
+reaches_quadword q (Some w) =
+    (line_of (q * QUADWORD_BYTES) == line_number w.line)
+    && not (w.bits / 2 ^ (q * QUADWORD_BYTES % LINE_BYTES) % 2 ^ QUADWORD_BYTES == 0)
+
+-- some turn did
+abbrev pub is_touched : ℕ → List BusCall → Bool
+is_touched q [] = false
+is_touched q (c ∷ cs) = reaches_quadword q (wrote c.ask c.answer) || is_touched q cs

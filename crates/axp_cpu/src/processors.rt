@@ -1,0 +1,167 @@
+ghost use Rattle.std.specs.Prelude.{◌≡◌, ◌==◌, ◌≤◌, IfOk, length};
+ghost use Rattle.axp_access.specs.declared.Act.TheVariants.{Step};
+ghost use Rattle.axp_base.specs.declared.processors.TheConstants.{MAX_BUDGET};
+ghost use Rattle.axp_lsu.specs.Within.{IsAskWithin};
+ghost use Rattle.axp_cpu.specs.Actors.{Actor, about, advanced, first_actor, is_built, moved_by, outcome_of, request_of, seat_after, step_built};
+ghost use Rattle.axp_cpu.specs.ActorStands.{IsAnswered, IsAt, IsMovable, IsSeated, IsSeatedWith};
+ghost use Rattle.axp_cpu.specs.Seats.{is_finished};
+ghost use Rattle.axp_cpu.specs.Stands.{Stands};
+ghost use Rattle.axp_cpu.specs.Tables.{uncounted};
+
+use crate::refusals::Refusal;
+use crate::sequencers::Sequencer;
+use axp_access::{Act, Intent, Outcome, Wanted};
+use axp_base::Cpu;
+use axp_image::Image;
+use axp_line::Reply;
+use axp_lsu::{Ask2, Lsu};
+use axp_regs::State;
+
+/// One processor: it goes by the instruction table, and has a write buffer and banks of copies. What it
+/// needs from the others it asks of the bus.
+#[derive(Drop)]
+pub struct Processor {
+    cpu: Cpu,
+    sequencer: Sequencer,
+    unit: Lsu,
+}
+
+impl Processor {
+    /// A processor of a machine at the start, with a budget of steps: R16 is its number, R30 the
+    /// image's stack word, the program counter the image's entry; its buffer and banks are empty.
+    pub fn start(cpu: Cpu, image: &Image, budget: u32) -> Processor
+        requires { budget ≤ MAX_BUDGET }
+        ensures { IsAt result (first_actor image.now budget cpu) }
+    {
+        Processor {
+            cpu,
+            sequencer: Sequencer::start(cpu, image, budget),
+            unit: Lsu::empty(),
+        }
+    }
+
+    /// The registers: those at the start of the group of accesses, but for the count of fetched
+    /// instructions, which changes with the fetch.
+    pub fn state(&self) -> &State
+        ensures { (a : Actor) → IsAt self.now a → uncounted result.now ≡ uncounted a.seat.start.state }
+    {
+        self.sequencer.state()
+    }
+
+    /// The halt code, 1 to 4; `None` exactly where it is not halted.
+    pub fn halted(&self) -> Option<u8>
+        ensures { (a : Actor) → IsAt self.now a → result ≡ a.seat.start.halted }
+    {
+        self.sequencer.halted()
+    }
+
+    /// The number of steps that it made.
+    pub fn steps(&self) -> u32
+        ensures { (a : Actor) → IsAt self.now a → result ≡ a.seat.steps }
+    {
+        self.sequencer.steps()
+    }
+
+    /// Whether it is halted or has made its budget of steps.
+    pub fn finished(&self) -> bool
+        ensures { (a : Actor) → IsAt self.now a → result ≡ is_finished a.seat }
+    {
+        self.sequencer.finished()
+    }
+
+    /// Whether no write of it waits in its buffer.
+    pub fn drained(&self) -> bool
+        ensures { (a : Actor) → IsAt self.now a → result ≡ (length a.kept.buffer.kept == 0) }
+    {
+        self.unit.is_drained()
+    }
+
+    /// What an act asks of the bus, or why it is refused: [`Refusal::NotLegal`] exactly where it is not
+    /// legal, whether something is late aside, which the bus alone knows.
+    #[tactic(auto, unfolding(crate::specs::Actors::request_of))]
+    pub fn request(&self, act: Act) -> Result<Ask2, Refusal>
+        requires { IsSeated self.now }
+        ensures asked { (a : Actor) → IsAt self.now a → result ≡ request_of a act }
+        ensures within { (a : Actor) → IsAt self.now a → IfOk result (IsAskWithin a.seat.size) }
+    {
+        let intent = self.sequencer.intent();
+        match self.unit.ask(act, &intent) {
+            None => Err(Refusal::NotLegal),
+            Some(ask) => {
+                if self.is_built(act, intent.wanted) {
+                    Ok(ask)
+                } else {
+                    Err(Refusal::NotBuilt)
+                }
+            }
+        }
+    }
+
+    /// Whether all is built that an act leads to.
+    fn is_built(&self, act: Act, wanted: Option<Wanted>) -> bool
+        requires { IsSeatedWith self.now wanted }
+        ensures { (a : Actor) → IsAt self.now a → result ≡ is_built act a }
+    {
+        match act {
+            Act::Step => self.leads_on(wanted),
+            Act::Poll | Act::Tick => false,
+            Act::Fill | Act::Drain(_) | Act::Take(_) | Act::Drop(_, _) => true,
+        }
+    }
+
+    /// Whether the wanted access is made, and all is built that its value leads to.
+    fn leads_on(&self, wanted: Option<Wanted>) -> bool
+        requires { IsSeatedWith self.now wanted }
+        ensures { (a : Actor) → IsAt self.now a → result ≡ step_built (about a).wanted a }
+    {
+        match wanted {
+            None => false,
+            Some(wanted) => {
+                let value = self.unit.value(&wanted, None);
+                self.sequencer.advanced(value).is_some()
+            }
+        }
+    }
+
+    /// Does an act that was asked for, with the bus's answer where it asked, and tells its outcome.
+    #[tactic(auto, unfolding(crate::specs::Actors::outcome_of, crate::specs::Actors::advanced))]
+    pub fn advance(&mut self, act: Act, reply: Option<Reply>) -> Outcome
+        requires { IsAnswered self.old act reply }
+        ensures outcome { (a : Actor) → IsAt self.old a → result ≡ outcome_of a act reply }
+        ensures at { (a : Actor) → IsAt self.old a → IsAt self.new (advanced a act reply) }
+    {
+        let intent = self.sequencer.intent();
+        let sequencer = self.moved(act, intent.wanted, reply);
+        let outcome = self.unit.advance(act, self.cpu, &intent, reply);
+        self.sequencer = sequencer;
+        outcome
+    }
+
+    /// The sequencer after an act: a step goes on with the value of the wanted access.
+    fn moved(&self, act: Act, wanted: Option<Wanted>, reply: Option<Reply>) -> Sequencer
+        requires { IsMovable self.now act wanted }
+        ensures { (a : Actor) → IsAt self.now a → Stands result (seat_after act reply a) }
+    {
+        match act {
+            Act::Step => self.stepped(wanted, reply),
+            _ => self.sequencer,
+        }
+    }
+
+    /// The sequencer after a step; as it is where no access is wanted.
+    fn stepped(&self, wanted: Option<Wanted>, reply: Option<Reply>) -> Sequencer
+        requires { IsMovable self.now Step wanted }
+        ensures { (a : Actor) → IsAt self.now a → Stands result (moved_by (about a).wanted reply a) }
+    {
+        match wanted {
+            None => self.sequencer,
+            Some(wanted) => {
+                let value = self.unit.value(&wanted, reply);
+                match self.sequencer.advanced(value) {
+                    Some(next) => next,
+                    None => self.sequencer,
+                }
+            }
+        }
+    }
+}
