@@ -1,5 +1,5 @@
 -- Lists of copies that ascend, and what a change at one place makes of them.
-use Rattle.std.proofs.Common.{◌≡◌, ◌≢◌, ℕ, zero, suc, ◌+◌, ◌<◌, ◌≤◌, Bool, true, false, cond, not, ◌||◌, nat_lt, ◌==◌, List, [], ◌∷◌, length, get_or, set, Some, None, refl, sym, ap, subst, ◌∙◌, arith, ⊎_elim}
+use Rattle.std.proofs.Common.{◌≡◌, ◌≢◌, ℕ, zero, suc, ◌+◌, ◌/◌, ◌%◌, ◌<◌, ◌≤◌, Bool, true, false, cond, not, ◌||◌, nat_lt, ◌==◌, List, [], ◌∷◌, length, get_or, set, Some, None, refl, sym, ap, subst, ◌∙◌, arith, ⊎_elim}
 use Rattle.std.specs.List.{find, list_any, position, position_or_len, insert, remove}
 use Rattle.std.specs.Option.{option_map, unwrap_or}
 use Rattle.std.proofs.lemmas.Bool.{or_parts, or_right, cases_Bool, eqb-true, ltb-true, ltb-false}
@@ -9,7 +9,7 @@ use Rattle.std.proofs.lemmas.Option.{slice_get-get_or}
 use Rattle.axp_bank.specs.declared.copies.LineCopy.{LineCopy}
 use Rattle.axp_bank.specs.declared.copies.TheConstants.{BANK_COPIES}
 use Rattle.axp_bank.specs.Places.{is_above, IsPlace, IsPlaceFor, PlaceOf}
-use Rattle.axp_bank.specs.Copies.{line_of, is_of, Above, Ascending, Whole, is_held, shown, get_of, refreshed, inserted, dropped}
+use Rattle.axp_bank.specs.Copies.{line_of, is_of, Above, Ascending, Whole, is_held, shown, get_of, refreshed, inserted, dropped, spared}
 
 -- a test of two numbers that differ
 pub apart : (a b : ℕ) → a ≢ b → (a == b) ≡ false
@@ -241,3 +241,34 @@ whole_inserted c cs w none room = record { up = ascending_inserted c cs w.up non
 
 pub whole_dropped : (n : ℕ) (cs : List LineCopy) → Whole cs → Whole (dropped n cs)
 whole_dropped n cs w = record { up = ascending_dropped n cs w.up; few = omega (arith, length_dropped n cs, w.few) }
+
+-- without the copies whose bits are 1
+above_spared : (m gone : ℕ) (cs : List LineCopy) → Above m cs → Above m (spared gone cs)
+unfolding spared
+above_spared m gone [] above = tt
+above_spared m gone (c ∷ cs) above = above_spared_by (gone % 2 == 1) (above_spared m (gone / 2) cs above.1)
+  where
+    above_spared_by : (b : Bool) → Above m (spared (gone / 2) cs) → Above m (cond b (spared (gone / 2) cs) (c ∷ spared (gone / 2) cs))
+    above_spared_by true rest = rest
+    above_spared_by false rest = (above.0, rest)
+
+ascending_spared : (gone : ℕ) (cs : List LineCopy) → Ascending cs → Ascending (spared gone cs)
+unfolding Ascending spared
+ascending_spared gone [] up = tt
+ascending_spared gone (c ∷ cs) up = ascending_spared_by (gone % 2 == 1) (ascending_spared (gone / 2) cs up.1)
+  where
+    ascending_spared_by : (b : Bool) → Ascending (spared (gone / 2) cs) → Ascending (cond b (spared (gone / 2) cs) (c ∷ spared (gone / 2) cs))
+    ascending_spared_by true rest = rest
+    ascending_spared_by false rest = (above_spared (line_of c) (gone / 2) cs up.0, rest)
+
+fewer_spared : (gone : ℕ) (cs : List LineCopy) → length (spared gone cs) ≤ length cs
+unfolding spared
+fewer_spared gone [] = omega arith
+fewer_spared gone (c ∷ cs) = fewer_spared_by (gone % 2 == 1) (fewer_spared (gone / 2) cs)
+  where
+    fewer_spared_by : (b : Bool) → length (spared (gone / 2) cs) ≤ length cs → length (cond b (spared (gone / 2) cs) (c ∷ spared (gone / 2) cs)) ≤ suc (length cs)
+    fewer_spared_by true rest = omega (arith, rest)
+    fewer_spared_by false rest = omega (arith, rest)
+
+pub whole_spared : (gone : ℕ) (cs : List LineCopy) → Whole cs → Whole (spared gone cs)
+whole_spared gone cs w = record { up = ascending_spared gone cs w.up; few = omega (arith, fewer_spared gone cs, w.few) }

@@ -1,5 +1,5 @@
 -- The copies of a bank: a list in ascending order of lines.
-use Rattle.std.specs.Prelude.{ℕ, ◌<◌, ◌≤◌, ◌==◌, ◌||◌, nat_lt, Bool, false, not, if◌then◌else◌, List, [], ◌∷◌, map, length, Some, None, ⊤}
+use Rattle.std.specs.Prelude.{ℕ, ◌/◌, ◌%◌, ◌<◌, ◌≤◌, ◌==◌, ◌||◌, nat_lt, Bool, false, not, if◌then◌else◌, List, [], ◌∷◌, map, length, Some, None, ⊤}
 use Rattle.std.specs.Option.{option_map}
 use Rattle.std.specs.declared.option.Option.{Option}
 use Rattle.std.specs.List.{find, filter, list_any, AllByRecursion}
@@ -79,6 +79,11 @@ has_older n turn cs = is_older turn (get_of n cs)
 -- without the copy of this line, where that is older than the turn
 unfoldable pub invalidated : ℕ → ℕ → List LineCopy → List LineCopy
 invalidated n turn cs = if has_older n turn cs then dropped n cs else cs
+
+-- without the copies whose bit is 1, the lowest bit for the first copy
+unfoldable pub spared : ℕ → List LineCopy → List LineCopy
+spared gone [] = []
+spared gone (c ∷ cs) = if gone % 2 == 1 then spared (gone / 2) cs else c ∷ spared (gone / 2) cs
 
 -- the lines that are held, each with its copy's stamp, in the order of the copies
 abbrev pub held_lines : List LineCopy → List (Line × ℕ)

@@ -1,8 +1,8 @@
-ghost use Rattle.std.specs.Prelude.{◌≡◌, ◌<◌, [], length, slice_set, not, false, is_ok, is_none, OnErr};
+ghost use Rattle.std.specs.Prelude.{◌≡◌, ◌<◌, ◌≤◌, [], length, slice_set, not, false, is_ok, is_none, OnErr};
 ghost use Rattle.std.specs.List.{position};
 ghost use Rattle.std.specs.Option.{option_map};
 ghost use Rattle.axp_base.specs.Lines.{line_number};
-ghost use Rattle.axp_bank.specs.Copies.{Whole, copy_of, line_of, is_of, is_held, get_of, has_older, has_room, put, refreshed, inserted, invalidated, dropped, held_lines};
+ghost use Rattle.axp_bank.specs.Copies.{Whole, copy_of, line_of, is_of, is_held, get_of, has_older, has_room, put, refreshed, inserted, invalidated, dropped, held_lines, spared};
 ghost use Rattle.axp_bank.specs.Places.{PlaceOf, IsPlace, IsPlaceFor, is_above};
 ghost use Rattle.axp_bank.specs.declared.copies.TheConstants.{BANK_COPIES};
 
@@ -54,6 +54,31 @@ impl CopyBank {
             }
             None => None,
         }
+    }
+
+    /// The line is held.
+    pub fn holds(&self, line: Line) -> bool
+        ensures { result ≡ is_held (line_number line) self.now }
+    {
+        match place_of(&self.copies, line) {
+            Some(_) => true,
+            None => false,
+        }
+    }
+
+    /// How many lines are held.
+    pub fn len(&self) -> usize
+        ensures value { result ≡ length self.now }
+        ensures few { result ≤ BANK_COPIES }
+    {
+        self.copies.len()
+    }
+
+    /// A copy of the line fits: the line is held, or there is room for one line more.
+    pub fn has_room(&self, line: Line) -> bool
+        ensures { result ≡ has_room (line_number line) self.now }
+    {
+        self.holds(line) || self.len() < BANK_COPIES
     }
 
     /// Keeps this copy, in place of the one of its line or beside the others; [`NoRoom`] exactly where
@@ -116,6 +141,13 @@ impl CopyBank {
             }
             None => false,
         }
+    }
+
+    /// Removes each copy whose bit is 1: the lowest bit is for the copy of the least line.
+    pub fn spare(&mut self, gone: u32)
+        ensures { self.new ≡ spared gone self.old }
+    {
+        self.copies = spared_copies(&self.copies, gone);
     }
 
     /// The lines that are held, each with its copy's stamp, in ascending order of lines.
@@ -191,6 +223,25 @@ fn remove_at(copies: &mut ArrayVec<LineCopy, BANK_COPIES>, n: usize, line: Line)
     ensures whole { Whole copies.new.items }
 {
     copies.remove(n);
+}
+
+/// The copies whose bits are 0.
+#[tactic(auto, unfolding(crate::specs::Copies::spared))]
+fn spared_copies(
+    copies: &ArrayVec<LineCopy, BANK_COPIES>,
+    gone: u32,
+) -> ArrayVec<LineCopy, BANK_COPIES>
+    ensures { result.items ≡ spared gone copies.now.items }
+{
+    let mut kept = ArrayVec::new();
+    let mut bits = gone;
+    for copy in copies.as_slice() {
+        if bits.is_multiple_of(2) {
+            kept.push(*copy);
+        }
+        bits /= 2;
+    }
+    kept
 }
 
 /// Writes a copy at a place that has one.

@@ -59,6 +59,20 @@ impl CodeBank {
         }
     }
 
+    /// The line is held.
+    pub fn holds(&self, line: Line) -> bool
+        ensures { result ≡ is_held (line_number line) self.now }
+    {
+        self.copies.holds(line)
+    }
+
+    /// A copy of the line fits: the line is held, or there is room for one line more.
+    pub fn has_room(&self, line: Line) -> bool
+        ensures { result ≡ has_room (line_number line) self.now }
+    {
+        self.copies.has_room(line)
+    }
+
     /// Keeps this copy with the stamp 0, as [`put_at`](Self::put_at) does.
     pub fn put(&mut self, line: Line, bytes: LineData) -> Result<(), NoRoom>
         ensures answer { is_ok result ≡ has_room (line_number line) self.old }

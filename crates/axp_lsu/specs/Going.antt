@@ -6,7 +6,7 @@ use Rattle.axp_base.specs.declared.lines.Bank.{Bank}
 use Rattle.axp_base.specs.declared.lines.Line.{Line}
 use Rattle.axp_base.specs.declared.lines.TheConstants.{LINE_BYTES}
 use Rattle.axp_base.specs.declared.processors.Cpu.{Cpu}
-use Rattle.axp_bank.specs.Copies.{copy_of, get_of, stamp_of, has_older, put, refreshed, invalidated, dropped}
+use Rattle.axp_bank.specs.Copies.{copy_of, get_of, stamp_of, has_older, put, refreshed, invalidated, dropped, spared}
 use Rattle.axp_bank.specs.declared.copies.LineCopy.{LineCopy}
 use Rattle.axp_line.specs.Lines.{bytes_of_line}
 use Rattle.axp_line.specs.declared.contents.LineData.{LineData}
@@ -146,10 +146,6 @@ abbrev pub rewritten : Line → Option Reply → Kept → Kept
 rewritten line (Some (reply.Stored turn bytes)) u = with_copies (data_bank (line_number line)) (refreshed (copy_of line turn bytes) (data_copies (line_number line) u)) u
 rewritten line _ u = u
 
--- the copies without those whose bit is 1, the lowest bit for the first copy
-unfoldable pub spared : ℕ → List LineCopy → List LineCopy
-spared gone [] = []
-spared gone (c ∷ cs) = if gone % 2 == 1 then spared (gone / 2) cs else c ∷ spared (gone / 2) cs
 
 -- a barrier delivers all that was late: the bits are of bank d0's copies, and then of d1's
 abbrev pub fenced : Option Reply → Kept → Kept

@@ -8,7 +8,7 @@ ghost use Rattle.axp_wbuf.specs.Drains.{oldest_group, told, without};
 ghost use Rattle.axp_wbuf.specs.Pending.{IsTidy, closed, is_before, is_of_line, no_entries, overlaid, store_number, stored, takes};
 
 use crate::lists::{
-    Entries, any_before, any_of_line, append, has_room, merge_into, newest_after, oldest_count,
+    Entries, any_before, any_of_line, append, has_place, has_room, merge_into, newest_after, oldest_count,
     overlay_each, remove_at,
 };
 use arrayvec::ArrayVec;
@@ -88,6 +88,13 @@ impl Wbuf {
                 ))
             }
         }
+    }
+
+    /// There is room for a store to this line: the newest group has an entry of it, or one more fits.
+    pub fn takes(&self, line: Line) -> bool
+        ensures { result ≡ takes (line_number line) self.now }
+    {
+        has_place(self.entries.as_slice(), self.newest, line) || has_room(&self.entries)
     }
 
     /// Closes the newest group, if it has an entry: later entries form a new group.

@@ -33,6 +33,18 @@ pub(crate) fn place_in(entries: &[Entry], group: u32, line: Line) -> Option<usiz
     None
 }
 
+/// An entry is of this group and line.
+pub(crate) fn has_place(entries: &[Entry], group: u32, line: Line) -> bool
+    ensures { result ≡ list_any (is_at group (line_number line)) (all_pending entries.now) }
+{
+    for entry in entries {
+        if entry.is_at(group, line) {
+            return true;
+        }
+    }
+    false
+}
+
 /// An entry is of this line.
 pub(crate) fn any_of_line(entries: &[Entry], line: Line) -> bool
     ensures { result ≡ list_any (is_of_line (line_number line)) (all_pending entries.now) }
