@@ -1,0 +1,5 @@
+pub mod AskedWithin
+pub mod Entries
+pub mod Held
+pub mod Lines
+pub mod Numbers

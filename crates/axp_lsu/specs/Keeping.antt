@@ -1,8 +1,9 @@
 -- What a processor keeps of memory: its write buffer, its banks, and counts.
 use Rattle.std.specs.Prelude.{ℕ, ◌*◌, ◌%◌, Bool, true, false, if◌then◌else◌, List, [], ◌++◌, map}
-use Rattle.axp_base.specs.Lines.{data_bank}
+use Rattle.axp_base.specs.Lines.{data_bank, line_number}
 use Rattle.axp_base.specs.declared.lines.Bank.{Bank}
 use Rattle.axp_base.specs.declared.lines.Bank.TheVariants.{Even, Odd, Code}
+use Rattle.axp_base.specs.declared.lines.Line.{Line}
 use Rattle.axp_base.specs.declared.lines.TheConstants.{LINE_BYTES}
 use Rattle.axp_bank.specs.Copies.{line_of}
 use Rattle.axp_bank.specs.declared.copies.LineCopy.{LineCopy}
@@ -43,6 +44,10 @@ with_copies Code cs u = record u { code = cs }
 -- the copies of the data bank that a line belongs to
 abbrev pub data_copies : ℕ → Kept → List LineCopy
 data_copies l u = copies_of (data_bank l) u
+
+-- lines with stamps, by their addresses
+abbrev pub addressed : List (Line × ℕ) → List (ℕ × ℕ)
+addressed ls = map (λ l. (line_number l.0 * LINE_BYTES, l.1)) ls
 
 -- the data lines held, by their addresses, each with its copy's stamp
 abbrev pub held_pairs : Kept → List (ℕ × ℕ)

@@ -2,3 +2,4 @@ pub mod Keeping
 pub mod Asking
 pub mod Going
 pub mod Within
+pub mod Fitting

@@ -28,6 +28,11 @@ pub record IsCopyWithin (size : ℕ) (c : LineCopy) : Type 0 where
   pub line : line_of c * LINE_BYTES < size
   pub stamp : c.stamp < 2 ^ 32
 
+-- a line's address and the stamp beside it are numbers of 32 bits
+pub record IsSmall (l : Line × ℕ) : Type 0 where
+  pub address : line_number l.0 * LINE_BYTES < 2 ^ 32
+  pub stamp : l.1 < 2 ^ 32
+
 -- each part of what is kept
 pub record IsKeptWithin (size : ℕ) (u : Kept) : Type 0 where
   pub entries : AllByRecursion (IsEntryWithin size) u.buffer.kept

@@ -4,6 +4,8 @@
 
 mod asks;
 mod since;
+mod units;
 
 pub use asks::Ask2;
 pub use since::Since;
+pub use units::Lsu;

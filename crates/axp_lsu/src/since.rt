@@ -1,3 +1,5 @@
+use axp_base::Bank;
+
 /// What a processor did since its last step: each of these it may do once.
 #[derive(Clone, Copy, Debug, Default, PartialEq, Eq)]
 pub struct Since {
@@ -13,4 +15,20 @@ pub struct Since {
     pub polled: bool,
     /// A tick.
     pub ticked: bool,
+}
+
+impl Since {
+    ghost use Rattle.std.specs.Prelude.{◌≡◌};
+    ghost use Rattle.axp_lsu.specs.Keeping.{has_dropped};
+
+    /// A drop from this bank.
+    pub(crate) fn has_dropped(self, bank: Bank) -> bool
+        ensures { result ≡ has_dropped bank self }
+    {
+        match bank {
+            Bank::Even => self.dropped_even,
+            Bank::Odd => self.dropped_odd,
+            Bank::Code => self.dropped_code,
+        }
+    }
 }

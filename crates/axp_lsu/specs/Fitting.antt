@@ -1,0 +1,51 @@
+-- Which answers fit what was asked, and conditions under which all of it fits its numbers.
+use Rattle.std.specs.Prelude.{◌≡◌, ℕ, ◌^◌, ◌<◌, ◌≤◌, true, Option, Some, None}
+use Rattle.axp_base.specs.Lines.{line_number}
+use Rattle.axp_line.specs.declared.messages.Reply.{Reply}
+use Rattle.axp_line.specs.declared.messages.Reply.TheVariants as reply
+use Rattle.axp_line.specs.declared.messages.Request.{Request}
+use Rattle.axp_line.specs.declared.messages.Request.TheVariants as request
+use Rattle.axp_access.specs.declared.Wanted.{Wanted}
+use Rattle.axp_model.specs.Records.{in_bank}
+use Rattle.axp_lsu.specs.declared.asks.Ask2.{Ask2}
+use Rattle.axp_lsu.specs.declared.asks.Ask2.TheVariants as ask
+use Rattle.axp_lsu.specs.Keeping.{Kept}
+use Rattle.axp_lsu.specs.Within.{IsKeptWithin, IsWantedWithin}
+
+-- the number of a turn
+abbrev pub IsTurn : ℕ → Type 0
+IsTurn turn = turn < 2 ^ 32
+
+-- what the bus may answer to a request; a Take is answered with a line of its bank, since an act that
+-- finds nothing late is not legal
+abbrev pub FitsRequest : Request → Reply → Type 0
+FitsRequest (request.Fill line) (reply.Line turn bytes) = IsTurn turn
+FitsRequest (request.FillCode line) (reply.Line turn bytes) = IsTurn turn
+FitsRequest (request.Drain line mask written) (reply.Stored turn bytes) = IsTurn turn
+FitsRequest (request.Locked address) (reply.Line turn bytes) = IsTurn turn
+FitsRequest (request.Conditional address size value armed) (reply.Stored turn bytes) = IsTurn turn
+FitsRequest (request.Conditional address size value armed) (reply.Refused turn) = IsTurn turn
+FitsRequest (request.Barrier held) (reply.Barrier turn gone) = IsTurn turn
+FitsRequest (request.CodeBarrier held) (reply.Barrier turn gone) = IsTurn turn
+FitsRequest (request.Take bank) (reply.Late line turn) = (in_bank bank (line_number line) ≡ true) × IsTurn turn
+FitsRequest (request.Poll low) (reply.Polled pending turn) = IsTurn turn
+FitsRequest (request.Signal target) (reply.Signalled turn) = IsTurn turn
+FitsRequest (request.Console byte) (reply.Printed turn) = IsTurn turn
+FitsRequest _ _ = ⊥
+
+-- an act is allowed, and the answer is of the kind that it asked for
+abbrev pub Fits2 : Option Ask2 → Option Reply → Type 0
+Fits2 (Some ask.Private) None = Unit {0}
+Fits2 (Some (ask.Bus q)) (Some r) = FitsRequest q r
+Fits2 _ _ = ⊥
+
+-- what is kept lies in some memory whose addresses are numbers of 32 bits
+pub record IsWithinSome (u : Kept) : Type 0 where
+  pub size : ℕ
+  pub most : size ≤ 2 ^ 32
+  pub within : IsKeptWithin size u
+
+-- a wanted access lies in some memory
+pub record IsWantedInSome (w : Option Wanted) : Type 0 where
+  pub size : ℕ
+  pub within : IsWantedWithin size w

@@ -1,0 +1,90 @@
+ghost use Rattle.std.specs.Prelude.{◌≡◌, ◌/◌, if◌then◌else◌};
+ghost use Rattle.axp_base.specs.Lines.{line_number, data_bank};
+ghost use Rattle.axp_base.specs.declared.lines.Bank.TheVariants.{Even, Odd};
+ghost use Rattle.axp_base.specs.declared.lines.TheConstants.{LINE_BYTES};
+ghost use Rattle.axp_bank.specs.Copies.{is_held};
+ghost use Rattle.axp_model.specs.Records.{line_at};
+ghost use Rattle.axp_lsu.specs.Keeping.{none_kept, copies_of, data_copies};
+
+mod asking;
+mod values;
+
+use crate::Since;
+use axp_bank::CopyBank;
+use axp_base::{Bank, Line};
+use axp_ibank::CodeBank;
+use axp_wbuf::Wbuf;
+use std::marker::Model;
+
+/// What a processor keeps of memory: its write buffer, its banks of copies, and what it did since its
+/// last step.
+#[derive(Drop)]
+pub struct Lsu {
+    buffer: Wbuf,
+    even: CopyBank,
+    odd: CopyBank,
+    code: CodeBank,
+    barrier: u64,
+    since: Since,
+}
+
+impl Model for Lsu {
+    ghost use Rattle.axp_lsu.specs.Keeping.{Kept};
+
+    ghost Value = { Kept };
+
+    ghost view = { λ l. record { buffer = l.buffer; even = l.even; odd = l.odd; code = l.code; barrier = l.barrier; since = l.since } };
+}
+
+impl Lsu {
+    /// A unit that keeps nothing.
+    pub fn empty() -> Lsu
+        ensures { result ≡ none_kept }
+    {
+        Lsu {
+            buffer: Wbuf::empty(),
+            even: CopyBank::empty(),
+            odd: CopyBank::empty(),
+            code: CodeBank::empty(),
+            barrier: 0,
+            since: Since::default(),
+        }
+    }
+
+    /// The data bank that the line belongs to.
+    fn data(&self, line: Line) -> &CopyBank
+        ensures { result.now ≡ data_copies (line_number line) self.now }
+    {
+        if in_even(line) { &self.even } else { &self.odd }
+    }
+
+    /// The bank has a copy of the line.
+    fn holds_in(&self, bank: Bank, line: Line) -> bool
+        ensures { result ≡ is_held (line_number line) (copies_of bank self.now) }
+    {
+        match bank {
+            Bank::Even => self.even.holds(line),
+            Bank::Odd => self.odd.holds(line),
+            Bank::Code => self.code.holds(line),
+        }
+    }
+}
+
+/// The line that an address is in.
+#[tactic(auto, using(crate::proofs::Lines::line_is))]
+fn line_at(address: u64) -> Line
+    ensures is { result ≡ line_at address }
+    ensures number { line_number result ≡ address / LINE_BYTES }
+{
+    Line::of(address)
+}
+
+/// The line belongs to bank `d0`.
+fn in_even(line: Line) -> bool
+    ensures { data_bank (line_number line) ≡ (if result then Even else Odd) }
+{
+    match line.bank() {
+        Bank::Even => true,
+        Bank::Odd | Bank::Code => false,
+    }
+}
