@@ -9,14 +9,19 @@ use Rattle.axp_base.specs.declared.lines.Line.{Line}
 use Rattle.axp_base.specs.declared.masks.Mask.{Mask}
 use Rattle.axp_line.specs.Lines.{bytes_of_line, data_of}
 use Rattle.axp_line.specs.declared.contents.LineData.{LineData}
+use Rattle.axp_access.specs.declared.Outcome.{Outcome}
+use Rattle.axp_access.specs.declared.Outcome.TheVariants as outcome
+use Rattle.axp_line.specs.declared.messages.Reply.{Reply}
 use Rattle.axp_line.specs.declared.messages.Request.{Request}
 use Rattle.axp_line.specs.declared.messages.Request.TheVariants as request
 use Rattle.axp_model.specs.Records.{line_numbered}
-use Rattle.axp_wbuf.specs.Drains.{in_front, oldest_group, first_group, told}
-use Rattle.axp_wbuf.specs.Pending.{Pending}
+use Rattle.axp_wbuf.specs.Drains.{told, without}
+use Rattle.axp_wbuf.specs.Pending.{Buffer, Pending}
 use Rattle.axp_lsu.specs.declared.asks.Ask2.{Ask2}
 use Rattle.axp_lsu.specs.declared.asks.Ask2.TheVariants as ask
 use Rattle.axp_lsu.specs.Asking.{drain_ask}
+use Rattle.axp_lsu.specs.Going.{drain_outcome, drained, rewritten, turn_in}
+use Rattle.axp_lsu.specs.Keeping.{Kept}
 use Rattle.axp_lsu.proofs.Lines.{line_of_number, data_is}
 
 -- an entry whose parts are these
@@ -52,3 +57,23 @@ pub drain_past : (es : List Pending) (k : ℕ) → length es ≤ k → None ≡ 
 drain_past [] k past = refl
 drain_past (e ∷ es) zero past = absurd (omega arith)
 drain_past (e ∷ es) (suc k) past = drain_past es k (omega arith)
+
+-- an entry that leaves
+pub outcome_told : (o : Option Pending) (n : ℕ) (l : Line) (m : Mask) (d : LineData) (r : Option Reply) → told o ≡ Some (n, (line_number l, (mask_bits m, bytes_of_line d)))
+    → outcome.Drained n l (turn_in r) ≡ drain_outcome o r
+outcome_told None n l m d r h = absurd (told_parts None n l m d h)
+outcome_told (Some e) n l m d r h =
+    let t : Tells e n l m d = told_parts (Some e) n l m d h in
+    λ i. outcome.Drained (t.number i) (t.line i) (turn_in r)
+
+drained_told : (o : Option Pending) (n : ℕ) (l : Line) (m : Mask) (d : LineData) (r : Option Reply) (k : ℕ) (u : Kept) → told o ≡ Some (n, (line_number l, (mask_bits m, bytes_of_line d)))
+    → rewritten l r (record u { buffer = without k u.buffer }) ≡ drained k o r u
+drained_told None n l m d r k u h = absurd (told_parts None n l m d h)
+drained_told (Some e) n l m d r k u h =
+    let t : Tells e n l m d = told_parts (Some e) n l m d h in
+    ap (λ line. rewritten line r (record u { buffer = without k u.buffer })) t.line
+
+-- the same with the buffer that the code has left
+pub drained_is : (o : Option Pending) (n : ℕ) (l : Line) (m : Mask) (d : LineData) (r : Option Reply) (k : ℕ) (u : Kept) (b : Buffer) → told o ≡ Some (n, (line_number l, (mask_bits m, bytes_of_line d))) → b ≡ without k u.buffer
+    → rewritten l r (record u { buffer = b }) ≡ drained k o r u
+drained_is o n l m d r k u b h left = ap (λ (b : Buffer). rewritten l r (record u { buffer = b })) left ∙ drained_told o n l m d r k u h

@@ -3,3 +3,4 @@ pub mod Asking
 pub mod Going
 pub mod Within
 pub mod Fitting
+pub mod Views

@@ -7,6 +7,7 @@ ghost use Rattle.axp_model.specs.Records.{line_at};
 ghost use Rattle.axp_lsu.specs.Keeping.{none_kept, copies_of, data_copies};
 
 mod asking;
+mod going;
 mod values;
 
 use crate::Since;
@@ -33,7 +34,9 @@ impl Model for Lsu {
 
     ghost Value = { Kept };
 
-    ghost view = { λ l. record { buffer = l.buffer; even = l.even; odd = l.odd; code = l.code; barrier = l.barrier; since = l.since } };
+    ghost use Rattle.axp_lsu.specs.Views.{kept_of};
+
+    ghost view = { kept_of };
 }
 
 impl Lsu {

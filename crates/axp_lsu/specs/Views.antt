@@ -1,0 +1,6 @@
+-- The parts of the code are seen as what is kept.
+use Rattle.axp_lsu.specs.declared.units.Lsu.TheInside.{Inside}
+use Rattle.axp_lsu.specs.Keeping.{Kept}
+
+abbrev pub kept_of : Inside → Kept
+kept_of l = record { buffer = l.buffer; even = l.even; odd = l.odd; code = l.code; barrier = l.barrier; since = l.since }

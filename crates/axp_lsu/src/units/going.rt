@@ -1,0 +1,371 @@
+ghost use Rattle.std.specs.Prelude.{ℕ, ◌≡◌, ◌+◌, ◌/◌, ◌%◌, ◌^◌, ◌<◌, ◌≤◌, true, length, max, slice_get, Some};
+ghost use Rattle.axp_base.specs.Lines.{line_number, data_bank};
+ghost use Rattle.axp_base.specs.Masks.{IsSize};
+ghost use Rattle.axp_bank.specs.Copies.{copy_of, stamp_of, has_older, put, refreshed, invalidated, dropped};
+ghost use Rattle.axp_access.specs.declared.Act.TheVariants.{Step};
+ghost use Rattle.axp_access.specs.declared.Place.TheVariants.{Entry};
+ghost use Rattle.axp_wbuf.specs.Drains.{oldest_group};
+ghost use Rattle.axp_model.specs.Outcomes.{bank_for};
+ghost use Rattle.axp_model.specs.Records.{line_of, line_at};
+ghost use Rattle.axp_wbuf.specs.Pending.{takes, stored, store_number};
+ghost use Rattle.axp_lsu.specs.Asking.{act_ask, ask_of, ready};
+ghost use Rattle.axp_lsu.specs.Fitting.{Fits2, IsWantedInSome};
+ghost use Rattle.axp_lsu.specs.Going.{accessed, advanced, brought, delivered, drain_outcome, drained, fenced, filled, fill_outcome, kept_after, outcome_by, outcome_of, place_by, poll_outcome, rewritten, stamp_or_none, step_outcome, stepped, success_by, take_outcome, turn_in};
+ghost use Rattle.axp_lsu.specs.Keeping.{copies_of, data_copies, nothing, with_copies, with_drop};
+ghost use Rattle.axp_lsu.specs.Within.{IsKeptWithin, IsWantedWithin};
+
+use super::values::is_stored;
+use super::{Lsu, in_even, line_at};
+use crate::Since;
+use axp_access::{Access, Act, Intent, Outcome, Place, Wanted};
+use axp_base::{Bank, Cpu, Line};
+use axp_line::{LineData, Reply};
+use axp_regs::Kind;
+use axp_wbuf::Full;
+
+impl Lsu {
+    /// Does an act that is legal, with the bus's answer where it asked, and tells its outcome.
+    pub fn advance(
+        &mut self,
+        act: Act,
+        cpu: Cpu,
+        intent: &Intent,
+        reply: Option<Reply>,
+    ) -> Outcome
+        requires fits { Fits2 (ask_of act intent.now self.old) reply }
+        requires wanted { IsWantedInSome intent.now.wanted }
+        requires few_made { self.old.buffer.made + 1 < 2 ^ 32 }
+        ensures outcome { result ≡ outcome_of act cpu intent.now self.old reply }
+        ensures kept { self.new ≡ advanced act intent.now reply self.old }
+        ensures within { (size : ℕ) → IsKeptWithin size self.old → IsWantedWithin size intent.now.wanted → IsKeptWithin size self.new }
+        ensures one_more { self.new.buffer.made ≤ self.old.buffer.made + 1 }
+    {
+        self.go_on(act, cpu, intent, reply)
+    }
+
+    #[tactic(auto, unfolding(crate::specs::Going::outcome_of, crate::specs::Going::advanced))]
+    fn go_on(&mut self, act: Act, cpu: Cpu, intent: &Intent, reply: Option<Reply>) -> Outcome
+        requires fits { Fits2 (ask_of act intent.now self.old) reply }
+        requires wanted { IsWantedInSome intent.now.wanted }
+        requires few_made { self.old.buffer.made + 1 < 2 ^ 32 }
+        ensures outcome { result ≡ outcome_of act cpu intent.now self.old reply }
+        ensures kept { self.new ≡ advanced act intent.now reply self.old }
+    {
+        match act {
+            Act::Step => self.step(cpu, intent, reply),
+            Act::Fill => self.fill(intent, reply),
+            Act::Drain(k) => self.drain(k, reply),
+            Act::Take(_) => self.take(reply),
+            Act::Drop(bank, line) => {
+                self.give_up(bank, line);
+                Outcome::Done
+            }
+            Act::Poll => {
+                self.since.polled = true;
+                polled(intent.low, reply)
+            }
+            Act::Tick => {
+                self.since.ticked = true;
+                Outcome::Done
+            }
+        }
+    }
+
+    /// Makes the wanted access, or none.
+    fn step(&mut self, cpu: Cpu, intent: &Intent, reply: Option<Reply>) -> Outcome
+        requires fits { Fits2 (act_ask Step intent.now self.old) reply }
+        requires wanted { IsWantedInSome intent.now.wanted }
+        requires few_made { self.old.buffer.made + 1 < 2 ^ 32 }
+        ensures outcome { result ≡ step_outcome cpu intent.now.wanted self.old reply }
+        ensures kept { self.new ≡ record (stepped intent.now.wanted reply self.old) { since = nothing } }
+    {
+        let outcome = match &intent.wanted {
+            None => Outcome::NoAccess,
+            Some(wanted) => self.make(cpu, wanted, reply),
+        };
+        self.since = Since::default();
+        outcome
+    }
+
+    /// Makes an access.
+    fn make(&mut self, cpu: Cpu, wanted: &Wanted, reply: Option<Reply>) -> Outcome
+        requires ready { ready wanted.now.kind (line_of wanted.now.address) self.old ≡ true }
+        requires wanted { IsWantedInSome (Some wanted.now) }
+        requires few_made { self.old.buffer.made + 1 < 2 ^ 32 }
+        ensures outcome { result ≡ step_outcome cpu (Some wanted.now) self.old reply }
+        ensures kept { self.new ≡ accessed wanted.now.kind wanted.now reply self.old }
+    {
+        let value = self.shown(wanted, reply);
+        let place = self.access(wanted, reply);
+        Outcome::Access(Access {
+            cpu,
+            kind: wanted.kind,
+            address: wanted.address,
+            size: wanted.size,
+            value,
+            yes: success(wanted.kind, reply),
+            place,
+        })
+    }
+
+    /// Does what an access does to what is kept, and tells where the access stands.
+    fn access(&mut self, wanted: &Wanted, reply: Option<Reply>) -> Place
+        requires ready { ready wanted.now.kind (line_of wanted.now.address) self.old ≡ true }
+        requires wanted { IsWantedInSome (Some wanted.now) }
+        requires few_made { self.old.buffer.made + 1 < 2 ^ 32 }
+        ensures place { result ≡ place_by wanted.now.kind (line_of wanted.now.address) self.old reply }
+        ensures kept { self.new ≡ accessed wanted.now.kind wanted.now reply self.old }
+    {
+        let line = line_at(wanted.address);
+        match wanted.kind {
+            Kind::Fetch => Place::At(self.code.stamp(line).unwrap_or(0)),
+            Kind::Read => Place::At(self.read_place(line)),
+            Kind::Write => self.write(wanted),
+            Kind::Locked => {
+                self.bring(line.bank(), line, reply);
+                Place::At(turn_in(reply))
+            }
+            Kind::Conditional => {
+                self.rewrite(line, reply);
+                Place::At(turn_in(reply))
+            }
+            Kind::Barrier => {
+                self.fence(reply);
+                Place::At(turn_in(reply))
+            }
+            Kind::WriteBarrier => {
+                self.buffer.close_group();
+                Place::Absent
+            }
+            Kind::CodeBarrier => {
+                self.fence(reply);
+                self.code.clear();
+                Place::At(turn_in(reply))
+            }
+            Kind::Signal | Kind::Console | Kind::Poll => Place::At(turn_in(reply)),
+        }
+    }
+
+    /// Where a plain read of this line stands: just after the later of its copy's stamp and the last
+    /// barrier.
+    fn read_place(&self, line: Line) -> u64
+        ensures { result ≡ max (stamp_or_none (stamp_of (line_number line) (data_copies (line_number line) self.now))) self.now.barrier }
+    {
+        let stamp = match self.data(line).get(line) {
+            None => 0,
+            Some((stamp, _)) => stamp,
+        };
+        stamp.max(self.barrier)
+    }
+
+    /// Puts a plain write into the buffer.
+    fn write(&mut self, wanted: &Wanted) -> Place
+        requires takes { takes (line_of wanted.now.address) self.old.buffer ≡ true }
+        requires sized { IsSize wanted.now.size }
+        requires aligned { wanted.now.address % wanted.now.size ≡ 0 }
+        requires few_made { self.old.buffer.made + 1 < 2 ^ 32 }
+        ensures place { result ≡ Entry (store_number (line_of wanted.now.address) self.old.buffer) }
+        ensures kept { self.new ≡ record self.old { buffer = stored wanted.now.address wanted.now.size wanted.now.value self.old.buffer } }
+    {
+        match self
+            .buffer
+            .store(wanted.address, wanted.size, wanted.value)
+        {
+            Ok(number) => Place::Entry(number),
+            // not so: the buffer takes a store to the line
+            Err(Full) => Place::Absent,
+        }
+    }
+
+    /// A line comes from the bus: its copy is put into the bank, or refreshed where it is held.
+    fn bring(&mut self, bank: Bank, line: Line, reply: Option<Reply>)
+        ensures { self.new ≡ brought bank line reply self.old }
+    {
+        match reply {
+            Some(Reply::Line { turn, bytes }) => self.put(bank, line, turn, bytes),
+            _ => (),
+        }
+    }
+
+    fn put(&mut self, bank: Bank, line: Line, turn: u64, bytes: LineData)
+        ensures { self.new ≡ with_copies bank (put (copy_of line turn bytes) (copies_of bank self.old)) self.old }
+    {
+        // a full bank stays as it is, and a line is asked for only where there is room
+        let _ = match bank {
+            Bank::Even => self.even.put(line, turn, bytes),
+            Bank::Odd => self.odd.put(line, turn, bytes),
+            Bank::Code => self.code.put_at(line, turn, bytes),
+        };
+    }
+
+    /// A line was written to memory: its data copy, if there is one, is now the line as written.
+    fn rewrite(&mut self, line: Line, reply: Option<Reply>)
+        ensures { self.new ≡ rewritten line reply self.old }
+    {
+        match reply {
+            Some(Reply::Stored { turn, bytes }) => self.refresh(line, turn, bytes),
+            _ => (),
+        }
+    }
+
+    fn refresh(&mut self, line: Line, turn: u64, bytes: LineData)
+        ensures { self.new ≡ with_copies (data_bank (line_number line)) (refreshed (copy_of line turn bytes) (data_copies (line_number line) self.old)) self.old }
+    {
+        if in_even(line) {
+            self.even.refresh(line, turn, bytes);
+        } else {
+            self.odd.refresh(line, turn, bytes);
+        }
+    }
+
+    /// A barrier delivers all that was late: the bits are of bank `d0`'s copies, and then of `d1`'s.
+    fn fence(&mut self, reply: Option<Reply>)
+        ensures { self.new ≡ fenced reply self.old }
+    {
+        match reply {
+            Some(Reply::Barrier { turn, gone }) => {
+                let even = self.even.len();
+                self.even.spare(gone);
+                self.odd.spare(gone >> even);
+                self.barrier = turn;
+            }
+            _ => (),
+        }
+    }
+
+    /// Copies the line of a wanted fetch or plain read into its bank.
+    fn fill(&mut self, intent: &Intent, reply: Option<Reply>) -> Outcome
+        ensures outcome { result ≡ fill_outcome intent.now.wanted reply }
+        ensures kept { self.new ≡ record (filled intent.now.wanted reply self.old) { since = record self.old.since { filled = true } } }
+    {
+        self.since.filled = true;
+        match &intent.wanted {
+            None => Outcome::NoAccess,
+            Some(wanted) => {
+                let line = line_at(wanted.address);
+                let bank = bank_for(wanted.kind, line);
+                self.bring(bank, line, reply);
+                Outcome::Filled {
+                    bank,
+                    line,
+                    turn: turn_in(reply),
+                }
+            }
+        }
+    }
+
+    /// An entry of the oldest group leaves for memory.
+    fn drain(&mut self, k: u8, reply: Option<Reply>) -> Outcome
+        requires { k < length (oldest_group self.old.buffer.kept) }
+        ensures outcome { result ≡ drain_outcome (slice_get (oldest_group self.old.buffer.kept) k) reply }
+        ensures kept { self.new ≡ drained k (slice_get (oldest_group self.old.buffer.kept) k) reply self.old }
+    {
+        let (entry, line, _, _) = self.buffer.oldest(k);
+        self.buffer.remove(k);
+        self.rewrite(line, reply);
+        Outcome::Drained {
+            entry,
+            line,
+            turn: turn_in(reply),
+        }
+    }
+
+    /// A delivered pair removes an older copy.
+    fn take(&mut self, reply: Option<Reply>) -> Outcome
+        ensures outcome { result ≡ take_outcome self.old reply }
+        ensures kept { self.new ≡ delivered reply self.old }
+    {
+        match reply {
+            Some(Reply::Late { line, turn }) => Outcome::Taken {
+                line,
+                turn,
+                gone: self.invalidate(line, turn),
+            },
+            _ => Outcome::NoAccess,
+        }
+    }
+
+    fn invalidate(&mut self, line: Line, turn: u64) -> bool
+        ensures gone { result ≡ has_older (line_number line) turn (data_copies (line_number line) self.old) }
+        ensures kept { self.new ≡ with_copies (data_bank (line_number line)) (invalidated (line_number line) turn (data_copies (line_number line) self.old)) self.old }
+    {
+        if in_even(line) {
+            self.even.invalidate(line, turn)
+        } else {
+            self.odd.invalidate(line, turn)
+        }
+    }
+
+    /// Gives up the bank's copy of a line.
+    fn give_up(&mut self, bank: Bank, line: Line)
+        ensures { self.new ≡ record (with_copies bank (dropped (line_number line) (copies_of bank self.old)) self.old) { since = with_drop bank self.old.since } }
+    {
+        match bank {
+            Bank::Even => {
+                self.even.drop_line(line);
+                self.since.dropped_even = true;
+            }
+            Bank::Odd => {
+                self.odd.drop_line(line);
+                self.since.dropped_odd = true;
+            }
+            Bank::Code => {
+                self.code.drop_line(line);
+                self.since.dropped_code = true;
+            }
+        }
+    }
+}
+
+/// The bank that an access of this kind to this line goes to.
+fn bank_for(kind: Kind, line: Line) -> Bank
+    ensures { result ≡ bank_for kind (line_number line) }
+{
+    match kind {
+        Kind::Fetch => Bank::Code,
+        _ => line.bank(),
+    }
+}
+
+/// The turn that an answer names.
+fn turn_in(reply: Option<Reply>) -> u64
+    ensures { result ≡ turn_in reply }
+{
+    match reply {
+        Some(
+            Reply::Line { turn, .. }
+            | Reply::Stored { turn, .. }
+            | Reply::Refused { turn }
+            | Reply::Barrier { turn, .. }
+            | Reply::Late { turn, .. }
+            | Reply::Polled { turn, .. }
+            | Reply::Signalled { turn }
+            | Reply::Printed { turn },
+        ) => turn,
+        Some(Reply::Nothing) | None => 0,
+    }
+}
+
+/// Only a store-conditional tells a success.
+fn success(kind: Kind, reply: Option<Reply>) -> bool
+    ensures { result ≡ success_by kind reply }
+{
+    match kind {
+        Kind::Conditional => is_stored(reply),
+        _ => false,
+    }
+}
+
+/// A poll enters where an interrupt is requested and the processor takes it.
+fn polled(low: bool, reply: Option<Reply>) -> Outcome
+    ensures { result ≡ poll_outcome low reply }
+{
+    match reply {
+        Some(Reply::Polled { pending, turn }) => Outcome::Polled {
+            pending,
+            entered: pending && low,
+            turn,
+        },
+        _ => Outcome::NoAccess,
+    }
+}
