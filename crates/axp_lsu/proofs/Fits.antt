@@ -18,7 +18,7 @@ use Rattle.axp_lsu.specs.Fitting.{Fits2, FitsRequest, IsTurn}
 use Rattle.axp_lsu.specs.Going.{turn_in}
 use Rattle.axp_lsu.specs.Keeping.{Kept}
 
-none_fits : (r : Option Reply) → Fits2 None r → ⊥
+pub none_fits : (r : Option Reply) → Fits2 None r → ⊥
 none_fits None h = h
 none_fits (Some r) h = h
 

@@ -24,11 +24,14 @@ use Rattle.axp_access.specs.declared.Intent.{Intent}
 use Rattle.axp_access.specs.declared.Wanted.{Wanted}
 use Rattle.axp_model.specs.Outcomes.{bank_for}
 use Rattle.axp_model.specs.Records.{line_of, line_at, line_numbered}
-use Rattle.axp_lsu.specs.Fitting.{IsTurn}
+use Rattle.axp_lsu.specs.declared.since.Since.{Since}
+use Rattle.axp_lsu.specs.Asking.{act_ask, ask_of, fill_ask, fill_for}
+use Rattle.axp_lsu.specs.Fitting.{Fits2, IsTurn}
 use Rattle.axp_lsu.specs.Going.{accessed, advanced, brought, delivered, drained, fenced, filled, kept_after, rewritten, stepped, turn_in}
-use Rattle.axp_lsu.specs.Keeping.{Kept, copies_of, data_copies, with_copies}
+use Rattle.axp_lsu.specs.Keeping.{Kept, copies_of, data_copies, nothing, with_copies, with_drop}
 use Rattle.axp_lsu.specs.Within.{IsCopyWithin, IsEntryWithin, IsInMemory, IsKeptWithin, IsLineWithin, IsWantedBy, IsWantedWithin}
 use Rattle.axp_lsu.proofs.AskedWithin.{line_address_within, oldest_within}
+use Rattle.axp_lsu.proofs.Fits.{act_fits, fits_turn, none_fits}
 use Rattle.axp_lsu.proofs.Lines.{line_within}
 
 -- a property of each copy, through the changes of a bank
@@ -173,3 +176,103 @@ accessed_within size kind.Poll w r u wanted small h = h
 stepped_within : (size : ℕ) (o : Option Wanted) (r : Option Reply) (u : Kept) → IsWantedWithin size o → IsTurn (turn_in r) → IsKeptWithin size u → IsKeptWithin size (stepped o r u)
 stepped_within size None r u wanted small h = h
 stepped_within size (Some w) r u wanted small h = accessed_within size w.kind w r u wanted small h
+
+filled_by_kind : (size : ℕ) (k : Kind) (w : Wanted) (r : Option Reply) (u : Kept) → IsWantedBy size k w → Fits2 (fill_for k w u) r → IsTurn (turn_in r) → IsKeptWithin size u → IsKeptWithin size (brought (bank_for k (line_of w.address)) (line_at w.address) r u)
+filled_by_kind size kind.Fetch w r u wanted fits small h = brought_within size Code (line_at w.address) r u (line_within size (line_of w.address) (line_address_within size w wanted)) small h
+filled_by_kind size kind.Read w r u wanted fits small h =
+    brought_within size (data_bank (line_of w.address)) (line_at w.address) r u (line_within size (line_of w.address) (line_address_within size w wanted)) small h
+filled_by_kind size _ w r u wanted fits small h = absurd (none_fits r fits)
+
+filled_within : (size : ℕ) (o : Option Wanted) (r : Option Reply) (u : Kept) → IsWantedWithin size o → Fits2 (fill_ask o u) r → IsTurn (turn_in r) → IsKeptWithin size u → IsKeptWithin size (filled o r u)
+filled_within size None r u wanted fits small h = h
+filled_within size (Some w) r u wanted fits small h = filled_by_kind size w.kind w r u wanted fits small h
+
+drained_within : (size k : ℕ) (o : Option Pending) (r : Option Reply) (u : Kept) → IfSome o (IsEntryWithin size) → IsTurn (turn_in r) → IsKeptWithin size u → IsKeptWithin size (drained k o r u)
+drained_within size k None r u entry small h = h
+drained_within size k (Some e) r u entry small h =
+    rewritten_within size (line_numbered e.line) r (record u { buffer = without k u.buffer }) (line_within size e.line entry) small
+    (record { entries = all_removed (IsEntryWithin size) u.buffer.kept k h.entries; even = h.even; odd = h.odd; code = h.code; barrier = h.barrier })
+
+since_within : (size : ℕ) (s : Since) (u : Kept) → IsKeptWithin size u → IsKeptWithin size (record u { since = s })
+since_within size s u h = record { entries = h.entries; even = h.even; odd = h.odd; code = h.code; barrier = h.barrier }
+
+after_within : (size : ℕ) (a : Act) (i : Intent) (r : Option Reply) (u : Kept) → Fits2 (act_ask a i u) r → IsWantedWithin size i.wanted → IsTurn (turn_in r) → IsKeptWithin size u → IsKeptWithin size (kept_after a i r u)
+after_within size act.Step i r u fits wanted small h = since_within size nothing (stepped i.wanted r u) (stepped_within size i.wanted r u wanted small h)
+after_within size act.Fill i r u fits wanted small h =
+    since_within size (record u.since { filled = true }) (filled i.wanted r u) (filled_within size i.wanted r u wanted fits small h)
+after_within size (act.Drain k) i r u fits wanted small h = drained_within size k (slice_get (oldest_group u.buffer.kept) k) r u (oldest_within size u k h) small h
+after_within size (act.Take b) i r u fits wanted small h = delivered_within size r u h
+after_within size (act.Drop b line) i r u fits wanted small h =
+    since_within size (with_drop b u.since) (with_copies b (dropped (line_number line) (copies_of b u)) u)
+    (with_copies_within size b (dropped (line_number line) (copies_of b u)) u (all_dropped (IsCopyWithin size) (line_number line) (copies_of b u) (copies_within size b u h)) h)
+after_within size act.Poll i r u fits wanted small h = since_within size (record u.since { polled = true }) u h
+after_within size act.Tick i r u fits wanted small h = since_within size (record u.since { ticked = true }) u h
+
+pub advanced_within : (size : ℕ) (a : Act) (i : Intent) (r : Option Reply) (u : Kept) → Fits2 (ask_of a i u) r → IsWantedWithin size i.wanted → IsKeptWithin size u → IsKeptWithin size (advanced a i r u)
+unfolding advanced
+advanced_within size a i r u fits wanted h = after_within size a i r u (act_fits a i u r fits) wanted (fits_turn (ask_of a i u) r fits) h
+
+-- copies come and go beside the buffer
+with_copies_made : (b : Bank) (cs : List LineCopy) (u : Kept) → (with_copies b cs u).buffer ≡ u.buffer
+with_copies_made Even cs u = refl
+with_copies_made Odd cs u = refl
+with_copies_made Code cs u = refl
+
+brought_made : (b : Bank) (line : Line) (r : Option Reply) (u : Kept) → (brought b line r u).buffer ≡ u.buffer
+brought_made b line (Some (reply.Line turn bytes)) u = with_copies_made b (put (copy_of line turn bytes) (copies_of b u)) u
+brought_made b line _ u = refl
+
+rewritten_made : (line : Line) (r : Option Reply) (u : Kept) → (rewritten line r u).buffer ≡ u.buffer
+rewritten_made line (Some (reply.Stored turn bytes)) u =
+    with_copies_made (data_bank (line_number line)) (refreshed (copy_of line turn bytes) (data_copies (line_number line) u)) u
+rewritten_made line _ u = refl
+
+fenced_made : (r : Option Reply) (u : Kept) → (fenced r u).buffer ≡ u.buffer
+fenced_made (Some (reply.Barrier turn gone)) u = refl
+fenced_made _ u = refl
+
+delivered_made : (r : Option Reply) (u : Kept) → (delivered r u).buffer ≡ u.buffer
+delivered_made (Some (reply.Late line turn)) u =
+    with_copies_made (data_bank (line_number line)) (invalidated (line_number line) turn (data_copies (line_number line) u)) u
+delivered_made _ u = refl
+
+-- at most one entry more
+few_more : (any : Bool) (n : ℕ) → cond any n (n + 1) ≤ n + 1
+few_more true n = omega arith
+few_more false n = omega arith
+
+same_few : (b c : Buffer) → b ≡ c → b.made ≤ c.made + 1
+same_few b c e = let made : b.made ≡ c.made = ap (λ (b : Buffer). b.made) e in omega arith
+
+accessed_few : (k : Kind) (w : Wanted) (r : Option Reply) (u : Kept) → (accessed k w r u).buffer.made ≤ u.buffer.made + 1
+accessed_few kind.Write w r u = few_more (merges (line_of w.address) u.buffer) u.buffer.made
+accessed_few kind.Locked w r u = same_few _ u.buffer (brought_made (data_bank (line_of w.address)) (line_at w.address) r u)
+accessed_few kind.Conditional w r u = same_few _ u.buffer (rewritten_made (line_at w.address) r u)
+accessed_few kind.Barrier w r u = same_few _ u.buffer (fenced_made r u)
+accessed_few kind.CodeBarrier w r u = same_few _ u.buffer (fenced_made r u)
+accessed_few _ w r u = omega arith
+
+stepped_few : (o : Option Wanted) (r : Option Reply) (u : Kept) → (stepped o r u).buffer.made ≤ u.buffer.made + 1
+stepped_few None r u = omega arith
+stepped_few (Some w) r u = accessed_few w.kind w r u
+
+filled_few : (o : Option Wanted) (r : Option Reply) (u : Kept) → (filled o r u).buffer.made ≤ u.buffer.made + 1
+filled_few None r u = omega arith
+filled_few (Some w) r u = same_few _ u.buffer (brought_made (bank_for w.kind (line_of w.address)) (line_at w.address) r u)
+
+drained_few : (k : ℕ) (o : Option Pending) (r : Option Reply) (u : Kept) → (drained k o r u).buffer.made ≤ u.buffer.made + 1
+drained_few k None r u = omega arith
+drained_few k (Some e) r u = same_few _ (without k u.buffer) (rewritten_made (line_numbered e.line) r (record u { buffer = without k u.buffer }))
+
+after_few : (a : Act) (i : Intent) (r : Option Reply) (u : Kept) → (kept_after a i r u).buffer.made ≤ u.buffer.made + 1
+after_few act.Step i r u = stepped_few i.wanted r u
+after_few act.Fill i r u = filled_few i.wanted r u
+after_few (act.Drain k) i r u = drained_few k (slice_get (oldest_group u.buffer.kept) k) r u
+after_few (act.Take b) i r u = same_few _ u.buffer (delivered_made r u)
+after_few (act.Drop b line) i r u = same_few _ u.buffer (with_copies_made b (dropped (line_number line) (copies_of b u)) u)
+after_few act.Poll i r u = omega arith
+after_few act.Tick i r u = omega arith
+
+pub advanced_few : (a : Act) (i : Intent) (r : Option Reply) (u : Kept) → (advanced a i r u).buffer.made ≤ u.buffer.made + 1
+unfolding advanced
+advanced_few a i r u = after_few a i r u
