@@ -9,3 +9,6 @@ mod units;
 pub use asks::Ask2;
 pub use since::Since;
 pub use units::Lsu;
+
+#[cfg(test)]
+mod tests;

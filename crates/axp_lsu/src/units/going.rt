@@ -181,9 +181,8 @@ impl Lsu {
     fn bring(&mut self, bank: Bank, line: Line, reply: Option<Reply>)
         ensures { self.new ≡ brought bank line reply self.old }
     {
-        match reply {
-            Some(Reply::Line { turn, bytes }) => self.put(bank, line, turn, bytes),
-            _ => (),
+        if let Some(Reply::Line { turn, bytes }) = reply {
+            self.put(bank, line, turn, bytes);
         }
     }
 
@@ -202,9 +201,8 @@ impl Lsu {
     fn rewrite(&mut self, line: Line, reply: Option<Reply>)
         ensures { self.new ≡ rewritten line reply self.old }
     {
-        match reply {
-            Some(Reply::Stored { turn, bytes }) => self.refresh(line, turn, bytes),
-            _ => (),
+        if let Some(Reply::Stored { turn, bytes }) = reply {
+            self.refresh(line, turn, bytes);
         }
     }
 
@@ -222,14 +220,11 @@ impl Lsu {
     fn fence(&mut self, reply: Option<Reply>)
         ensures { self.new ≡ fenced reply self.old }
     {
-        match reply {
-            Some(Reply::Barrier { turn, gone }) => {
-                let even = self.even.len();
-                self.even.spare(gone);
-                self.odd.spare(gone >> even);
-                self.barrier = turn;
-            }
-            _ => (),
+        if let Some(Reply::Barrier { turn, gone }) = reply {
+            let even = self.even.len();
+            self.even.spare(gone);
+            self.odd.spare(gone >> even);
+            self.barrier = turn;
         }
     }
 
