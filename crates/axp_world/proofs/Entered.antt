@@ -353,3 +353,47 @@ alike_drained k e b m at a = record {
   made = a.made;
   entries = remove_same a.rank b.made b.newest k e b.kept m.waiting a.tidy.order (oldest_entry b.kept k e at).0 a.entries;
 }
+
+-- a kept entry waits, and what waits is kept
+pub waits_same : (rank : ℕ → ℕ) (j : ℕ) (e : Pending) (es : List Pending) (ws : List Waiting) → slice_get es j ≡ Some e → AreAlike rank es ws → waits e.number e.line (rank e.group) ws ≡ true
+waits_same rank j e [] ws at alike = absurd (no_entry e at)
+waits_same rank j e (f ∷ es) [] at alike = absurd alike
+waits_same rank zero e (f ∷ es) (w ∷ ws) at alike =
+    let same : f ≡ e = same_entry f e at in
+    let number : w.number ≡ e.number = sym alike.0.entry.number ∙ ap (λ x. x.number) same in
+    let line : line_number w.line ≡ e.line = sym alike.0.entry.line ∙ ap (λ x. x.line) same in
+    let age : w.age ≡ rank e.group = alike.0.age ∙ ap (λ x. rank x.group) same in
+    or_left (eqb w.number e.number && (is_line e.line w.line && eqb w.age (rank e.group))) (waits e.number e.line (rank e.group) ws)
+    (and_from (eqb w.number e.number) (is_line e.line w.line && eqb w.age (rank e.group)) (eq-eqb w.number e.number number)
+    (and_from (is_line e.line w.line) (eqb w.age (rank e.group)) (eq-eqb (line_number w.line) e.line line) (eq-eqb w.age (rank e.group) age)))
+waits_same rank (suc j) e (f ∷ es) (w ∷ ws) at alike = or_right (eqb w.number e.number && (is_line e.line w.line && eqb w.age (rank e.group))) (waits e.number e.line (rank e.group) ws) (waits_same rank j e es ws at alike.1)
+
+pub record IsKeptAs (rank : ℕ → ℕ) (es : List Pending) (n l g : ℕ) : Type 0 where
+  pub place : ℕ
+  pub entry : Pending
+  pub kept : slice_get es place ≡ Some entry
+  pub number : entry.number ≡ n
+  pub line : entry.line ≡ l
+  pub age : rank entry.group ≡ g
+
+pub kept_same : (rank : ℕ → ℕ) (n l g : ℕ) (es : List Pending) (ws : List Waiting) → waits n l g ws ≡ true → AreAlike rank es ws → IsKeptAs rank es n l g
+kept_same rank n l g [] [] wait alike = absurd (false≢true wait)
+kept_same rank n l g [] (w ∷ ws) wait alike = absurd alike
+kept_same rank n l g (e ∷ es) [] wait alike = absurd alike
+kept_same rank n l g (e ∷ es) (w ∷ ws) wait alike =
+    ⊎_elim
+    (λ (here : (eqb w.number n && (is_line l w.line && eqb w.age g)) ≡ true).
+    let parts = and_parts (eqb w.number n) (is_line l w.line && eqb w.age g) here in
+    let more = and_parts (is_line l w.line) (eqb w.age g) parts.1 in
+    record {
+      place = 0;
+      entry = e;
+      kept = refl;
+      number = alike.0.entry.number ∙ eqb-true w.number n parts.0;
+      line = alike.0.entry.line ∙ eqb-true (line_number w.line) l more.0;
+      age = sym alike.0.age ∙ eqb-true w.age g more.1;
+    })
+    (λ (there : waits n l g ws ≡ true).
+    let rest = kept_same rank n l g es ws there alike.1 in
+    record { place = suc rest.place; entry = rest.entry; kept = rest.kept; number = rest.number; line = rest.line; age = rest.age })
+    (or_cases (eqb w.number n && (is_line l w.line && eqb w.age g)) (waits n l g ws) wait)
