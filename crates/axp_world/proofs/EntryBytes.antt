@@ -125,7 +125,7 @@ find_none : (test : Item → Bool) (us : List Item) → AllByRecursion (λ u. te
 find_none test [] none = refl
 find_none test (u ∷ us) none = rw none.0 (find_none test us none.1)
 
-place_is : (n : ℕ) (at : Place) → is_entry n at ≡ true → at ≡ Entry n
+pub place_is : (n : ℕ) (at : Place) → is_entry n at ≡ true → at ≡ Entry n
 place_is n (At t) is = absurd (false≢true is)
 place_is n (Entry m) is = ap (λ k. Entry k) (eqb-true m n is)
 place_is n Absent is = absurd (false≢true is)

@@ -2,3 +2,4 @@ pub mod Agreement
 pub mod Played
 pub mod Entered
 pub mod EntryBytes
+pub mod Overlaid
