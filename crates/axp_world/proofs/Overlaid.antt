@@ -110,6 +110,21 @@ find_pair P wide narrow (x ∷ us) v u pairs is found passes =
     (cases_Bool (narrow x)))
     (cases_Bool (wide x))
 
+-- where the one found passes a narrower search, that finds it too
+find_narrow : (wide narrow : Item → Bool) (us : List Item) (v : Item) → ((x : Item) → narrow x ≡ true → wide x ≡ true) → find wide us ≡ Some v → narrow v ≡ true → find narrow us ≡ Some v
+find_narrow wide narrow [] v within is passes = cc
+find_narrow wide narrow (x ∷ us) v within is passes =
+    ⊎_elim
+    (λ (here : wide x ≡ true).
+    let found : Some x ≡ Some v = rw here at is in
+    let same : x ≡ v = cc in
+    rw (subst (λ y. narrow y ≡ true) (sym same) passes) found)
+    (λ (other : wide x ≡ false). ⊎_elim
+    (λ (never : narrow x ≡ true). absurd (false≢true (sym other ∙ within x never)))
+    (λ (later : narrow x ≡ false). rw later (find_narrow wide narrow us v within (rw other at is) passes))
+    (cases_Bool (narrow x)))
+    (cases_Bool (wide x))
+
 -- the newest write of a byte that waits, with its entry
 record IsFound (p at : ℕ) (h : List Record) (b : pending.Buffer) (rank : ℕ → ℕ) (v : Item) : Type 0 where
   number : ℕ
@@ -176,3 +191,57 @@ not_older p at h b j i e f u v k a at_e at_f line_e line_f less known went parts
     let kept = waits_same a.rank j e b.kept (buffer p h).waiting at_e a.entries in
     let same : u.parts ≡ a.rank e.group = ((k.sound p).single e.number (line_of u.access.address) u.parts e.line (a.rank e.group) wait kept).1 in
     omega (arith, up, same, parts, age)
+
+own_of : (p n at : ℕ) (u : Item) → went_into p n at u ≡ true → cpu_of u ≡ p
+own_of p n at u went = eqb-true (cpu_of u) p (and_parts (eqb (cpu_of u) p) (is_memory_write u.access && (has_byte at u.access && is_entry n u.access.place)) went).0
+
+-- the newest write into the last entry that has the byte is the newest that waits
+last_waits : (p at : ℕ) (h : List Record) (b : pending.Buffer) (o w : Option Item) → Kept h → Alike b (buffer p h) → AllByRecursion (HasBytesOf p h) b.kept → (l : IsLast (line_of at) (at % LINE_BYTES) b.kept)
+    → drained h p l.entry.number ≡ None → is_some o ≡ true → newest_in p l.entry.number at h ≡ o → newest_waiting p at h ≡ w → o ≡ w
+last_waits p at h b None w k a bytes l none some found is = absurd (false≢true some)
+last_waits p at h b (Some u) None k a bytes l none some found is =
+    let went : went_into p l.entry.number at u ≡ true = find_passes (went_into p l.entry.number at) (accesses h) u found in
+    let again : is_some (newest_waiting p at h) ≡ true = find_again (went_into p l.entry.number at) (own_waits (times h) at p) (accesses h) u found (own_into p l.entry.number at h u none went) in
+    absurd (false≢true (sym (ap is_some is) ∙ again))
+last_waits p at h b (Some u) (Some v) k a bytes l none some found is =
+    let e : Pending = l.entry in
+    let went : went_into p e.number at u ≡ true = find_passes (went_into p e.number at) (accesses h) u found in
+    let known_u : KnownItem h u = find_each (KnownItem h) (went_into p e.number at) (accesses h) u k.items found in
+    let known_v : KnownItem h v = find_each (KnownItem h) (own_waits (times h) at p) (accesses h) v k.items is in
+    let f = found_by p at h b v a known_v (find_passes (own_waits (times h) at p) (accesses h) v is) in
+    let most : f.kept.entry.number ≤ e.number = l.last f.kept.place f.kept.entry f.kept.kept (found_has p at h b a.rank v bytes is f) in
+    let line_e : e.line ≡ line_of at = eqb-true e.line (line_of at) (and_parts (eqb e.line (line_of at)) (has_bit e.bits (at % LINE_BYTES)) l.has).0 in
+    ⊎_elim
+    (λ (less : f.kept.entry.number < e.number). ⊎_elim
+    (λ (same : u ≡ v). ap (λ x. Some x) same)
+    (λ (ok : PairOk (times h) u v). absurd (not_older p at h b l.place f.kept.place e f.kept.entry u v k a l.kept f.kept.kept line_e f.kept.line less known_u went (ok.parts (own_of p e.number at u went ∙ sym (own_of p f.number at v f.went))) f.kept.age none))
+    (find_pair (PairOk (times h)) (own_waits (times h) at p) (went_into p e.number at) (accesses h) v u k.pairs is found (own_into p e.number at h u none went)))
+    (λ (more : e.number ≤ f.kept.entry.number).
+    let same : f.number ≡ e.number = sym f.kept.number ∙ omega (arith, most, more) in
+    sym found ∙ find_narrow (own_waits (times h) at p) (went_into p e.number at) (accesses h) v (λ x into. own_into p e.number at h x none into) is (subst (λ n. went_into p n at v ≡ true) same f.went))
+    (cases_lt f.kept.entry.number e.number)
+
+byte_some : (o : Option Item) (at x y : ℕ) → is_some o ≡ true → byte_or o at x ≡ byte_or o at y
+byte_some None at x y some = absurd (false≢true some)
+byte_some (Some u) at x y some = refl
+
+pub overlaid_waits : (p at : ℕ) (h : List Record) (b : pending.Buffer) (line : List ℕ) → Kept h → Alike b (buffer p h) → AllByRecursion (HasBytesOf p h) b.kept → length line ≡ LINE_BYTES → slice_index (overlaid (line_of at) b.kept line) (at % LINE_BYTES) ≡ byte_or (newest_waiting p at h) at (slice_index line (at % LINE_BYTES))
+overlaid_waits p at h b line k a bytes whole =
+    ⊎_elim
+    (λ (l : IsLast (line_of at) (at % LINE_BYTES) b.kept).
+    let e : Pending = l.entry in
+    let of_e : HasBytesOf p h e = each_at (HasBytesOf p h) b.kept l.place e l.kept bytes in
+    let parts = and_parts (eqb e.line (line_of at)) (has_bit e.bits (at % LINE_BYTES)) l.has in
+    let line_e : e.line ≡ line_of at = eqb-true e.line (line_of at) parts.0 in
+    let some : is_some (newest_in p e.number at h) ≡ true = sym (of_e.has at (sym line_e)) ∙ parts.1 in
+    let wait = waits_same a.rank l.place e b.kept (buffer p h).waiting l.kept a.entries in
+    let none : drained h p e.number ≡ None = ((k.sound p).waiting e.number (waits_has e.number e.line (a.rank e.group) (buffer p h).waiting wait)).0 in
+    let same : newest_in p e.number at h ≡ newest_waiting p at h = last_waits p at h b (newest_in p e.number at h) (newest_waiting p at h) k a bytes l none some refl refl in
+    newest_gives b l.place (line_of at) (at % LINE_BYTES) e line a.tidy (omega (arith, whole)) (omega arith) l.kept l.has l.last
+    ∙ of_e.bytes at (sym line_e) parts.1
+    ∙ byte_some (newest_in p e.number at h) at 0 (slice_index line (at % LINE_BYTES)) some
+    ∙ ap (λ o. byte_or o at (slice_index line (at % LINE_BYTES))) same)
+    (λ (none : HasNone (line_of at) (at % LINE_BYTES) b.kept).
+    others_kept b.kept (line_of at) (at % LINE_BYTES) line (omega (arith, whole)) (omega arith) none
+    ∙ ap (λ o. byte_or o at (slice_index line (at % LINE_BYTES))) (sym (none_waits p at h b (newest_waiting p at h) refl k a bytes none)))
+    (last_or_none (line_of at) (at % LINE_BYTES) b.made b.newest b.kept a.tidy.order)
