@@ -3,3 +3,4 @@ pub mod Played
 pub mod Entered
 pub mod EntryBytes
 pub mod Overlaid
+pub mod BufferSteps
