@@ -4,3 +4,4 @@ pub mod Entered
 pub mod EntryBytes
 pub mod Overlaid
 pub mod BufferSteps
+pub mod Buffered
