@@ -77,14 +77,14 @@ newest_gives b k line n e bytes tidy whole inside is has last =
     overlaid_at line n b.kept bytes whole inside ∙ last_gives b.made b.newest line n b.kept k _ e tidy.order is has last
 
 -- a store's bytes in an entry, and the other bytes there
-has_joined : (bits address size n : ℕ) → has_bit (span_of address size) n ≡ true → has_bit (bit_or bits (span_of address size)) n ≡ true
+pub has_joined : (bits address size n : ℕ) → has_bit (span_of address size) n ≡ true → has_bit (bit_or bits (span_of address size)) n ≡ true
 has_joined bits address size n h =
     let one : bit_at (span_of address size) n ≡ 1 = eqb-true _ _ h in
     let joined : bit_at (bit_or bits (span_of address size)) n ≡ max (bit_at bits n) (bit_at (span_of address size) n) = bit_at_or bits (span_of address size) n in
     let small : bit_at bits n < 2 = omega arith in
     eq-eqb _ _ (omega (arith, one, joined, small))
 
-has_other : (bits address size n : ℕ) → has_bit (span_of address size) n ≡ false → has_bit (bit_or bits (span_of address size)) n ≡ has_bit bits n
+pub has_other : (bits address size n : ℕ) → has_bit (span_of address size) n ≡ false → has_bit (bit_or bits (span_of address size)) n ≡ has_bit bits n
 has_other bits address size n h =
     let joined : bit_at (bit_or bits (span_of address size)) n ≡ max (bit_at bits n) (bit_at (span_of address size) n) = bit_at_or bits (span_of address size) n in
     let small : bit_at (span_of address size) n < 2 = omega arith in
@@ -99,7 +99,7 @@ byte_put bytes address size value i whole sized aligned inside =
     ap (λ k. get_or (with_part bytes (address % LINE_BYTES) size value) k 0) place
     ∙ get_or-with_part bytes (address % LINE_BYTES) size value i (omega (arith, ends, whole)) inside
 
-byte_left : (bytes : List ℕ) (address size value n : ℕ) → has_bit (span_of address size) n ≡ false → get_or (with_part bytes (address % LINE_BYTES) size value) n 0 ≡ get_or bytes n 0
+pub byte_left : (bytes : List ℕ) (address size value n : ℕ) → has_bit (span_of address size) n ≡ false → get_or (with_part bytes (address % LINE_BYTES) size value) n 0 ≡ get_or bytes n 0
 byte_left bytes address size value n h =
     outside-with_part bytes (address % LINE_BYTES) size value n
     (⊎_elim

@@ -1,2 +1,7 @@
 pub mod Agreement
 pub mod Played
+pub mod Entered
+pub mod EntryBytes
+pub mod Overlaid
+pub mod BufferSteps
+pub mod Buffered
