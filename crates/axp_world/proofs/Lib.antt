@@ -1,2 +1,4 @@
 pub mod Agreement
 pub mod Played
+pub mod Sums
+pub mod Tallies
