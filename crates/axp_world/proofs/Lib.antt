@@ -2,3 +2,4 @@ pub mod Agreement
 pub mod Played
 pub mod Sums
 pub mod Tallies
+pub mod CallCounts
