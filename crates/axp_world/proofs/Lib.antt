@@ -3,3 +3,4 @@ pub mod Played
 pub mod Sums
 pub mod Tallies
 pub mod CallCounts
+pub mod Asked
