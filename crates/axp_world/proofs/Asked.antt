@@ -36,7 +36,7 @@ asked_parts None built q h = cc
 asked_parts (Some m) true q h = (cc, refl)
 asked_parts (Some m) false q h = cc
 
-some_if : (b : Bool) (x : Option Ask2) (q : Ask2) → cond b x None ≡ Some q → (b ≡ true) × (x ≡ Some q)
+pub some_if : (b : Bool) (x : Option Ask2) (q : Ask2) → cond b x None ≡ Some q → (b ≡ true) × (x ≡ Some q)
 some_if true x q h = (refl, h)
 some_if false x q h = cc
 

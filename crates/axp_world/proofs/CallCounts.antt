@@ -74,7 +74,7 @@ taken_fewer b bank xs =
     (cases_Bool (same_bank b bank))
 
 -- an own call adds none
-own_fewer : (b : Bank) (m : Request) (r : Reply) (xs : List (Line × ℕ)) → length (late_by_own b m r xs) ≤ length xs
+pub own_fewer : (b : Bank) (m : Request) (r : Reply) (xs : List (Line × ℕ)) → length (late_by_own b m r xs) ≤ length xs
 own_fewer b (request.Barrier held) r xs = omega arith
 own_fewer b (request.CodeBarrier held) r xs = omega arith
 own_fewer b (request.Take bank) (reply.Late line turn) xs = taken_fewer b bank xs

@@ -4,3 +4,4 @@ pub mod Sums
 pub mod Tallies
 pub mod CallCounts
 pub mod Asked
+pub mod Quiet
