@@ -5,3 +5,4 @@ pub mod Tallies
 pub mod CallCounts
 pub mod Asked
 pub mod Quiet
+pub mod KeptCounts
