@@ -34,7 +34,7 @@ pub record IsSameBut (u v : Kept) : Type 0 where
   pub buffer : v.buffer ≡ u.buffer
   pub since : v.since ≡ u.since
 
-copies_same : (b : Bank) (cs : List LineCopy) (u : Kept) → IsSameBut u (with_copies b cs u)
+pub copies_same : (b : Bank) (cs : List LineCopy) (u : Kept) → IsSameBut u (with_copies b cs u)
 copies_same Even cs u = record { buffer = refl; since = refl }
 copies_same Odd cs u = record { buffer = refl; since = refl }
 copies_same Code cs u = record { buffer = refl; since = refl }
@@ -51,11 +51,11 @@ fenced_same : (r : Option Reply) (u : Kept) → IsSameBut u (fenced r u)
 fenced_same (Some (reply.Barrier turn gone)) u = record { buffer = refl; since = refl }
 fenced_same _ u = record { buffer = refl; since = refl }
 
-delivered_same : (r : Option Reply) (u : Kept) → IsSameBut u (delivered r u)
+pub delivered_same : (r : Option Reply) (u : Kept) → IsSameBut u (delivered r u)
 delivered_same (Some (reply.Late line turn)) u = copies_same (data_bank (line_number line)) _ u
 delivered_same _ u = record { buffer = refl; since = refl }
 
-filled_same : (o : Option Wanted) (r : Option Reply) (u : Kept) → (filled o r u).buffer ≡ u.buffer
+pub filled_same : (o : Option Wanted) (r : Option Reply) (u : Kept) → (filled o r u).buffer ≡ u.buffer
 filled_same None r u = refl
 filled_same (Some w) r u = (brought_same _ _ r u).buffer
 

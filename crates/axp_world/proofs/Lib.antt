@@ -6,3 +6,4 @@ pub mod CallCounts
 pub mod Asked
 pub mod Quiet
 pub mod KeptCounts
+pub mod Bounded
