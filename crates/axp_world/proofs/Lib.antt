@@ -7,3 +7,4 @@ pub mod Asked
 pub mod Quiet
 pub mod KeptCounts
 pub mod Bounded
+pub mod Counted

@@ -37,3 +37,7 @@ sum_raised f g q k (suc n) below raised same =
     where
   nearer : (q n : ℕ) → q < suc n → (q ≡ n → ⊥) → q < n
   nearer q n below apart = grind (arith, below, apart)
+
+pub sum_none : (f : ℕ → ℕ) (n : ℕ) → ((p : ℕ) → f p ≡ 0) → sum_below f n ≡ 0
+sum_none f zero none = refl
+sum_none f (suc n) none = omega (arith, none n, sum_none f n none)

@@ -4,4 +4,4 @@
 
 mod lengths;
 
-pub use lengths::EVENTS_PER_STEP;
+pub use lengths::{EVENTS_PER_STEP, length_of_a_history};
