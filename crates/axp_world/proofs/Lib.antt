@@ -5,3 +5,11 @@ pub mod EntryBytes
 pub mod Overlaid
 pub mod BufferSteps
 pub mod Buffered
+pub mod Sums
+pub mod Tallies
+pub mod CallCounts
+pub mod Asked
+pub mod Quiet
+pub mod KeptCounts
+pub mod Bounded
+pub mod Counted

@@ -1,3 +1,7 @@
 //! Processors over the bus, by the calls that they make: the definition of a run, and laws that it is the
 //! memory model's. No code that runs.
 #![tactic(auto)]
+
+mod lengths;
+
+pub use lengths::{EVENTS_PER_STEP, length_of_a_history};
