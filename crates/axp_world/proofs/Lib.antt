@@ -2,3 +2,4 @@ pub mod Agreement
 pub mod Played
 pub mod Since
 pub mod Spared
+pub mod BusLines
