@@ -3,3 +3,4 @@ pub mod Played
 pub mod Since
 pub mod Spared
 pub mod BusLines
+pub mod Shows
