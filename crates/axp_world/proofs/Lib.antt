@@ -4,3 +4,4 @@ pub mod Since
 pub mod Spared
 pub mod BusLines
 pub mod Shows
+pub mod Leaves
