@@ -5,3 +5,4 @@ pub mod Spared
 pub mod BusLines
 pub mod Shows
 pub mod Leaves
+pub mod Fenced
