@@ -6,3 +6,4 @@ pub mod BusLines
 pub mod Shows
 pub mod Leaves
 pub mod Fenced
+pub mod Changes
