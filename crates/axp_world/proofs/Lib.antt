@@ -13,3 +13,10 @@ pub mod Quiet
 pub mod KeptCounts
 pub mod Bounded
 pub mod Counted
+pub mod Since
+pub mod Spared
+pub mod BusLines
+pub mod Shows
+pub mod Leaves
+pub mod Fenced
+pub mod Changes
