@@ -1,3 +1,4 @@
 pub mod Agreement
 pub mod Played
 pub mod MemoryTurns
+pub mod Written

@@ -116,7 +116,7 @@ memory_stored e a h at k w place =
     ∙ stored_over h at (next_item (accesses h) a) k w place
 
 -- a drain: a write of the entry that it names
-went_parts : (p n at : ℕ) (u : Item) → went_into p n at u ≡ true → IsNamed p n u × (is_memory_write u.access ≡ true) × (has_byte at u.access ≡ true)
+pub went_parts : (p n at : ℕ) (u : Item) → went_into p n at u ≡ true → IsNamed p n u × (is_memory_write u.access ≡ true) × (has_byte at u.access ≡ true)
 went_parts p n at u e =
     let c = and_parts (eqb u.access.cpu.number p) (is_memory_write u.access && (has_byte at u.access && is_entry n u.access.place)) e in
     let w = and_parts (is_memory_write u.access) (has_byte at u.access && is_entry n u.access.place) c.1 in
