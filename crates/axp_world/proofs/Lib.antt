@@ -2,3 +2,4 @@ pub mod Agreement
 pub mod Played
 pub mod MemoryTurns
 pub mod Written
+pub mod Called
