@@ -3,3 +3,4 @@ pub mod Played
 pub mod MemoryTurns
 pub mod Written
 pub mod Called
+pub mod Legality
