@@ -58,7 +58,7 @@ before_by t u v n w reads vat =
     ∙ ap (λ p. key_before (record { spot = spot t u.access.cpu.number u.access.place; other = false; cpu = u.access.cpu.number; number = u.number }) (record { spot = spot t v.access.cpu.number p; other = true; cpu = v.access.cpu.number; number = v.number })) vat
     ∙ write_before (spot t u.access.cpu.number u.access.place) u.access.cpu.number u.number n v.access.cpu.number v.number
 
-and_same : (a b x y : Bool) → (a ≡ true → b ≡ true → x ≡ y) → (a && (b && x)) ≡ (a && (b && y))
+pub and_same : (a b x y : Bool) → (a ≡ true → b ≡ true → x ≡ y) → (a && (b && x)) ≡ (a && (b && y))
 and_same true true x y same = same refl refl
 and_same true false x y same = refl
 and_same false b x y same = refl
@@ -88,7 +88,7 @@ abbrev some_fetch : ℕ → Item
 some_fetch n = record { number = 0; parts = 0; access = record { cpu = record { number = 0; below = refl }; kind = kind.Fetch; address = 0; size = 0; value = 0; yes = false; place = At n } }
 
 -- what memory is after turns that were made stays
-memory_step : (n at : ℕ) (r : Record) (h : List Record) → FitsOutcome r.event.cpu.number r.outcome h → Kept h → n ≤ turns h → memory_source (times (r ∷ h)) n at (accesses (r ∷ h)) ≡ memory_source (times h) n at (accesses h)
+pub memory_step : (n at : ℕ) (r : Record) (h : List Record) → FitsOutcome r.event.cpu.number r.outcome h → Kept h → n ≤ turns h → memory_source (times (r ∷ h)) n at (accesses (r ∷ h)) ≡ memory_source (times h) n at (accesses h)
 memory_step n at r h fit kept less =
     sym (fetch_source (times (r ∷ h)) n at (some_fetch n) (accesses (r ∷ h)) refl refl refl)
     ∙ source_stays at n (some_fetch n) r.event r.outcome h fit kept refl less (omega arith)
@@ -190,7 +190,7 @@ read_gives h p at n v u known was less who reads vat none =
       absorbed false true f = sym (f refl)
       absorbed false false f = refl
 
-find_none : (p : Item → Bool) (us : List Item) → find p us ≡ None → AllByRecursion (λ u. p u ≡ false) us
+pub find_none : (p : Item → Bool) (us : List Item) → find p us ≡ None → AllByRecursion (λ u. p u ≡ false) us
 find_none p [] e = tt
 find_none p (u ∷ us) e =
     ⊎_elim

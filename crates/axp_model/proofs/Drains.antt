@@ -115,7 +115,7 @@ IsOther turn now p n u = (IsNamed p n u → ⊥) × (spot now u.access.cpu.numbe
 kind_named : (h : List Record) (p n : ℕ) (u : Item) → KnownItem h u → IsNamed p n u → u.access.kind ≡ kind.Write
 kind_named h p n u ku un = entry_write u.access.kind u.access.cpu.number (line_of u.access.address) u.parts n h (rw un.1 at ku.known)
 
-both_named : (h : List Record) (p n : ℕ) (now : Times) (u v : Item) → Naming (times h) now p n (turns h + 1) → KnownItem h u → KnownItem h v → u.number < v.number → IsNamed p n u → IsNamed p n v → before now u v ≡ true
+pub both_named : (h : List Record) (p n : ℕ) (now : Times) (u v : Item) → Naming (times h) now p n (turns h + 1) → KnownItem h u → KnownItem h v → u.number < v.number → IsNamed p n u → IsNamed p n v → before now u v ≡ true
 both_named h p n now u v naming ku kv later un vn =
     let x = kind_named h p n u ku un in
     let y = kind_named h p n v kv vn in

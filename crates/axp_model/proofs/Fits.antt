@@ -45,13 +45,13 @@ bank_own l = bank_own_by l (eqb (l % 2) 0) refl where
   bank_own_by l true e = e
   bank_own_by l false e = rw e refl
 
-bank_is : (b : Bank) (l : ℕ) → in_bank b l ≡ true → data_bank l ≡ b
+pub bank_is : (b : Bank) (l : ℕ) → in_bank b l ≡ true → data_bank l ≡ b
 bank_is Even l e = rw e refl
 bank_is Odd l e = rw (not-true (eqb (l % 2) 0) e) refl
 bank_is Code l e = cc
 
 -- late pairs of a bank are of its lines
-abbrev InBank : Bank → Line × ℕ → Type 0
+abbrev pub InBank : Bank → Line × ℕ → Type 0
 InBank b pair = in_bank b (line_number pair.0) ≡ true
 
 others_in : (b : Bank) (q : List (Line × ℕ)) → AllByRecursion (InBank b) q → AllByRecursion (InBank b) (others q)
@@ -71,7 +71,7 @@ own_in b o q e =
     cond_both (fences o) [] (cond (takes b o) (others q) q) (λ z. AllByRecursion (InBank b) z) (λ _. tt)
     (λ _. cond_both (takes b o) (others q) q (λ z. AllByRecursion (InBank b) z) (λ _. others_in b q e) (λ _. e))
 
-late_in : (p : ℕ) (b : Bank) (h : List Record) → AllByRecursion (InBank b) (late p b h)
+pub late_in : (p : ℕ) (b : Bank) (h : List Record) → AllByRecursion (InBank b) (late p b h)
 late_in p b [] = tt
 late_in p b (r ∷ h) =
     cond_both (by p r) (late_by_own b r.outcome (late p b h)) (late_by_other b (turned r.outcome) (turns h + 1) (late p b h)) (λ z. AllByRecursion (InBank b) z)

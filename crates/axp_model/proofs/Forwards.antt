@@ -20,7 +20,7 @@ use Rattle.axp_model.proofs.Drains.{entry_write}
 use Rattle.axp_model.proofs.Steps.{pairs_map}
 use Rattle.axp_model.proofs.Stable.{hidden, u_before_last}
 
-newer_left : (turn : Times) (u : Item) (o : Option Item) → ((y : Item) → o ≡ Some y → (y ≡ u) ⊎ (before turn y u ≡ true)) → later_of turn u o ≡ Some u
+pub newer_left : (turn : Times) (u : Item) (o : Option Item) → ((y : Item) → o ≡ Some y → (y ≡ u) ⊎ (before turn y u ≡ true)) → later_of turn u o ≡ Some u
 newer_left turn u None h = refl
 newer_left turn u (Some y) h = ⊎_elim (λ same. elim (before turn y u) as (λ b. cond b (Some u) (Some y) ≡ Some u) [ true ↦ refl | false ↦ ap (λ x. Some x) same ]) (λ less. rw less refl) (h y refl)
 
@@ -35,7 +35,7 @@ newer_either turn x y (Some z) e = ⊎_elim (λ (t : before turn z x ≡ true). 
 abbrev pub Below : Times → (Item → Bool) → Item → Item → Type 0
 Below turn t u x = t x ≡ true → before turn x u ≡ true
 
-latest_below : (turn : Times) (t : Item → Bool) (u : Item) (us : List Item) → AllByRecursion (Below turn t u) us → (y : Item) → latest turn t us ≡ Some y → before turn y u ≡ true
+pub latest_below : (turn : Times) (t : Item → Bool) (u : Item) (us : List Item) → AllByRecursion (Below turn t u) us → (y : Item) → latest turn t us ≡ Some y → before turn y u ≡ true
 latest_below turn t u [] each y e = cc
 latest_below turn t u (x ∷ xs) each y e =
     ⊎_elim
@@ -48,7 +48,7 @@ each_at turn t s x [] p each = tt
 each_at turn t s x (y ∷ xs) p each = (each.0 p, each_at turn t s x xs p each.1)
 
 -- where the newest that passes s is above all others that pass t, it is the latest
-first_is : (turn : Times) (t s : Item → Bool) (u : Item) (us : List Item) → AllByRecursion (λ x. s x ≡ true → t x ≡ true) us → AllByRecursion (λ x. s x ≡ false → Below turn t u x) us → AllPairs (λ y x. s x ≡ true → Below turn t x y) us → find s us ≡ Some u → latest turn t us ≡ Some u
+pub first_is : (turn : Times) (t s : Item → Bool) (u : Item) (us : List Item) → AllByRecursion (λ x. s x ≡ true → t x ≡ true) us → AllByRecursion (λ x. s x ≡ false → Below turn t u x) us → AllPairs (λ y x. s x ≡ true → Below turn t x y) us → find s us ≡ Some u → latest turn t us ≡ Some u
 first_is turn t s u [] sub above pairs e = cc
 first_is turn t s u (x ∷ xs) sub above pairs e =
     ⊎_elim

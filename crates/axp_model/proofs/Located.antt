@@ -64,7 +64,7 @@ tight_by p n (At t) h most = most
 tight_by p n (Entry m) h most = absurd most
 tight_by p n Absent h most = absurd most
 
-stands_by : (k : Kind) (p l g : ℕ) (at : Place) (h : List Record) → Known k p l g at h → (spot (times h) p at).placed ≡ true → (spot (times h) p at).last ≡ false → (spot (times h) p at).place ≤ turns h
+pub stands_by : (k : Kind) (p l g : ℕ) (at : Place) (h : List Record) → Known k p l g at h → (spot (times h) p at).placed ≡ true → (spot (times h) p at).last ≡ false → (spot (times h) p at).place ≤ turns h
 stands_by kind.Write p l g (Entry n) h known placed e = entry_by (turns h) (drained h p n) (drained_most p n h) e
 stands_by kind.Write p l g (At t) h known placed e = absurd known
 stands_by kind.Write p l g Absent h known placed e = absurd known

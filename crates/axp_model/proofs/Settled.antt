@@ -36,7 +36,7 @@ abbrev pub Settled : ℕ → ℕ → (ℕ → List Record → Type 0) → List R
 Settled q l Q h u = is_memory_write u.access ≡ true → cpu_of u ≡ q → line_of u.access.address ≡ l → OnPlace (λ t. Q t h) (spot (times h) q u.access.place)
 
 -- what a drain names is the entry of the write, and of its line
-named_line : (q n m l g : ℕ) (h : List Record) → Named n m (buffer q h).waiting → Kept h → (drained h q n ≡ None → waits n l g (buffer q h).waiting ≡ true) → m ≡ l
+pub named_line : (q n m l g : ℕ) (h : List Record) → Named n m (buffer q h).waiting → Kept h → (drained h q n ≡ None → waits n l g (buffer q h).waiting ≡ true) → m ≡ l
 named_line q n m l g h named kept goes =
     let es : List Waiting = (buffer q h).waiting in
     let found : waits n named.1.line.number (least_age es) es ≡ true = rw named.3 at (of_age_waits (least_age es) named.0 named.1 es named.2) in

@@ -64,6 +64,7 @@ byte_or (Some u) at other = byte u.access.value (at - u.access.address)
 
 -- what the entries of a buffer have of each byte of their lines
 pub record HasBytesOf (p : ℕ) (h : List Record) (e : Pending) : Type 0 where
+  pub whole : length e.bytes ≡ LINE_BYTES
   pub has : (at : ℕ) → records.line_of at ≡ e.line → has_bit e.bits (at % LINE_BYTES) ≡ is_some (newest_in p e.number at h)
   pub bytes : (at : ℕ) → records.line_of at ≡ e.line → has_bit e.bits (at % LINE_BYTES) ≡ true → slice_index e.bytes (at % LINE_BYTES) ≡ byte_or (newest_in p e.number at h) at 0
 

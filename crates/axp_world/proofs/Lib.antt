@@ -20,3 +20,7 @@ pub mod Shows
 pub mod Leaves
 pub mod Fenced
 pub mod Changes
+pub mod MemoryTurns
+pub mod Written
+pub mod Called
+pub mod Legality
