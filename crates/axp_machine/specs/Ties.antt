@@ -1,16 +1,17 @@
 -- How the parts of a machine stand for its records.
-use Rattle.std.specs.Prelude.{◌≡◌, ℕ, ◌*◌, ◌<◌, ◌≤◌, List, length, reverse, slice_get, Some}
+use Rattle.std.specs.Prelude.{◌≡◌, ℕ, ◌*◌, ◌/◌, ◌<◌, ◌≤◌, List, reverse, length, slice_get, slice_index, Some}
 use Rattle.std.specs.Vec.{vec_capacity}
 use Rattle.axp_access.specs.declared.Record.{Record}
-use Rattle.axp_base.specs.declared.processors.TheConstants.{MAX_BUDGET, MAX_CPUS, MIN_CPUS}
-use Rattle.axp_bus.specs.BusStands as bus
-use Rattle.axp_cpu.specs.ActorStands.{IsAt}
-use Rattle.axp_cpu.specs.declared.processors.Processor.{Processor}
+use Rattle.axp_base.specs.declared.parts.TheConstants.{QUADWORD_BYTES}
+use Rattle.axp_base.specs.declared.processors.TheConstants.{MAX_CPUS, MAX_BUDGET}
 use Rattle.axp_image.specs.Contents.{Contents, IsValid}
+use Rattle.axp_model.specs.PlainTurns.{turns}
+use Rattle.axp_model.specs.PlainSources.{memory_byte, is_touched}
 use Rattle.axp_machine.specs.declared.machine.Machine.TheInside.{Inside}
-use Rattle.axp_machine.specs.Runs.{Seen}
-use Rattle.axp_world.specs.declared.lengths.TheConstants.{EVENTS_PER_STEP}
-use Rattle.axp_world.specs.Worlds.{World, IsPlayed, image_bytes, world}
+use Rattle.axp_cpu.specs.declared.processors.Processor.{Processor}
+use Rattle.axp_cpu.specs.Stands.{Stands}
+use Rattle.axp_machine.specs.Plains.{Plain}
+use Rattle.axp_machine.specs.Runs.{Seen, IsRunOf, seat}
 
 -- the records, newest first
 abbrev pub history : Inside → List Record
@@ -19,20 +20,23 @@ history a = reverse a.records.items
 abbrev pub seen : Inside → Seen
 seen a = record { image = a.image; cpus = length a.processors.items; budget = a.budget; records = history a }
 
--- each processor is the world's
-abbrev pub AreSeated : World → List Processor → Type 0
-AreSeated w ps = (p : ℕ) (x : Processor) → slice_get ps p ≡ Some x → IsAt x (w.actors p)
+-- the memory is the image's, overwritten by the history's writes
+pub record MemoryIs (image : Contents) (m : Plain) (h : List Record) : Type 0 where
+  pub size : length m.bytes ≡ image.size
+  pub bytes : (k : ℕ) → k < image.size → slice_index m.bytes k ≡ memory_byte image.segments h k
+  pub marks : length m.touched ≡ image.size / QUADWORD_BYTES
+  pub touched : (q : ℕ) → q < image.size / QUADWORD_BYTES → slice_get m.touched q ≡ Some (is_touched h q)
+
+-- each processor is at its seat
+abbrev pub AreSeated : Contents → ℕ → List Processor → List Record → Type 0
+AreSeated image budget ps h = (p : ℕ) (x : Processor) → slice_get ps p ≡ Some x → Stands x (seat image budget p h)
 
 pub record Ties (a : Inside) : Type 0 where
   pub valid : IsValid a.image
-  pub seats : AreSeated (world a.image a.budget (history a)) a.processors.items
-  pub bus : bus.Stands a.bus (image_bytes a.image) (world a.image a.budget (history a)).calls
-  pub size : length a.bus.memory ≡ a.image.size
-  pub lanes : length a.bus.lanes ≡ length a.processors.items
-  pub run : IsPlayed a.image (length a.processors.items) a.budget (history a)
-  pub least_cpus : MIN_CPUS ≤ length a.processors.items
-  pub most_cpus : length a.processors.items ≤ MAX_CPUS
-  pub least_budget : 1 ≤ a.budget
-  pub most_budget : a.budget ≤ MAX_BUDGET
-  pub room : vec_capacity a.records ≡ EVENTS_PER_STEP * length a.processors.items * a.budget
-  pub bus_room : a.bus.room ≡ EVENTS_PER_STEP * length a.processors.items * a.budget
+  pub memory : MemoryIs a.image a.memory (history a)
+  pub turns : a.turns ≡ turns (history a)
+  pub seats : AreSeated a.image a.budget a.processors.items (history a)
+  pub run : IsRunOf a.image (length a.processors.items) a.budget (history a)
+  pub cpus : length a.processors.items ≤ MAX_CPUS
+  pub budget : a.budget ≤ MAX_BUDGET
+  pub room : vec_capacity a.records ≡ length a.processors.items * a.budget

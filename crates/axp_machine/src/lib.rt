@@ -1,17 +1,18 @@
-//! The machine: processors over the bus, by the events that they are given.
+//! The machine: processors over one plain memory, by the events that they are given.
 //!
-//! What an event gives after any records is `answer_of` (`specs/Runs.antt`): each processor goes by its
-//! own events and by the bus's answers (`axp_world`), and that is what the memory model says of the
-//! records.
+//! A step makes one access, and leaves a record; the machine keeps its records. What a processor does
+//! is the instruction table of `axp_cpu`. What an event gives after any records is `outcome_of`
+//! (`specs/Runs.antt`).
 #![tactic(auto)]
 
 mod laws;
 mod machine;
+mod plain_memory;
+mod steps;
 
-pub use axp_cpu::Refusal;
 pub use axp_regs::{REGISTERS, ZERO_REGISTER};
-pub use laws::records_are_a_run;
-pub use machine::Machine;
+pub use laws::{records_are_a_run, refused_events};
+pub use machine::{Machine, NotBuilt};
 
 #[cfg(test)]
 mod tests;

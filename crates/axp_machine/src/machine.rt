@@ -1,27 +1,33 @@
-ghost use Rattle.std.specs.Prelude.{◌≡◌, ◌+◌, ◌≤◌, ◌<◌, ◌^◌, length, IfOk, Ok};
-ghost use Rattle.axp_base.specs.Cpus.{cpu_number};
-ghost use Rattle.axp_base.specs.declared.processors.TheConstants.{MAX_BUDGET, MAX_CPUS};
-ghost use Rattle.axp_machine.specs.Playing.{Grants, IsGranted, MayPlay, Plays};
-ghost use Rattle.axp_machine.specs.Starts.{StartsAll};
+ghost use Rattle.std.specs.Prelude.{◌≡◌, ◌+◌, ◌≤◌, ◌<◌, ◌^◌, length, IfOk};
+ghost use Rattle.axp_base.specs.declared.processors.TheConstants.{MAX_CPUS};
+ghost use Rattle.axp_cpu.specs.Soundness.{IsInside};
+ghost use Rattle.axp_machine.specs.Plains.{after_access};
+ghost use Rattle.axp_machine.specs.Runs.{is_step};
+ghost use Rattle.axp_machine.specs.Steps.{StartsAll};
+ghost use Rattle.axp_model.specs.PlainTurns.{turns_of_kind};
 
-use axp_access::{Act, Event, Outcome, Record};
+use crate::plain_memory::PlainMemory;
+use crate::steps::{Step, next_step};
+use axp_access::{Access, Act, Event, Kind, Outcome, Record};
 use axp_base::{Cpu, MAX_BUDGET, MAX_CPUS, MIN_CPUS, NoMemory, QUADWORD_BYTES};
-use axp_bus::Bus;
-use axp_cpu::{Ask2, Processor, Refusal};
+use axp_cpu::Processor;
 use axp_image::Image;
-use axp_line::Request;
 use axp_regs::REGISTERS;
-use axp_world::EVENTS_PER_STEP;
 use std::alloc::Global;
 use std::marker::Model;
 
-/// Processors over the bus, with the records of what they did.
+/// The event is not built.
+#[derive(Clone, Copy, Debug, PartialEq, Eq)]
+pub struct NotBuilt;
+
+/// Processors over one plain memory, with the records of what they did.
 #[derive(Drop)]
 pub struct Machine {
     image: Image,
+    memory: PlainMemory,
     processors: Vec<Processor>,
-    bus: Bus,
     budget: u32,
+    turns: u64,
     records: Vec<Record>,
 }
 
@@ -42,13 +48,14 @@ impl Machine {
     ghost use Rattle.axp_access.specs.Spelling.{Spells};
     ghost use Rattle.axp_base.specs.Cpus.{cpu_number};
     ghost use Rattle.axp_image.specs.Contents.{IsValid};
+    ghost use Rattle.axp_model.specs.PlainSources.{is_touched};
     ghost use Rattle.axp_regs.specs.States.{pc_of, register};
-    ghost use Rattle.axp_cpu.specs.ActorStands.{IsAt};
-    ghost use Rattle.axp_machine.specs.Runs.{started, answer_of, after_event, IsRun, is_complete, actor_of, table_of, steps_of, quadword_of, touches};
+    ghost use Rattle.axp_cpu.specs.Stands.{Stands};
+    ghost use Rattle.axp_machine.specs.Runs.{started, outcome_of, answer_of, after_event, with_record, IsRun, is_complete, seat_of, table_of, steps_of, quadword_of};
+    ghost use Rattle.axp_machine.specs.Steps.{IsChosen, IsStepOf, record_of};
 
     /// A machine at the start: `cpus` processors, 2 to 8, each with a budget of steps, 1 to 32,768,
-    /// over the image's memory. All room that the records, the late invalidations and the console take
-    /// is taken here.
+    /// over the image's memory. All room that the records take is taken here.
     pub fn load(alloc: Global, image: &Image, cpus: u8, budget: u32) -> Result<Machine, NoMemory>
         requires least_cpus { MIN_CPUS ≤ cpus }
         requires most_cpus { cpus ≤ MAX_CPUS }
@@ -57,15 +64,15 @@ impl Machine {
         ensures { IfOk result (λ m. m ≡ started image.now cpus budget) }
     {
         let processors = start_all(alloc, image, budget, cpus)?;
-        let room = EVENTS_PER_STEP * u32::from(cpus) * budget;
-        let bus = Bus::load(alloc, image, cpus, room)?;
-        let records = Vec::with_capacity(alloc, room as usize)?;
+        let memory = PlainMemory::load(alloc, image)?;
+        let records = Vec::with_capacity(alloc, usize::from(cpus) * budget as usize)?;
         let image = image.copy(alloc)?;
         Ok(Machine {
             image,
+            memory,
             processors,
-            bus,
             budget,
+            turns: 0,
             records,
         })
     }
@@ -101,22 +108,21 @@ impl Machine {
         self.records.len() as u32
     }
 
-    /// Whether every processor is finished (halted, or its budget of steps made) and no write waits in
-    /// a buffer.
+    /// Whether every processor is finished: halted, or its budget of steps made.
     pub fn complete(&self) -> bool
         ensures { result ≡ is_complete self.now }
     {
-        let mut done = true;
+        let mut finished = true;
         for processor in &self.processors {
-            done &= processor.finished() && processor.drained();
+            finished &= processor.finished();
         }
-        done
+        finished
     }
 
     /// The processor of this number.
     fn processor(&self, cpu: Cpu) -> &Processor
         requires { cpu_number cpu < self.now.cpus }
-        ensures { IsAt result.now (actor_of self.now (cpu_number cpu)) }
+        ensures { Stands result.now (seat_of self.now (cpu_number cpu)) }
     {
         &self.processors[usize::from(cpu.number())]
     }
@@ -154,12 +160,12 @@ impl Machine {
         self.processor(cpu).steps()
     }
 
-    /// Whether a turn wrote a byte of the aligned quadword of this number.
+    /// Whether a write touched the aligned quadword of this number.
     pub fn is_touched(&self, quadword: u64) -> bool
         requires { quadword * QUADWORD_BYTES < self.now.image.size }
-        ensures { result ≡ touches self.now quadword }
+        ensures { result ≡ is_touched self.now.records quadword }
     {
-        self.bus.is_touched(quadword)
+        self.memory.is_touched(quadword)
     }
 
     /// What memory has in the aligned quadword of this number.
@@ -167,71 +173,60 @@ impl Machine {
         requires { quadword * QUADWORD_BYTES < self.now.image.size }
         ensures { result ≡ quadword_of self.now quadword }
     {
-        self.bus.tail_memory(quadword * QUADWORD_BYTES)
+        self.memory
+            .read(quadword * QUADWORD_BYTES, QUADWORD_BYTES as u8)
     }
 
-    /// Does an event and tells its outcome, and keeps the record of both. [`Refusal::NotLegal`] exactly
-    /// where its processor is not one of the machine's, or the event is not legal after the records so
-    /// far; [`Refusal::NotBuilt`] exactly where it is legal and comes to what is not built. A refused
-    /// event leaves the machine as it was.
-    #[tactic(auto, unfolding(crate::specs::Runs::answer_of, crate::specs::Runs::after_event))]
-    pub fn event(&mut self, event: Event) -> Result<Outcome, Refusal>
-        ensures answer { result ≡ answer_of self.old event }
+    /// Does an event. It is accepted exactly where it is a step, its processor is one of the machine's
+    /// and not finished, and all that the step leads to is built; a refused event leaves the machine
+    /// as it was.
+    #[tactic(auto, unfolding(crate::specs::Runs::after_event))]
+    pub fn event(&mut self, event: Event) -> Result<Outcome, NotBuilt>
+        ensures answer { result ≡ answer_of (outcome_of self.old event) }
         ensures after { self.new ≡ after_event self.old event }
         ensures run { IsRun self.new }
         ensures spelled { IfOk result (Spells event) }
     {
-        let at = usize::from(event.cpu.number());
-        if at >= self.processors.len() {
-            return Err(Refusal::NotLegal);
+        match self.choose(event) {
+            Some(step) => Ok(self.make(event, step)),
+            None => Err(NotBuilt),
         }
-        let ask = match grant(&self.processors[at], &self.bus, event) {
-            Ok(ask) => ask,
-            Err(refusal) => return Err(refusal),
-        };
-        let outcome = play(&mut self.processors[at], &mut self.bus, event, ask);
+    }
+
+    /// The step that an event makes; `None` where it is refused.
+    fn choose(&self, event: Event) -> Option<Step>
+        ensures chosen { IsChosen self.now event result }
+        ensures run { IsRun self.now }
+    {
+        let processors = self.processors.as_slice();
+        if is_step(event.act) {
+            next_step(processors, &self.memory, self.turns, event.cpu)
+        } else {
+            None
+        }
+    }
+
+    /// Makes the step of an event.
+    fn make(&mut self, event: Event, step: Step) -> Outcome
+        requires { IsStepOf self.old event step }
+        ensures outcome { Some result ≡ outcome_of self.old event }
+        ensures after { self.new ≡ with_record self.old (record_of event step) }
+        ensures run { IsRun self.new }
+        ensures spelled { Spells event result }
+    {
+        make_access(&mut self.memory, &mut self.turns, &step.access);
+        self.processors[usize::from(event.cpu.number())] = step.processor;
+        let outcome = Outcome::Access(step.access);
         self.records.push_reserved(Record { event, outcome });
-        Ok(outcome)
+        outcome
     }
 }
 
-/// What an event asks of the bus, or why it is refused: a take where nothing is late is not legal.
-fn grant(processor: &Processor, bus: &Bus, event: Event) -> Result<Ask2, Refusal>
-    requires { MayPlay processor.now bus.now event }
-    ensures { Grants processor.now bus.now event result }
+/// Whether an act is a step.
+fn is_step(act: Act) -> bool
+    ensures { result ≡ is_step act }
 {
-    let ask = match processor.request(event.act) {
-        Ok(ask) => ask,
-        Err(refusal) => return Err(refusal),
-    };
-    if is_vain(&ask, bus, event.cpu) {
-        Err(Refusal::NotLegal)
-    } else {
-        Ok(ask)
-    }
-}
-
-/// Whether it is a take where nothing is late.
-fn is_vain(ask: &Ask2, bus: &Bus, cpu: Cpu) -> bool
-    requires { cpu_number cpu < length bus.now.lanes }
-    ensures { IsVain bus.now cpu ask.now result }
-{
-    match ask {
-        Ask2::Bus(Request::Take { bank }) => !bus.late(cpu, *bank),
-        _ => false,
-    }
-}
-
-/// Does a granted event: the bus answers what is asked, and the processor goes on.
-fn play(processor: &mut Processor, bus: &mut Bus, event: Event, ask: Ask2) -> Outcome
-    requires { IsGranted processor.old bus.old event ask }
-    ensures { Plays processor.old processor.new bus.old bus.new event ask result }
-{
-    let reply = match ask {
-        Ask2::Private => None,
-        Ask2::Bus(request) => Some(bus.turn(event.cpu, &request)),
-    };
-    processor.advance(event.act, reply)
+    matches!(act, Act::Step)
 }
 
 /// All processors at the start.
@@ -252,4 +247,20 @@ fn start_all(
         processors.push(Processor::start(cpu, image, budget))?;
     }
     Ok(processors)
+}
+
+/// Makes an access on memory: a write is a turn.
+fn make_access(memory: &mut PlainMemory, turns: &mut u64, access: &Access)
+    requires inside { IsInside (length memory.old.bytes) access.now.kind access.now.address access.now.size }
+    requires turns { turns.old < 2 ^ 32 }
+    ensures memory { memory.new ≡ after_access access.now memory.old }
+    ensures turns { turns.new ≡ turns_of_kind access.now.kind + turns.old }
+{
+    match access.kind {
+        Kind::Write => {
+            memory.write(access.address, access.size, access.value);
+            *turns += 1;
+        }
+        _ => {}
+    }
 }
