@@ -6,8 +6,8 @@ mod laws;
 mod messages;
 
 pub use contents::{LineData, NoRoom};
-pub use messages::{Held, MAX_HELD, Reply, Request};
 pub use laws::{line_is_whole, merged_bytes};
+pub use messages::{Held, MAX_HELD, Reply, Request};
 
 #[cfg(test)]
 mod tests;

@@ -100,14 +100,14 @@ success_by _ r = false
 abbrev pub step_outcome : Cpu → Option Wanted → Kept → Option Reply → Outcome
 step_outcome cpu None u r = outcome.NoAccess
 step_outcome cpu (Some w) u r = outcome.Access (record {
-    cpu = cpu;
-    kind = w.kind;
-    address = w.address;
-    size = w.size;
-    value = shown_by w.kind w u r;
-    yes = success_by w.kind r;
-    place = place_by w.kind (line_of w.address) u r;
-  })
+  cpu = cpu;
+  kind = w.kind;
+  address = w.address;
+  size = w.size;
+  value = shown_by w.kind w u r;
+  yes = success_by w.kind r;
+  place = place_by w.kind (line_of w.address) u r;
+})
 
 abbrev pub fill_outcome : Option Wanted → Option Reply → Outcome
 fill_outcome None r = outcome.NoAccess
