@@ -55,6 +55,16 @@ impl LateQueue {
         Some(self.pairs.remove(0))
     }
 
+    /// The oldest pair, which stays. `None`: the queue is empty.
+    pub fn oldest(&self) -> Option<(Line, u64)>
+        ensures { result ≡ oldest self.now.pairs }
+    {
+        if self.pairs.is_empty() {
+            return None;
+        }
+        Some(self.pairs[0])
+    }
+
     /// Whether no pair is kept.
     pub fn is_empty(&self) -> bool
         ensures value { IsTrue result ↔ (self.now.pairs ≡ []) }

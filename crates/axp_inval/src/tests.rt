@@ -9,9 +9,11 @@ fn pairs_come_in_order(rt: HostRuntime) -> Result<(), Fail> {
     let second = Line::of(0x4040);
     assert_eq!(rt; queue.is_empty(), true);
     assert_eq!(rt; queue.take(), None);
+    assert_eq!(rt; queue.oldest(), None);
 
     queue.add(first, 5);
     queue.add(second, 7);
+    assert_eq!(rt; queue.oldest(), Some((first, 5)));
     queue.add(first, 9);
     assert_eq!(rt; queue.is_empty(), false);
     assert_eq!(rt; queue.later(first, 8), true);

@@ -20,3 +20,16 @@ fn lines_hold_what_is_put(rt: HostRuntime) {
     assert_eq!(rt; line.get(8, 8), 0x4433_FFFF);
     assert_eq!(rt; line.get(56, 8), 0x0102_0304_0506_0708);
 }
+
+#[test]
+fn held_lines_stay_in_order(rt: HostRuntime) {
+    let mut held = Held::empty();
+    assert_eq!(rt; held.len(), 0);
+    held.push(0x4080, 7);
+    held.push(0x4040, 9);
+    assert_eq!(rt; held.len(), 2);
+    if held.len() == 2 {
+        assert_eq!(rt; held.get(0), (0x4080, 7));
+        assert_eq!(rt; held.get(1), (0x4040, 9));
+    }
+}

@@ -1,0 +1,6 @@
+pub mod LineLemmas
+pub mod GoneLemmas
+pub mod LaneLemmas
+pub mod TidyLemmas
+pub mod StandLemmas
+pub mod ReplyLemmas

@@ -1,0 +1,88 @@
+-- A bus stands for its calls, before one more and after it.
+use Rattle.std.proofs.Common.{◌≡◌, ℕ, ◌+◌, ◌<◌, ◌++◌, eqb, Bool, true, false, cond, not, List, [], ◌∷◌, Option, Some, None, length, get_or, refl, ap, ap₂, sym, subst, ◌∙◌, arith}
+use Rattle.axp_base.specs.Cpus.{cpu_number}
+use Rattle.axp_base.specs.declared.lines.Bank.{Bank}
+use Rattle.axp_base.specs.declared.lines.Bank.TheVariants.{Even, Odd, Code}
+use Rattle.axp_base.specs.declared.lines.Line.{Line}
+use Rattle.axp_base.specs.declared.processors.Cpu.{Cpu}
+use Rattle.axp_inval.specs.Queues.{Queue}
+use Rattle.axp_line.specs.declared.messages.Request.{Request}
+use Rattle.axp_line.specs.declared.messages.Request.TheVariants as request
+use Rattle.axp_line.specs.declared.messages.Reply.{Reply}
+use Rattle.axp_line.specs.declared.messages.Reply.TheVariants as reply
+use Rattle.axp_model.specs.Late.{late_by_other}
+use Rattle.axp_model.specs.Legal.{is_empty}
+use Rattle.axp_model.specs.BusCalls.{BusCall, memory, turns, late, late_by_own, line_written, overwritten, wrote, is_turn, printed_by}
+use Rattle.axp_model.specs.BusReply.{bus_reply, reply_by}
+use Rattle.axp_bus.specs.Lanes.{IsLane, late_after, lock_after, pending_after}
+use Rattle.axp_bus.specs.Buses.{State, Agrees, NotedAll, front_of}
+use Rattle.axp_bus.specs.BusStands.{Stands, call_of}
+use Rattle.axp_bus.specs.declared.lanes.Lane.{Lane}
+
+pub reply_is : (b : State) (image : ℕ → ℕ) (cs : List BusCall) (p : ℕ) (lane : Lane) (q : Request) → Stands b image cs → p < length b.lanes → lane ≡ get_or b.lanes p lane
+    → reply_by (front_of (memory image cs) b.turns lane) q ≡ bus_reply image cs p q
+reply_is b image cs p lane q st below here =
+    let is = subst (λ (l : Lane). IsLane l p cs) (sym here) (st.lanes p lane below) in
+    rw (st.turns, is.even, is.odd, is.lock, is.pending) refl
+
+lanes_after : (old new : State) (image : ℕ → ℕ) (cs : List BusCall) (cpu : Cpu) (q : Request) (a : Reply) → Stands old image cs
+    → NotedAll (cpu_number cpu) (old.turns + 1) q a old.lanes new.lanes → length new.lanes ≡ length old.lanes
+    → (p : ℕ) (d : Lane) → p < length new.lanes → IsLane (get_or new.lanes p d) p (call_of cpu q a ∷ cs)
+lanes_after old new image cs cpu q a st noted size p d below =
+    let here : p < length old.lanes = omega (arith, size) in
+    let mine = noted p d here in
+    let was = st.lanes p d here in
+    let own = eqb (cpu_number cpu) p in
+    record {
+      even = ap (λ (x : Queue). x.pairs) mine.even ∙ ap₂ (λ t pairs. late_after own Even q a (t + 1) pairs) st.turns was.even;
+      odd = ap (λ (x : Queue). x.pairs) mine.odd ∙ ap₂ (λ t pairs. late_after own Odd q a (t + 1) pairs) st.turns was.odd;
+      lock = mine.lock ∙ ap (lock_after own q a) was.lock;
+      pending = mine.pending ∙ ap (pending_after own p q) was.pending;
+    }
+
+pub stands_after : (old new : State) (image : ℕ → ℕ) (cs : List BusCall) (cpu : Cpu) (q : Request) (a : Reply) → Stands old image cs
+    → a ≡ bus_reply image cs (cpu_number cpu) q
+    → Agrees new.memory (overwritten (wrote q a) (memory image cs))
+    → new.turns ≡ cond (is_turn a) (old.turns + 1) old.turns
+    → NotedAll (cpu_number cpu) (old.turns + 1) q a old.lanes new.lanes → length new.lanes ≡ length old.lanes
+    → new.printed ≡ old.printed ++ printed_by q
+    → Stands new image (call_of cpu q a ∷ cs)
+stands_after old new image cs cpu q a st replied bytes counted noted size printed = record {
+  memory = bytes;
+  turns = counted ∙ ap (λ t. cond (is_turn a) (t + 1) t) st.turns;
+  lanes = lanes_after old new image cs cpu q a st noted size;
+  printed = printed ∙ ap (λ bytes. bytes ++ printed_by q) st.printed;
+  replied = (replied, st.replied);
+}
+
+-- nothing is late in the code bank
+pub none_of_code : (p : ℕ) (cs : List BusCall) → late p Code cs ≡ []
+none_of_code p [] = refl
+none_of_code p (c ∷ cs) = rw (none_of_code p cs) (none_after (eqb (cpu_number c.cpu) p)) where
+  by_own : (q : Request) (a : Reply) → late_by_own Code q a [] ≡ []
+  by_own (request.Barrier held) a = refl
+  by_own (request.CodeBarrier held) a = refl
+  by_own (request.Take Even) (reply.Late line turn) = refl
+  by_own (request.Take Odd) (reply.Late line turn) = refl
+  by_own (request.Take Code) (reply.Late line turn) = refl
+  by_own _ _ = refl
+
+  by_other : (w : Option Line) → late_by_other Code w (turns cs + 1) [] ≡ []
+  by_other None = refl
+  by_other (Some line) = refl
+
+  none_after : (own : Bool) → cond own (late_by_own Code c.ask c.answer []) (late_by_other Code (line_written (wrote c.ask c.answer)) (turns cs + 1) []) ≡ []
+  none_after true = by_own c.ask c.answer
+  none_after false = by_other (line_written (wrote c.ask c.answer))
+
+-- whether something is late
+pub late_is : (b : State) (image : ℕ → ℕ) (cs : List BusCall) (p : ℕ) (lane : Lane) (bank : Bank) (answer : Bool) → Stands b image cs → p < length b.lanes → lane ≡ get_or b.lanes p lane
+    → (bank ≡ Even → answer ≡ not (is_empty lane.even.pairs)) → (bank ≡ Odd → answer ≡ not (is_empty lane.odd.pairs)) → (bank ≡ Code → answer ≡ false)
+    → answer ≡ not (is_empty (late p bank cs))
+late_is b image cs p lane Even answer st below here even odd code =
+    let is = subst (λ (l : Lane). IsLane l p cs) (sym here) (st.lanes p lane below) in
+    even refl ∙ ap (λ (pairs : List (Line × ℕ)). not (is_empty pairs)) is.even
+late_is b image cs p lane Odd answer st below here even odd code =
+    let is = subst (λ (l : Lane). IsLane l p cs) (sym here) (st.lanes p lane below) in
+    odd refl ∙ ap (λ (pairs : List (Line × ℕ)). not (is_empty pairs)) is.odd
+late_is b image cs p lane Code answer st below here even odd code = code refl ∙ ap (λ (pairs : List (Line × ℕ)). not (is_empty pairs)) (sym (none_of_code p cs))

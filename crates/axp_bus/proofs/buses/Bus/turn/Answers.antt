@@ -1,0 +1,46 @@
+use Rattle.std.proofs.Common.{◌≡◌, ◌+◌, ◌<◌, ◌≤◌, ◌%◌, length, get_or, subst, sym, ap, ◌∙◌, arith}
+use Rattle.std.proofs.lemmas.List.{length-append, with_items_is}
+use Rattle.axp_base.specs.Cpus.{cpu_number}
+use Rattle.axp_base.specs.declared.lines.TheConstants.{LINE_BYTES}
+use Rattle.axp_base.specs.declared.processors.TheConstants.{MAX_CPUS}
+use Rattle.axp_model.specs.BusCalls.{memory}
+use Rattle.axp_bus.specs.Buses.{State, AreTidy, NotedAll}
+use Rattle.axp_bus.specs.BusParts.{state_of}
+use Rattle.axp_bus.specs.BusStands.{Stands}
+use Rattle.axp_bus.proofs.StandLemmas.{reply_is, stands_after}
+use Rattle.axp_bus.proofs.TidyLemmas.{after_within, printed_few, tidy_step}
+use Rattle.axp_bus.proofs.buses.Bus.turn.Goals as goal
+
+pub invariant_of-self : goal.invariant_of-self
+invariant_of-self c =
+    let b = c.self.inside in
+    let less : b.turns < b.room = subst (λ (s : State). s.turns < s.room) (sym c.self.view_is) c.requires.turns in
+    let fewer : length b.printed.items < b.room = subst (λ (s : State). length s.printed < s.room) (sym c.self.view_is) c.requires.printed in
+    let size : length c.note_all.new.lanes ≡ length b.lanes.items = c.note_all.ensures.size ∙ ap length c.as_mut_slice.ensures.value in
+    let items = with_items_is b.lanes c.note_all.new.lanes (omega (arith, size, b.lanes.ok.0)) in
+    let noted = subst (λ old. NotedAll (cpu_number c.args.cpu) (b.turns + 1) c.args.request.now c.reply_at-reply.result old c.note_all.new.lanes) c.as_mut_slice.ensures.value c.note_all.ensures.noted in
+    record {
+      memory = ap (λ n. n % LINE_BYTES) c.write_down.ensures.size ∙ c.self.invariant.memory;
+      turns = subst (λ t. t ≤ b.room) (sym c.turns_after-self-inside.ensures) (after_within b.turns b.room c.reply_at-reply.result less);
+      small = c.self.invariant.small;
+      cpus = subst (λ ls. length ls ≤ MAX_CPUS) (sym items) (omega (arith, size, c.self.invariant.cpus));
+      lanes = subst (λ ls. AreTidy c.turns_after-self-inside.result b.room ls) (sym items)
+          (tidy_step b.turns c.turns_after-self-inside.result b.room (cpu_number c.args.cpu) c.args.request.now c.reply_at-reply.result b.lanes.items c.note_all.new.lanes
+          c.self.invariant.lanes size noted c.turns_after-self-inside.ensures);
+      printed = omega (arith, fewer, ap length c.print.ensures.bytes, length-append b.printed.items (Rattle.axp_model.specs.BusCalls.printed_by c.args.request.now), printed_few c.args.request.now);
+      space = subst (λ n. b.room ≤ n) (sym c.print.ensures.space) c.self.invariant.space;
+    }
+
+pub returns-clause-stands : goal.returns-clause-stands
+returns-clause-stands c = λ image calls stands.
+    let b = c.self.inside in
+    let was = subst (λ (s : State). Stands s image calls) (sym c.self.view_is) stands in
+    let size : length c.note_all.new.lanes ≡ length b.lanes.items = c.note_all.ensures.size ∙ ap length c.as_mut_slice.ensures.value in
+    let items = with_items_is b.lanes c.note_all.new.lanes (omega (arith, size, b.lanes.ok.0)) in
+    let noted = subst (λ old. NotedAll (cpu_number c.args.cpu) (b.turns + 1) c.args.request.now c.reply_at-reply.result old c.note_all.new.lanes) c.as_mut_slice.ensures.value c.note_all.ensures.noted in
+    let lane = c.index-lane.result.now in
+    let number = c.from.ensures ∙ c.number.ensures.value in
+    let here = subst (λ n. lane ≡ get_or b.lanes.items n lane) number c.index-lane.ensures in
+    let below = subst (λ (s : State). cpu_number c.args.cpu < length s.lanes) (sym c.self.view_is) c.requires.cpu in
+    let replied = c.reply_at-reply.ensures (memory image calls) was.memory ∙ reply_is (state_of b) image calls (cpu_number c.args.cpu) lane c.args.request.now was below here in
+    stands_after (state_of b) _ image calls c.args.cpu c.args.request.now c.reply_at-reply.result was replied (c.write_down.ensures.bytes (memory image calls) was.memory) c.turns_after-self-inside.ensures (subst (λ ls. NotedAll (cpu_number c.args.cpu) (b.turns + 1) c.args.request.now c.reply_at-reply.result b.lanes.items ls) (sym items) noted) (ap length items ∙ size) c.print.ensures.bytes

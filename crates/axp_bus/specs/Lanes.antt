@@ -1,0 +1,59 @@
+-- What the bus keeps for one processor.
+use Rattle.std.specs.Prelude.{◌≡◌, ℕ, ◌<◌, Bool, true, false, ◌&&◌, if◌then◌else◌, List, [], length, get_or, Option, None}
+use Rattle.axp_base.specs.declared.lines.Bank.{Bank}
+use Rattle.axp_base.specs.declared.lines.Bank.TheVariants.{Even, Odd}
+use Rattle.axp_base.specs.declared.lines.Line.{Line}
+use Rattle.axp_inval.specs.Queues.{Queue, queue, AreBefore}
+use Rattle.axp_line.specs.declared.messages.Reply.{Reply}
+use Rattle.axp_line.specs.declared.messages.Request.{Request}
+use Rattle.axp_lockreg.specs.Blocks.{locked_block}
+use Rattle.axp_model.specs.Late.{late_by_other}
+use Rattle.axp_model.specs.Locks.{lock_by_other}
+use Rattle.axp_model.specs.BusCalls.{BusCall, wrote, line_written, late, late_by_own, lock_by_own, register, signals, takes_interrupt, pending}
+use Rattle.axp_bus.specs.declared.lanes.Lane.{Lane}
+
+-- what a call leaves late for a processor, by whether it is its own
+abbrev pub late_after : Bool → Bank → Request → Reply → ℕ → List (Line × ℕ) → List (Line × ℕ)
+late_after own b q a turn pairs = if own then late_by_own b q a pairs else late_by_other b (line_written (wrote q a)) turn pairs
+
+-- the block that it leaves locked
+abbrev pub lock_after : Bool → Request → Reply → Option ℕ → Option ℕ
+lock_after own q a block = if own then lock_by_own q block else lock_by_other (line_written (wrote q a)) block
+
+-- whether an interrupt of the processor p is requested after it
+abbrev pub pending_after : Bool → ℕ → Request → Bool → Bool
+pending_after own p q before = if signals p q then true else if own && takes_interrupt q then false else before
+
+-- a lane of processor p after a call, whose turn has this number if it makes one
+pub record Noted (own : Bool) (p turn : ℕ) (q : Request) (a : Reply) (old new : Lane) : Type 0 where
+  pub even : new.even ≡ queue (late_after own Even q a turn old.even.pairs) old.even.room
+  pub odd : new.odd ≡ queue (late_after own Odd q a turn old.odd.pairs) old.odd.room
+  pub lock : locked_block new.lock ≡ lock_after own q a (locked_block old.lock)
+  pub pending : new.pending ≡ pending_after own p q old.pending
+
+-- a queue has room for one more pair, of this turn
+pub record HasRoom (turn : ℕ) (q : Queue) : Type 0 where
+  pub room : length q.pairs < q.room
+  pub newest : AreBefore turn q.pairs
+
+pub record LaneHasRoom (turn : ℕ) (lane : Lane) : Type 0 where
+  pub even : HasRoom turn lane.even
+  pub odd : HasRoom turn lane.odd
+
+-- a lane of nothing, with this room
+pub record IsFresh (room : ℕ) (lane : Lane) : Type 0 where
+  pub even : lane.even ≡ queue [] room
+  pub odd : lane.odd ≡ queue [] room
+  pub lock : locked_block lane.lock ≡ None
+  pub pending : lane.pending ≡ false
+
+-- each lane is of nothing, with this room
+abbrev pub AreFresh : ℕ → List Lane → Type 0
+AreFresh room lanes = (p : ℕ) (d : Lane) → p < length lanes → IsFresh room (get_or lanes p d)
+
+-- the lane is processor p's after these calls
+pub record IsLane (lane : Lane) (p : ℕ) (cs : List BusCall) : Type 0 where
+  pub even : lane.even.pairs ≡ late p Even cs
+  pub odd : lane.odd.pairs ≡ late p Odd cs
+  pub lock : locked_block lane.lock ≡ register p cs
+  pub pending : lane.pending ≡ pending p cs

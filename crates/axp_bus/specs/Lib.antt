@@ -1,0 +1,6 @@
+pub mod Writes
+pub mod Lanes
+pub mod Buses
+pub mod BusStands
+pub mod BusParts
+pub mod ReplyLaws

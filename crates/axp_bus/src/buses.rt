@@ -1,0 +1,159 @@
+//! The bus.
+ghost use Rattle.std.specs.Prelude.{◌≡◌, ◌+◌, ◌++◌, ◌*◌, ◌%◌, ◌^◌, ◌<◌, ◌≤◌, ◌∷◌, [], ℕ, List, IfOk, false, length, not, if◌then◌else◌};
+ghost use Rattle.axp_base.specs.Cpus.{cpu_number};
+ghost use Rattle.axp_base.specs.Parts.{number_at};
+ghost use Rattle.axp_base.specs.declared.lines.Bank.TheVariants.{Code};
+ghost use Rattle.axp_base.specs.declared.parts.TheConstants.{QUADWORD_BYTES};
+ghost use Rattle.axp_base.specs.declared.processors.TheConstants.{MAX_CPUS, MIN_CPUS};
+ghost use Rattle.axp_image.specs.Contents.{byte_in};
+ghost use Rattle.axp_memory.specs.Bytes.{AreLines};
+ghost use Rattle.axp_model.specs.BusCalls.{BusCall, console, is_turn, late, memory, printed_by, turns};
+ghost use Rattle.axp_model.specs.BusReply.{bus_reply};
+ghost use Rattle.axp_model.specs.Legal.{is_empty};
+ghost use Rattle.axp_bus.specs.Buses.{MayAsk};
+ghost use Rattle.axp_bus.specs.BusStands.{Stands, call_of};
+
+use crate::lanes::{Lane, fresh_lanes};
+use crate::replies::reply_at;
+use crate::steps::{note_all, print, turns_after, write_down};
+use axp_base::{Bank, Cpu, LINE_BYTES, Line, NoMemory, QUADWORD_BYTES};
+use axp_image::Image;
+use axp_line::{Reply, Request};
+use axp_memory::Ram;
+use std::alloc::Global;
+use std::marker::Model;
+
+/// The bus: memory, what it keeps for each processor, how many turns were made, and what went to the
+/// console. All room is taken when it is made.
+#[derive(Debug, Drop)]
+pub struct Bus {
+    memory: Ram,
+    turns: u64,
+    lanes: Vec<Lane>,
+    printed: Vec<u8>,
+    room: u32,
+}
+
+impl Model for Bus {
+    ghost use Rattle.axp_bus.specs.Buses.{State};
+
+    ghost Value = { State };
+
+    ghost use Rattle.axp_bus.specs.BusParts.{state_of, IsTidy};
+
+    ghost view = { state_of };
+
+    ghost invariant = { IsTidy };
+}
+
+impl Bus {
+    /// The bus of the memory that an image describes and of `cpus` processors, with room for `room`
+    /// turns and for as many bytes to the console; [`NoMemory`] where memory was not found for it.
+    pub fn load(alloc: Global, image: &Image, cpus: u8, room: u32) -> Result<Bus, NoMemory>
+        requires least { MIN_CPUS ≤ cpus }
+        requires most { cpus ≤ MAX_CPUS }
+        ensures stands { IfOk result (λ b. Stands b (byte_in image.now.segments) []) }
+        ensures size { IfOk result (λ b. length b.memory ≡ image.now.size) }
+        ensures cpus { IfOk result (λ b. length b.lanes ≡ cpus) }
+        ensures room { IfOk result (λ b. b.room ≡ room) }
+    {
+        let memory = Ram::load(alloc, image)?;
+        let lanes = fresh_lanes(alloc, cpus, room)?;
+        let printed = Vec::with_capacity(alloc, room as usize)?;
+        Ok(Bus {
+            memory,
+            turns: 0,
+            lanes,
+            printed,
+            room,
+        })
+    }
+
+    /// Answers a request of a processor.
+    pub fn turn(&mut self, cpu: Cpu, request: &Request) -> Reply
+        requires cpu { cpu_number cpu < length self.old.lanes }
+        requires asks { MayAsk (length self.old.memory) (length self.old.lanes) request.now }
+        requires turns { self.old.turns < self.old.room }
+        requires printed { length self.old.printed < self.old.room }
+        ensures reply { (image : ℕ → ℕ) (calls : List BusCall) → Stands self.old image calls → result ≡ bus_reply image calls (cpu_number cpu) request.now }
+        ensures stands { (image : ℕ → ℕ) (calls : List BusCall) → Stands self.old image calls → Stands self.new image (call_of cpu request.now result ∷ calls) }
+        ensures turns { self.new.turns ≡ (if is_turn result then self.old.turns + 1 else self.old.turns) }
+        ensures printed { self.new.printed ≡ self.old.printed ++ printed_by request.now }
+        ensures size { length self.new.memory ≡ length self.old.memory }
+        ensures cpus { length self.new.lanes ≡ length self.old.lanes }
+        ensures room { self.new.room ≡ self.old.room }
+    {
+        let lane = &self.lanes[usize::from(cpu.number())];
+        let reply = reply_at(&self.memory, self.turns, lane, request);
+        note_all(
+            self.lanes.as_mut_slice(),
+            cpu,
+            request,
+            reply,
+            self.turns + 1,
+        );
+        write_down(&mut self.memory, request, reply);
+        print(&mut self.printed, request);
+        self.turns = turns_after(self.turns, reply);
+        reply
+    }
+
+    /// Whether something is late for a processor in a bank; in the code bank nothing ever is.
+    pub fn late(&self, cpu: Cpu, bank: Bank) -> bool
+        requires { cpu_number cpu < length self.now.lanes }
+        ensures code { bank ≡ Code → result ≡ false }
+        ensures calls { (image : ℕ → ℕ) (calls : List BusCall) → Stands self.now image calls → result ≡ not (is_empty (late (cpu_number cpu) bank calls)) }
+    {
+        self.lanes[usize::from(cpu.number())].late(bank)
+    }
+
+    /// The quadword at an address of memory.
+    pub fn tail_memory(&self, address: u64) -> u64
+        requires aligned { address % QUADWORD_BYTES ≡ 0 }
+        requires inside { address < length self.now.memory }
+        ensures { (image : ℕ → ℕ) (calls : List BusCall) → Stands self.now image calls → result ≡ number_at (memory image calls) address QUADWORD_BYTES }
+    {
+        let line = self.memory.line(Line::of(address));
+        line.get((address % LINE_BYTES) as u8, QUADWORD_BYTES as u8)
+    }
+
+    /// The bytes that went to the console.
+    pub fn console(&self) -> &[u8]
+        ensures value { result.now ≡ self.now.printed }
+        ensures calls { (image : ℕ → ℕ) (calls : List BusCall) → Stands self.now image calls → result.now ≡ console calls }
+    {
+        self.printed.as_slice()
+    }
+
+    /// How many turns were made.
+    pub fn turns(&self) -> u64
+        ensures value { result ≡ self.now.turns }
+        ensures few { result ≤ self.now.room }
+        ensures calls { (image : ℕ → ℕ) (calls : List BusCall) → Stands self.now image calls → result ≡ turns calls }
+    {
+        self.turns
+    }
+
+    /// The size of memory in bytes, a whole number of lines.
+    pub fn size(&self) -> u64
+        ensures value { result ≡ length self.now.memory }
+        ensures whole { AreLines self.now.memory }
+    {
+        self.memory.size()
+    }
+
+    /// The number of processors.
+    pub fn cpus(&self) -> u8
+        ensures value { result ≡ length self.now.lanes }
+        ensures most { result ≤ MAX_CPUS }
+    {
+        self.lanes.len() as u8
+    }
+
+    /// For how many turns there is room, those made included, and for how many bytes to the console.
+    pub fn room(&self) -> u32
+        ensures { result ≡ self.now.room }
+    {
+        self.room
+    }
+}
