@@ -1,8 +1,8 @@
 -- The write buffer keeps what waits, bytes and all: by each record of a history.
-use Rattle.std.proofs.Common.{◌≡◌, ℕ, ◌+◌, ◌/◌, ◌%◌, ◌<◌, ◌≤◌, ◌≢◌, ◌⊎◌, inl, inr, ⊎_elim, Bool, true, false, cond, eqb, ◌&&◌, List, [], ◌∷◌, length, Option, Some, None, arith, refl, ap, sym, subst, ◌∙◌}
+use Rattle.std.proofs.Common.{◌≡◌, ℕ, ◌+◌, ◌/◌, ◌≢◌, Bool, true, false, eqb, ◌&&◌, List, ◌∷◌, Some, arith, refl, ap, sym, subst, ◌∙◌}
 use Rattle.std.specs.Prelude.{slice_get}
 use Rattle.std.specs.List.{AllByRecursion}
-use Rattle.std.proofs.lemmas.Bool.{and_left, and_right, eq-eqb, ne_eqb, eqb-true, eqb-false}
+use Rattle.std.proofs.lemmas.Bool.{and_left, and_right, eq-eqb, ne_eqb, eqb-false}
 use Rattle.axp_base.specs.Cpus.{cpu_number}
 use Rattle.axp_base.specs.declared.lines.Line.{Line}
 use Rattle.axp_base.specs.declared.lines.TheConstants.{LINE_BYTES}
@@ -14,7 +14,7 @@ use Rattle.axp_access.specs.declared.Event.{Event}
 use Rattle.axp_access.specs.declared.Outcome.{Outcome}
 use Rattle.axp_access.specs.declared.Outcome.TheVariants as outcome
 use Rattle.axp_access.specs.declared.Place.{Place}
-use Rattle.axp_access.specs.declared.Place.TheVariants.{At, Entry, Absent}
+use Rattle.axp_access.specs.declared.Place.TheVariants.{At, Entry}
 use Rattle.axp_access.specs.declared.Record.{Record}
 use Rattle.axp_wbuf.specs.Drains as drains
 use Rattle.axp_wbuf.specs.Drains.{oldest_group}
@@ -31,14 +31,14 @@ use Rattle.axp_model.proofs.Kept.{Fits, FitsOutcome, Fitting}
 use Rattle.axp_model.proofs.Knows as knows
 use Rattle.axp_model.proofs.Steps.{each_map, kept}
 use Rattle.axp_world.proofs.Agreement.{BufferAgrees, HasBytesOf, is_entry, newest_in, went_into}
-use Rattle.axp_world.proofs.Entered.{Alike, alike_closed, alike_drained, alike_none, alike_stored, closed_alike, line_alike, none_alike, number_alike, oldest_alike, takes_alike}
+use Rattle.axp_world.proofs.Entered.{KeepsWaiting, alike_closed, alike_drained, alike_stored, closed_alike, line_alike, none_alike, number_alike, oldest_alike, takes_alike}
 use Rattle.axp_world.proofs.EntryBytes.{bytes_made, bytes_merged, bytes_stay, each_at, each_removed, newest_same, none_above, put_each}
 use Rattle.axp_world.proofs.Overlaid.{overlaid_waits}
 
 -- what a processor's buffer keeps after a history of records that fit
 pub record IsBuffered (p : ℕ) (h : List Record) (b : pending.Buffer) : Type 0 where
   pub fits : Fitting h
-  pub alike : Alike b (buffer p h)
+  pub alike : KeepsWaiting b (buffer p h)
   pub bytes : AllByRecursion (HasBytesOf p h) b.kept
 
 pub buffer_agrees : (p : ℕ) (h : List Record) (b : pending.Buffer) → IsBuffered p h b → BufferAgrees p h b
@@ -57,7 +57,7 @@ buffer_agrees p h b is = record {
 same_step : (p : ℕ) (r : Record) (h : List Record) (b : pending.Buffer) → Fitting (r ∷ h) → buffer p (r ∷ h) ≡ buffer p h → ((n at : ℕ) → newest_in p n at (r ∷ h) ≡ newest_in p n at h) → IsBuffered p h b → IsBuffered p (r ∷ h) b
 same_step p r h b fits is same was = record {
   fits = fits;
-  alike = subst (λ m. Alike b m) (sym is) was.alike;
+  alike = subst (λ m. KeepsWaiting b m) (sym is) was.alike;
   bytes = each_map (HasBytesOf p h) (HasBytesOf p (r ∷ h)) b.kept (λ e had. bytes_stay p r h e (same e.number) had) was.bytes;
 }
 

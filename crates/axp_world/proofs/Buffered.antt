@@ -1,6 +1,6 @@
 -- The write buffer of each processor keeps what waits, at the start and by each record that is played.
-use Rattle.std.proofs.Common.{◌≡◌, ℕ, ◌/◌, ⊎_elim, Bool, true, false, cond, eqb, List, [], ◌∷◌, length, Option, Some, None, refl, ap, sym, subst, ◌∙◌}
-use Rattle.std.specs.Prelude.{Result, Ok, Err, slice_get}
+use Rattle.std.proofs.Common.{◌≡◌, ℕ, ⊎_elim, Bool, true, false, cond, eqb, List, [], ◌∷◌, Option, Some, None, refl, sym, subst, ◌∙◌}
+use Rattle.std.specs.Prelude.{Ok, slice_get}
 use Rattle.std.proofs.lemmas.Bool.{cases_Bool, eq-eqb, eqb-true}
 use Rattle.axp_base.specs.Cpus.{cpu_number}
 use Rattle.axp_base.specs.Lines.{data_bank, line_number}
@@ -23,7 +23,6 @@ use Rattle.axp_access.specs.declared.Record.{Record}
 use Rattle.axp_access.specs.declared.Wanted.{Wanted}
 use Rattle.axp_cpu.specs.Actors as actors
 use Rattle.axp_cpu.specs.Actors.{Actor, about, asked_by, is_built, request_of}
-use Rattle.axp_cpu.specs.declared.refusals.Refusal.{Refusal}
 use Rattle.axp_lsu.specs.Asking.{act_ask, access_ask, ask_of, drain_ask, ready, step_ask}
 use Rattle.axp_lsu.specs.Going as going
 use Rattle.axp_lsu.specs.Going.{accessed, brought, delivered, drained, fenced, filled, fill_outcome, drain_outcome, kept_after, outcome_by, poll_outcome, rewritten, step_outcome, stepped, take_outcome}
@@ -32,14 +31,15 @@ use Rattle.axp_lsu.specs.declared.asks.Ask2.{Ask2}
 use Rattle.axp_model.specs.Legal.{may_now}
 use Rattle.axp_model.specs.Outcomes.{bank_for}
 use Rattle.axp_model.specs.Records.{line_at, line_numbered, line_of}
-use Rattle.axp_model.proofs.Kept.{FitsOutcome, Fitting}
+use Rattle.axp_model.proofs.Kept.{Fitting}
 use Rattle.axp_wbuf.specs.Drains.{oldest_group, without}
 use Rattle.axp_wbuf.specs.Pending as pending
 use Rattle.axp_wbuf.specs.Pending.{Pending}
 use Rattle.axp_world.specs.Worlds.{World, after_event, answer_of, reply_at, world}
-use Rattle.axp_world.proofs.Played.{Shown, actor_other, actor_own, shown}
+use Rattle.axp_world.proofs.Played.{actor_other, actor_own, shown}
 use Rattle.axp_world.proofs.Entered.{alike_none}
-use Rattle.axp_world.proofs.BufferSteps.{IsBuffered, IsQuiet, barrier_step, drain_step, other_step, quiet_step, write_step}
+pub use Rattle.axp_world.proofs.BufferSteps.{IsBuffered, buffer_agrees}
+use Rattle.axp_world.proofs.BufferSteps.{IsQuiet, barrier_step, drain_step, other_step, quiet_step, write_step}
 
 -- copies leave the buffer as it is
 with_copies_buffer : (b : Bank) (cs : List LineCopy) (u : Kept) → (with_copies b cs u).buffer ≡ u.buffer

@@ -1,9 +1,9 @@
 -- The write buffer's entries and the entries that wait: in one order, under equal numbers, of equal lines,
 -- and in groups that rank as their ages.
-use Rattle.std.proofs.Common.{◌≡◌, ℕ, zero, suc, ◌+◌, ◌-◌, ◌/◌, ◌<◌, ◌≤◌, ◌≢◌, ◌⊎◌, inl, inr, ⊎_elim, Bool, true, false, cond, eqb, ltb, ◌&&◌, ◌||◌, List, [], ◌∷◌, ◌++◌, length, Option, Some, None, arith, refl, ap, sym, subst, ◌∙◌}
+use Rattle.std.proofs.Common.{◌≡◌, ℕ, zero, suc, ◌+◌, ◌-◌, ◌/◌, ◌<◌, ◌≤◌, ◌≢◌, ⊎_elim, Bool, true, false, cond, eqb, ltb, ◌&&◌, ◌||◌, List, [], ◌∷◌, ◌++◌, length, Option, Some, None, arith, refl, ap, sym, subst, ◌∙◌}
 use Rattle.std.specs.Prelude.{slice_get, nat_lt, is_some}
 use Rattle.std.specs.List.{AllByRecursion, list_any, remove}
-use Rattle.std.proofs.lemmas.Bool.{cases_Bool, cases_lt, cases_order, cond_both, and_parts, and_from, or_cases, or_left, or_right, or_parts, eqb-true, eqb-false, eq-eqb, ne_eqb, lt-ltb, le-ltb, true≢false, false≢true}
+use Rattle.std.proofs.lemmas.Bool.{cases_Bool, cases_lt, cases_order, and_parts, and_from, or_cases, or_left, or_right, or_parts, eqb-true, eqb-false, eq-eqb, ne_eqb, lt-ltb, le-ltb, false≢true}
 use Rattle.axp_base.specs.Lines.{line_number}
 use Rattle.axp_base.specs.declared.lines.Line.{Line}
 use Rattle.axp_base.specs.declared.lines.TheConstants.{LINE_BYTES}
@@ -13,7 +13,7 @@ use Rattle.axp_wbuf.specs.Pending as pending
 use Rattle.axp_wbuf.specs.Pending.{Pending, AreInOrder, IsTidy, Precedes, PrecedesAll, closed, is_at, is_before, is_of_group, is_of_line, made_by, merges, no_entries, number_at_line, put_into, store_number, stored, with_store}
 use Rattle.axp_wbuf.specs.declared.limits.TheConstants.{WBUF_ENTRIES}
 use Rattle.axp_wbuf.proofs.Orders.{tidy_closed, tidy_none, tidy_stored, tidy_without}
-use Rattle.axp_wbuf.proofs.Pairs.{same_entry, no_entry, precedes_at, oldest_entry, made_at}
+use Rattle.axp_wbuf.proofs.Pairs.{same_entry, no_entry, precedes_at, oldest_entry}
 use Rattle.axp_wbuf.proofs.Places.{absent_put}
 use Rattle.axp_model.specs.Entries.{Waiting, Buffer, entry_for, entry_or, has_closed, has_line, joined, joins, least_age, of_age, oldest, one_if_none, without}
 use Rattle.axp_model.specs.Legal.{is_empty, takes_write}
@@ -37,7 +37,7 @@ abbrev pub Rises : (ℕ → ℕ) → Type 0
 Rises rank = (g k : ℕ) → g < k → rank g < rank k
 
 -- the buffer keeps what waits: entry by entry, with groups that rank as ages
-pub record Alike (b : pending.Buffer) (m : Buffer) : Type 0 where
+pub record KeepsWaiting (b : pending.Buffer) (m : Buffer) : Type 0 where
   pub tidy : IsTidy b
   pub rank : ℕ → ℕ
   pub rises : Rises rank
@@ -114,13 +114,13 @@ length_same rank (e ∷ es) [] alike = absurd alike
 length_same rank (e ∷ es) (w ∷ ws) alike = ap suc (length_same rank es ws alike.1)
 
 -- what is asked of both
-pub number_alike : (b : pending.Buffer) (m : Buffer) → Alike b m → (l : ℕ) → store_number l b ≡ entry_for l m
+pub number_alike : (b : pending.Buffer) (m : Buffer) → KeepsWaiting b m → (l : ℕ) → store_number l b ≡ entry_for l m
 number_alike b m a l = number_same a.rank b.newest m.age l (b.made + 1) b.kept m.waiting a.rises a.newest a.entries ∙ ap (λ n. entry_or (joins l m.age m.waiting) (n + 1)) a.made
 
-pub merges_alike : (b : pending.Buffer) (m : Buffer) → Alike b m → (l : ℕ) → merges l b ≡ is_some (joins l m.age m.waiting)
+pub merges_alike : (b : pending.Buffer) (m : Buffer) → KeepsWaiting b m → (l : ℕ) → merges l b ≡ is_some (joins l m.age m.waiting)
 merges_alike b m a l = joins_same a.rank b.newest m.age l b.kept m.waiting a.rises a.newest a.entries
 
-pub takes_alike : (b : pending.Buffer) (m : Buffer) → Alike b m → (l : ℕ) → pending.takes l b ≡ takes_write l m
+pub takes_alike : (b : pending.Buffer) (m : Buffer) → KeepsWaiting b m → (l : ℕ) → pending.takes l b ≡ takes_write l m
 takes_alike b m a l =
     ap (λ x. x || nat_lt (length b.kept) WBUF_ENTRIES) (merges_alike b m a l)
     ∙ ap (λ n. is_some (joins l m.age m.waiting) || nat_lt n WBUF_ENTRIES) (length_same a.rank b.kept m.waiting a.entries)
@@ -131,7 +131,7 @@ line_same rank l [] (w ∷ ws) alike = absurd alike
 line_same rank l (e ∷ es) [] alike = absurd alike
 line_same rank l (e ∷ es) (w ∷ ws) alike = ap (λ n. eqb n l || list_any (is_of_line l) es) alike.0.entry.line ∙ ap (λ x. is_line l w.line || x) (line_same rank l es ws alike.1)
 
-pub line_alike : (b : pending.Buffer) (m : Buffer) → Alike b m → (l : ℕ) → list_any (is_of_line l) b.kept ≡ has_line l m.waiting
+pub line_alike : (b : pending.Buffer) (m : Buffer) → KeepsWaiting b m → (l : ℕ) → list_any (is_of_line l) b.kept ≡ has_line l m.waiting
 line_alike b m a l = line_same a.rank l b.kept m.waiting a.entries
 
 closed_same : (rank : ℕ → ℕ) (newest age : ℕ) (es : List Pending) (ws : List Waiting) → Rises rank → rank newest ≡ age → AreAlike rank es ws → list_any (is_before newest) es ≡ has_closed age ws
@@ -142,7 +142,7 @@ closed_same rank newest age (e ∷ es) (w ∷ ws) rises is alike =
     let here : ltb e.group newest ≡ ltb w.age age = sym (rank_ltb rank e.group newest rises) ∙ ap (λ g. ltb g (rank newest)) (sym alike.0.age) ∙ ap (λ n. ltb w.age n) is in
     ap (λ x. x || list_any (is_before newest) es) here ∙ ap (λ x. ltb w.age age || x) (closed_same rank newest age es ws rises is alike.1)
 
-pub closed_alike : (b : pending.Buffer) (m : Buffer) → Alike b m → list_any (is_before b.newest) b.kept ≡ has_closed m.age m.waiting
+pub closed_alike : (b : pending.Buffer) (m : Buffer) → KeepsWaiting b m → list_any (is_before b.newest) b.kept ≡ has_closed m.age m.waiting
 closed_alike b m a = closed_same a.rank b.newest m.age b.kept m.waiting a.rises a.newest a.entries
 
 none_same : (rank : ℕ → ℕ) (es : List Pending) (ws : List Waiting) → AreAlike rank es ws → eqb (length es) 0 ≡ is_empty ws
@@ -151,7 +151,7 @@ none_same rank [] (w ∷ ws) alike = absurd alike
 none_same rank (e ∷ es) [] alike = absurd alike
 none_same rank (e ∷ es) (w ∷ ws) alike = ne_eqb (length (e ∷ es)) 0 (λ same. absurd (omega (arith, same)))
 
-pub none_alike : (b : pending.Buffer) (m : Buffer) → Alike b m → eqb (length b.kept) 0 ≡ is_empty m.waiting
+pub none_alike : (b : pending.Buffer) (m : Buffer) → KeepsWaiting b m → eqb (length b.kept) 0 ≡ is_empty m.waiting
 none_alike b m a = none_same a.rank b.kept m.waiting a.entries
 
 -- the oldest group
@@ -204,11 +204,11 @@ oldest_same rank made newest (e ∷ es) (w ∷ ws) rises order alike =
     let front = front_same rank made newest e.group (e ∷ es) (w ∷ ws) rises order (omega arith, least_of_all e es order.1.0) alike in
     subst (λ n. AreEntriesOf (oldest_group (e ∷ es)) (of_age n (w ∷ ws))) (sym least) front
 
-pub oldest_alike : (b : pending.Buffer) (m : Buffer) → Alike b m → AreEntriesOf (oldest_group b.kept) (oldest m.waiting)
+pub oldest_alike : (b : pending.Buffer) (m : Buffer) → KeepsWaiting b m → AreEntriesOf (oldest_group b.kept) (oldest m.waiting)
 oldest_alike b m a = oldest_same a.rank b.made b.newest b.kept m.waiting a.rises a.tidy.order a.entries
 
 -- the same at the start
-pub alike_none : Alike no_entries (record { made = 0; age = 0; waiting = [] })
+pub alike_none : KeepsWaiting no_entries (record { made = 0; age = 0; waiting = [] })
 alike_none = record { tidy = tidy_none; rank = λ g. g; rises = λ g k less. less; newest = refl; made = refl; entries = tt }
 
 -- a write
@@ -244,7 +244,7 @@ next_waiting line m = record { number = m.made + 1; line = line; age = m.age }
 abbrev pub written : Line → ℕ → Buffer → Buffer
 written line l m = record { made = m.made + one_if_none (joins l m.age m.waiting); age = m.age; waiting = joined (joins l m.age m.waiting) (next_waiting line m) m.waiting }
 
-pub alike_stored : (address size value : ℕ) (line : Line) (b : pending.Buffer) (m : Buffer) → line_number line ≡ address / LINE_BYTES → pending.takes (address / LINE_BYTES) b ≡ true → Alike b m → Alike (stored address size value b) (written line (address / LINE_BYTES) m)
+pub alike_stored : (address size value : ℕ) (line : Line) (b : pending.Buffer) (m : Buffer) → line_number line ≡ address / LINE_BYTES → pending.takes (address / LINE_BYTES) b ≡ true → KeepsWaiting b m → KeepsWaiting (stored address size value b) (written line (address / LINE_BYTES) m)
 alike_stored address size value line b m at takes a = record {
   tidy = tidy_stored address size value b takes a.tidy;
   rank = a.rank;
@@ -307,7 +307,7 @@ next_by b rank false tidy rises is = record { under = all_before b.made b.newest
 abbrev pub aged : Buffer → Buffer
 aged m = record { made = m.made; age = m.age + 1; waiting = m.waiting }
 
-pub alike_closed : (b : pending.Buffer) (m : Buffer) → Alike b m → Alike (closed b) (aged m)
+pub alike_closed : (b : pending.Buffer) (m : Buffer) → KeepsWaiting b m → KeepsWaiting (closed b) (aged m)
 alike_closed b m a =
     let next = next_by b a.rank (list_any (is_of_group b.newest) b.kept) a.tidy a.rises refl in
     let start : ℕ = (closed b).newest in
@@ -344,7 +344,7 @@ remove_same rank made newest (suc k) e (f ∷ es) (w ∷ ws) order at alike =
 abbrev pub left_by : ℕ → Buffer → Buffer
 left_by n m = record { made = m.made; age = m.age; waiting = without n m.waiting }
 
-pub alike_drained : (k : ℕ) (e : Pending) (b : pending.Buffer) (m : Buffer) → slice_get (oldest_group b.kept) k ≡ Some e → Alike b m → Alike (drains.without k b) (left_by e.number m)
+pub alike_drained : (k : ℕ) (e : Pending) (b : pending.Buffer) (m : Buffer) → slice_get (oldest_group b.kept) k ≡ Some e → KeepsWaiting b m → KeepsWaiting (drains.without k b) (left_by e.number m)
 alike_drained k e b m at a = record {
   tidy = tidy_without k b a.tidy;
   rank = a.rank;

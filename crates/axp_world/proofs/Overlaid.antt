@@ -1,12 +1,11 @@
 -- What the buffer puts over a line is the newest own write of each byte that waits.
-use Rattle.std.proofs.Common.{◌≡◌, ℕ, zero, suc, ◌+◌, ◌%◌, ◌<◌, ◌≤◌, ◌≢◌, ◌⊎◌, inl, inr, ⊎_elim, Bool, true, false, cond, eqb, ltb, leb, ◌&&◌, List, [], ◌∷◌, length, Option, Some, None, arith, refl, ap, sym, subst, ◌∙◌}
+use Rattle.std.proofs.Common.{◌≡◌, ℕ, zero, suc, ◌+◌, ◌%◌, ◌<◌, ◌≤◌, ◌⊎◌, inl, inr, ⊎_elim, Bool, true, false, eqb, ltb, leb, ◌&&◌, List, [], ◌∷◌, length, Option, Some, None, arith, refl, ap, sym, subst, ◌∙◌}
 use Rattle.std.specs.Prelude.{slice_get, slice_index, is_some}
 use Rattle.std.specs.List.{AllByRecursion, find}
-use Rattle.std.proofs.lemmas.Bool.{cases_Bool, cases_lt, and_parts, and_from, eqb-true, eq-eqb, leb-true, ltb-true, true≢false, false≢true}
+use Rattle.std.proofs.lemmas.Bool.{cases_Bool, cases_lt, and_parts, and_from, eqb-true, eq-eqb, leb-true, ltb-true, false≢true}
 use Rattle.axp_base.specs.Masks.{has_bit}
 use Rattle.axp_base.specs.declared.lines.TheConstants.{LINE_BYTES}
-use Rattle.axp_access.specs.declared.Place.{Place}
-use Rattle.axp_access.specs.declared.Place.TheVariants.{At, Entry, Absent}
+use Rattle.axp_access.specs.declared.Place.TheVariants.{Entry}
 use Rattle.axp_access.specs.declared.Record.{Record}
 use Rattle.axp_wbuf.specs.Pending as pending
 use Rattle.axp_wbuf.specs.Pending.{Pending, AreInOrder, overlaid}
@@ -22,7 +21,7 @@ use Rattle.axp_model.proofs.Forwards.{waiting_entry}
 use Rattle.axp_model.proofs.Kept.{Kept, KnownItem, PairOk, waits}
 use Rattle.axp_model.proofs.Knows.{waits_has}
 use Rattle.axp_world.proofs.Agreement.{HasBytesOf, byte_or, is_entry, newest_in, went_into}
-use Rattle.axp_world.proofs.Entered.{Alike, IsKeptAs, kept_same, waits_same}
+use Rattle.axp_world.proofs.Entered.{KeepsWaiting, IsKeptAs, kept_same, waits_same}
 use Rattle.axp_world.proofs.EntryBytes.{each_at, into_waits, place_is}
 
 -- the last of these entries that has a byte of a line, or none has it
@@ -137,7 +136,7 @@ in_line a s at inside has =
     let parts = and_parts (leb a at) (ltb at (a + s)) has in
     omega (arith, leb-true a at parts.0, ltb-true at (a + s) parts.1, inside.within)
 
-found_by : (p at : ℕ) (h : List Record) (b : pending.Buffer) (v : Item) (a : Alike b (buffer p h)) → KnownItem h v → own_waits (times h) at p v ≡ true → IsFound p at h b a.rank v
+found_by : (p at : ℕ) (h : List Record) (b : pending.Buffer) (v : Item) (a : KeepsWaiting b (buffer p h)) → KnownItem h v → own_waits (times h) at p v ≡ true → IsFound p at h b a.rank v
 found_by p at h b v a known own =
     let cpu = and_parts (eqb (cpu_of v) p) (is_memory_write v.access && (has_byte at v.access && is_waiting (spot (times h) (cpu_of v) v.access.place))) own in
     let write = and_parts (is_memory_write v.access) (has_byte at v.access && is_waiting (spot (times h) (cpu_of v) v.access.place)) cpu.1 in
@@ -173,7 +172,7 @@ found_has p at h b rank v bytes is f =
     and_from (eqb e.line (line_of at)) (has_bit e.bits (at % LINE_BYTES)) (eq-eqb e.line (line_of at) f.kept.line) has
 
 -- where no entry has the byte, no write of it waits
-none_waits : (p at : ℕ) (h : List Record) (b : pending.Buffer) (o : Option Item) → newest_waiting p at h ≡ o → Kept h → Alike b (buffer p h) → AllByRecursion (HasBytesOf p h) b.kept → HasNone (line_of at) (at % LINE_BYTES) b.kept → o ≡ None
+none_waits : (p at : ℕ) (h : List Record) (b : pending.Buffer) (o : Option Item) → newest_waiting p at h ≡ o → Kept h → KeepsWaiting b (buffer p h) → AllByRecursion (HasBytesOf p h) b.kept → HasNone (line_of at) (at % LINE_BYTES) b.kept → o ≡ None
 none_waits p at h b None is k a bytes none = refl
 none_waits p at h b (Some v) is k a bytes none =
     let known : KnownItem h v = find_each (KnownItem h) (own_waits (times h) at p) (accesses h) v k.items is in
@@ -181,7 +180,7 @@ none_waits p at h b (Some v) is k a bytes none =
     absurd (false≢true (sym (none f.kept.place f.kept.entry f.kept.kept) ∙ found_has p at h b a.rank v bytes is f))
 
 -- of writes into two entries of one line the newer one is not in the older entry
-not_older : (p at : ℕ) (h : List Record) (b : pending.Buffer) (j i : ℕ) (e f : Pending) (u v : Item) → Kept h → (a : Alike b (buffer p h)) → slice_get b.kept j ≡ Some e → slice_get b.kept i ≡ Some f → e.line ≡ line_of at → f.line ≡ line_of at → f.number < e.number
+not_older : (p at : ℕ) (h : List Record) (b : pending.Buffer) (j i : ℕ) (e f : Pending) (u v : Item) → Kept h → (a : KeepsWaiting b (buffer p h)) → slice_get b.kept j ≡ Some e → slice_get b.kept i ≡ Some f → e.line ≡ line_of at → f.line ≡ line_of at → f.number < e.number
     → KnownItem h u → went_into p e.number at u ≡ true → u.parts ≤ v.parts → a.rank f.group ≡ v.parts → drained h p e.number ≡ None → ⊥
 not_older p at h b j i e f u v k a at_e at_f line_e line_f less known went parts age none =
     let before = by_number b.made b.newest b.kept i j f e a.tidy.order at_f at_e less in
@@ -196,7 +195,7 @@ own_of : (p n at : ℕ) (u : Item) → went_into p n at u ≡ true → cpu_of u 
 own_of p n at u went = eqb-true (cpu_of u) p (and_parts (eqb (cpu_of u) p) (is_memory_write u.access && (has_byte at u.access && is_entry n u.access.place)) went).0
 
 -- the newest write into the last entry that has the byte is the newest that waits
-last_waits : (p at : ℕ) (h : List Record) (b : pending.Buffer) (o w : Option Item) → Kept h → Alike b (buffer p h) → AllByRecursion (HasBytesOf p h) b.kept → (l : IsLast (line_of at) (at % LINE_BYTES) b.kept)
+last_waits : (p at : ℕ) (h : List Record) (b : pending.Buffer) (o w : Option Item) → Kept h → KeepsWaiting b (buffer p h) → AllByRecursion (HasBytesOf p h) b.kept → (l : IsLast (line_of at) (at % LINE_BYTES) b.kept)
     → drained h p l.entry.number ≡ None → is_some o ≡ true → newest_in p l.entry.number at h ≡ o → newest_waiting p at h ≡ w → o ≡ w
 last_waits p at h b None w k a bytes l none some found is = absurd (false≢true some)
 last_waits p at h b (Some u) None k a bytes l none some found is =
@@ -225,7 +224,7 @@ byte_some : (o : Option Item) (at x y : ℕ) → is_some o ≡ true → byte_or 
 byte_some None at x y some = absurd (false≢true some)
 byte_some (Some u) at x y some = refl
 
-pub overlaid_waits : (p at : ℕ) (h : List Record) (b : pending.Buffer) (line : List ℕ) → Kept h → Alike b (buffer p h) → AllByRecursion (HasBytesOf p h) b.kept → length line ≡ LINE_BYTES → slice_index (overlaid (line_of at) b.kept line) (at % LINE_BYTES) ≡ byte_or (newest_waiting p at h) at (slice_index line (at % LINE_BYTES))
+pub overlaid_waits : (p at : ℕ) (h : List Record) (b : pending.Buffer) (line : List ℕ) → Kept h → KeepsWaiting b (buffer p h) → AllByRecursion (HasBytesOf p h) b.kept → length line ≡ LINE_BYTES → slice_index (overlaid (line_of at) b.kept line) (at % LINE_BYTES) ≡ byte_or (newest_waiting p at h) at (slice_index line (at % LINE_BYTES))
 overlaid_waits p at h b line k a bytes whole =
     ⊎_elim
     (λ (l : IsLast (line_of at) (at % LINE_BYTES) b.kept).
