@@ -8,7 +8,7 @@ use Rattle.axp_base.specs.Masks.{has_bit, span_of}
 use Rattle.axp_base.specs.Parts.{byte, with_part}
 use Rattle.axp_base.specs.declared.lines.TheConstants.{LINE_BYTES}
 use Rattle.axp_base.specs.declared.processors.Cpu.{Cpu}
-use Rattle.axp_base.proofs.PartLemmas.{get_or-with_part}
+use Rattle.axp_base.proofs.PartLemmas.{get_or-with_part, length-with_part}
 use Rattle.axp_base.proofs.SpanLemmas.{span_above, span_below, span_inside}
 use Rattle.axp_regs.specs.declared.asks.Kind.TheVariants as kind
 use Rattle.axp_access.specs.declared.Access.{Access}
@@ -64,6 +64,7 @@ newest_now p n at e c a s x y h own =
 -- an entry has its bytes still
 pub bytes_stay : (p : ℕ) (r : Record) (h : List Record) (e : Pending) → ((at : ℕ) → newest_in p e.number at (r ∷ h) ≡ newest_in p e.number at h) → HasBytesOf p h e → HasBytesOf p (r ∷ h) e
 bytes_stay p r h e same was = record {
+  whole = was.whole;
   has = λ at line. was.has at line ∙ ap is_some (sym (same at));
   bytes = λ at line set. was.bytes at line set ∙ ap (λ o. byte_or o at 0) (sym (same at));
 }
@@ -83,6 +84,7 @@ pub bytes_merged : (p : ℕ) (e : Event) (c : Cpu) (a s x : ℕ) (y : Bool) (h :
 bytes_merged p e c a s x y h f own within whole of_line was =
     let new : Item = next_item (accesses h) (acc c kind.Write a s x y (Entry f.number)) in
     record {
+      whole = length-with_part f.bytes (a % LINE_BYTES) s x ∙ whole;
       has = λ at line.
           let span = span_same a s at within (line ∙ of_line) in
           let now = newest_now p f.number at e c a s x y h own in
@@ -105,6 +107,7 @@ pub bytes_made : (p n group : ℕ) (e : Event) (c : Cpu) (a s x : ℕ) (y : Bool
 bytes_made p n group e c a s x y h own within none =
     let new : Item = next_item (accesses h) (acc c kind.Write a s x y (Entry n)) in
     record {
+      whole = length-with_part (replicate LINE_BYTES 0) (a % LINE_BYTES) s x ∙ length-replicate {A = ℕ} LINE_BYTES 0;
       has = λ at line.
           let span = span_same a s at within line in
           let now = newest_now p n at e c a s x y h own in

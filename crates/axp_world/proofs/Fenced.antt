@@ -9,11 +9,10 @@ use Rattle.axp_base.specs.declared.lines.Bank.TheVariants.{Even, Odd, Code}
 use Rattle.axp_base.specs.declared.lines.Line.{Line}
 use Rattle.axp_base.specs.declared.lines.TheConstants.{LINE_BYTES}
 use Rattle.axp_access.specs.declared.Record.{Record}
-use Rattle.axp_bank.specs.Copies.{get_of}
+use Rattle.axp_bank.specs.Copies.{get_of, spared}
 use Rattle.axp_bank.specs.declared.copies.LineCopy.{LineCopy}
 use Rattle.axp_inval.specs.Queues.{has_later, is_later}
 use Rattle.axp_line.specs.declared.contents.LineData.{LineData}
-use Rattle.axp_lsu.specs.Going.{spared}
 use Rattle.axp_lsu.specs.Keeping.{Kept, held_pairs}
 use Rattle.axp_model.specs.BusCalls.{BusCall}
 use Rattle.axp_model.specs.BusReply.{Front, front, gone}

@@ -6,12 +6,11 @@ use Rattle.std.specs.Option.{option_map}
 use Rattle.std.proofs.Math.Nat.{div-one, div-div-eq-div-mul, pow-succ'}
 use Rattle.std.proofs.lemmas.Bool.{cases_Bool, cases_lt, eqb-true, eq-eqb, ne_eqb, or_left, false≢true}
 use Rattle.axp_base.specs.declared.lines.TheConstants.{LINE_BYTES}
-use Rattle.axp_bank.specs.Copies.{line_of, is_of, Above, Ascending, Whole, is_held, shown, get_of}
+use Rattle.axp_bank.specs.Copies.{line_of, is_of, Above, Ascending, Whole, is_held, shown, get_of, spared}
 use Rattle.axp_bank.specs.declared.copies.LineCopy.{LineCopy}
 use Rattle.axp_bank.proofs.BankLemmas.{above_none, get_none}
 use Rattle.axp_bank.proofs.GetLemmas.{comes, goes}
 use Rattle.axp_line.specs.declared.contents.LineData.{LineData}
-use Rattle.axp_lsu.specs.Going.{spared}
 use Rattle.axp_model.specs.BusReply.{Front, gone, is_late}
 use Rattle.axp_model.specs.LateLaws.{is_among, IsAscending}
 use Rattle.axp_model.proofs.Steps.{each_map}
