@@ -4,3 +4,4 @@ pub mod MemoryTurns
 pub mod Written
 pub mod Called
 pub mod Legality
+pub mod ReadValues
