@@ -97,12 +97,12 @@ Leads image cs e h give z = FitsOutcome (cpu_number e.cpu) (give (answered image
 quiet_bytes : (image : ℕ → ℕ) (e : Event) (o : Outcome) (h : List Record) (at : ℕ) → FitsOutcome (cpu_number e.cpu) o h → model.Kept h → is_turn o ≡ false → memory_byte image h (turns h) at ≡ memory_byte image (record { event = e; outcome = o } ∷ h) (turns (record { event = e; outcome = o } ∷ h)) at
 quiet_bytes image e o h at fit k none = rw none (ap (byte_of_source image at) (sym (memory_step (turns h) at (record { event = e; outcome = o }) h fit k (omega arith))))
 
-some_if : (b : Bool) (x y : Ask2) → cond b (Some x) None ≡ Some y → x ≡ y
+pub some_if : (b : Bool) (x y : Ask2) → cond b (Some x) None ≡ Some y → x ≡ y
 some_if true x y is = cc
 some_if false x y is = cc
 
 -- a wanted access of this kind
-abbrev want : Kind → ℕ → ℕ → ℕ → Wanted
+abbrev pub want : Kind → ℕ → ℕ → ℕ → Wanted
 want k a s v = record { kind = k; address = a; size = s; value = v }
 
 -- a signal goes to the processor that its value names

@@ -5,3 +5,4 @@ pub mod Written
 pub mod Called
 pub mod Legality
 pub mod ReadValues
+pub mod Seated
