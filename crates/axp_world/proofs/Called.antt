@@ -444,7 +444,7 @@ follows_after image cs e o h ask.Private s bus = stays_after image cs e o h s bu
 follows_after image cs e o h (ask.Bus q) m bus = matches_after image cs e o h q (bus_reply image cs (cpu_number e.cpu) q) m bus
 
 -- what is asked is what the act asks
-asked_ok : (o : Option Ask2) (built : Bool) (z : Ask2) → asked_by o built ≡ Ok z → o ≡ Some z
+pub asked_ok : (o : Option Ask2) (built : Bool) (z : Ask2) → asked_by o built ≡ Ok z → o ≡ Some z
 asked_ok None built z is = cc
 asked_ok (Some q) true z is = cc
 asked_ok (Some q) false z is = cc

@@ -6,3 +6,4 @@ pub mod Called
 pub mod Legality
 pub mod ReadValues
 pub mod Seated
+pub mod Runs
