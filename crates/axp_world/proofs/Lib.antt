@@ -7,3 +7,4 @@ pub mod Legality
 pub mod ReadValues
 pub mod Seated
 pub mod Runs
+pub mod Wanting
