@@ -8,3 +8,4 @@ pub mod ReadValues
 pub mod Seated
 pub mod Runs
 pub mod Wanting
+pub mod Refused

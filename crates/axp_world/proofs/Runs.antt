@@ -17,7 +17,7 @@ use Rattle.axp_access.specs.declared.Record.{Record}
 use Rattle.axp_cpu.specs.declared.refusals.Refusal.{Refusal}
 use Rattle.axp_cpu.specs.declared.refusals.Refusal.TheVariants.{NotLegal, NotBuilt}
 use Rattle.axp_cpu.specs.Actors.{Actor, about, advanced, asked_by, is_built, outcome_of, request_of}
-use Rattle.axp_image.specs.Contents.{Contents}
+use Rattle.axp_image.specs.Contents.{Contents, IsValid}
 use Rattle.axp_line.specs.declared.messages.Reply.{Reply}
 use Rattle.axp_line.specs.declared.messages.Reply.TheVariants as reply
 use Rattle.axp_line.specs.declared.messages.Request.TheVariants as request
@@ -30,9 +30,10 @@ use Rattle.axp_model.specs.BusCalls as calls
 use Rattle.axp_model.specs.BusCalls.{BusCall}
 use Rattle.axp_model.specs.BusReply.{first_late, reply_by}
 use Rattle.axp_model.specs.Legal.{is_empty, legal, may, may_act, may_now, since_step, is_fill}
-use Rattle.axp_model.specs.OrderLaws.{WantsInLine}
+use Rattle.axp_model.specs.OrderLaws.{AreInLine, WantsInLine}
 use Rattle.axp_model.specs.Outcomes as model
 use Rattle.axp_model.specs.Outcomes.{IsRun}
+use Rattle.axp_model.proofs.Fits.{run_fits}
 use Rattle.axp_model.proofs.Kept.{Fitting}
 use Rattle.axp_world.specs.Worlds.{World, after_event, answer_of, cpu_or_first, image_bytes, intents, reply_at, world}
 use Rattle.axp_world.proofs.Agreement.{BanksAgree, BufferAgrees, BusAgrees, SinceAgrees}
@@ -40,6 +41,7 @@ use Rattle.axp_world.proofs.Called.{asked_act, asked_ok}
 use Rattle.axp_world.proofs.Legality.{has_late, legal_agrees}
 use Rattle.axp_world.proofs.Played.{Shown, actor_other, actor_own, shown}
 use Rattle.axp_world.proofs.Seated.{WantsTarget, answer, outcome_agrees}
+use Rattle.axp_world.proofs.Wanting.{intents_in_line, intents_name_targets}
 
 -- a processor keeps its number
 goes_on_as : (a : Actor) (e : Act) (r : Option Reply) → (advanced a e r).cpu ≡ a.cpu
@@ -124,3 +126,10 @@ pub played_is_run : (image : Contents) (cpus budget : ℕ) (r : Record) (h : Lis
     → IsRun (image_bytes image) (intents image budget) (r ∷ h)
 played_is_run image cpus budget r h played fit inside target agrees bus run =
     (played_legal image cpus budget r h played agrees bus, played_outcome image cpus budget r h played fit inside target agrees bus, run)
+
+-- so does every played history over a valid image
+pub run_goes_on : (image : Contents) (cpus budget : ℕ) (r : Record) (h : List Record) → IsValid image → answer_of image cpus (world image budget h) r.event ≡ Ok r.outcome → Agrees image budget h (cpu_number r.event.cpu) → BusAgrees (image_bytes image) h (world image budget h).calls
+    → IsRun (image_bytes image) (intents image budget) h → IsRun (image_bytes image) (intents image budget) (r ∷ h)
+run_goes_on image cpus budget r h valid played agrees bus run =
+    let inside : AreInLine (intents image budget) = intents_in_line image budget valid in
+    played_is_run image cpus budget r h played (run_fits (image_bytes image) (intents image budget) h inside run) (inside (cpu_number r.event.cpu) h) (intents_name_targets image budget valid (cpu_number r.event.cpu) h) agrees bus run
