@@ -137,7 +137,7 @@ each_by_stamp h p at fit holds [] known own others = tt
 each_by_stamp h p at fit holds (u ∷ us) known own others =
     (by_stamp h p at u fit holds known.0 own.0 (λ apart. (others (cpu_of u) apart).0), each_by_stamp h p at fit holds us known.1 own.1 (λ q apart. (others q apart).1))
 
-held_memory : (h : List Record) (p at : ℕ) → Fitting h → held p (line_of at) h ≡ true → memory_after h (read_place p (line_of at) h) at ≡ memory_after h (stamp p (line_of at) h) at
+pub held_memory : (h : List Record) (p at : ℕ) → Fitting h → held p (line_of at) h ≡ true → memory_after h (read_place p (line_of at) h) at ≡ memory_after h (stamp p (line_of at) h) at
 held_memory h p at fit holds =
     latest_same (times h) (reached (times h) (stamp p (line_of at) h) at) (reached (times h) (read_place p (line_of at) h) at) (accesses h)
     (each_by_stamp h p at fit holds (accesses h) (kept h fit).items (settled p (line_of at) (λ t k. t ≤ stamp p (line_of at) k) (stamp_settles p (line_of at)) h fit)

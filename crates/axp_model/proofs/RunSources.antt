@@ -106,7 +106,7 @@ read_after more r h a at fit makes has =
       stamp_below p l h = omega arith
 
 -- of a line that no own entry has, no own write waits
-none_waits : (h : List Record) (p at : ℕ) → Fitting h → has_line (line_of at) (buffer p h).waiting ≡ false → newest_waiting p at h ≡ None
+pub none_waits : (h : List Record) (p at : ℕ) → Fitting h → has_line (line_of at) (buffer p h).waiting ≡ false → newest_waiting p at h ≡ None
 none_waits h p at fit none = by_found (newest_waiting p at h) refl where
   by_found : (o : Option Item) → newest_waiting p at h ≡ o → o ≡ None
   by_found None found = refl

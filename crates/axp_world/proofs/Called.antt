@@ -97,12 +97,12 @@ Leads image cs e h give z = FitsOutcome (cpu_number e.cpu) (give (answered image
 quiet_bytes : (image : ℕ → ℕ) (e : Event) (o : Outcome) (h : List Record) (at : ℕ) → FitsOutcome (cpu_number e.cpu) o h → model.Kept h → is_turn o ≡ false → memory_byte image h (turns h) at ≡ memory_byte image (record { event = e; outcome = o } ∷ h) (turns (record { event = e; outcome = o } ∷ h)) at
 quiet_bytes image e o h at fit k none = rw none (ap (byte_of_source image at) (sym (memory_step (turns h) at (record { event = e; outcome = o }) h fit k (omega arith))))
 
-some_if : (b : Bool) (x y : Ask2) → cond b (Some x) None ≡ Some y → x ≡ y
+pub some_if : (b : Bool) (x y : Ask2) → cond b (Some x) None ≡ Some y → x ≡ y
 some_if true x y is = cc
 some_if false x y is = cc
 
 -- a wanted access of this kind
-abbrev want : Kind → ℕ → ℕ → ℕ → Wanted
+abbrev pub want : Kind → ℕ → ℕ → ℕ → Wanted
 want k a s v = record { kind = k; address = a; size = s; value = v }
 
 -- a signal goes to the processor that its value names
@@ -444,7 +444,7 @@ follows_after image cs e o h ask.Private s bus = stays_after image cs e o h s bu
 follows_after image cs e o h (ask.Bus q) m bus = matches_after image cs e o h q (bus_reply image cs (cpu_number e.cpu) q) m bus
 
 -- what is asked is what the act asks
-asked_ok : (o : Option Ask2) (built : Bool) (z : Ask2) → asked_by o built ≡ Ok z → o ≡ Some z
+pub asked_ok : (o : Option Ask2) (built : Bool) (z : Ask2) → asked_by o built ≡ Ok z → o ≡ Some z
 asked_ok None built z is = cc
 asked_ok (Some q) true z is = cc
 asked_ok (Some q) false z is = cc

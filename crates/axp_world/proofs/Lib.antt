@@ -24,3 +24,8 @@ pub mod MemoryTurns
 pub mod Written
 pub mod Called
 pub mod Legality
+pub mod ReadValues
+pub mod Seated
+pub mod Runs
+pub mod Wanting
+pub mod Refused
