@@ -7,3 +7,4 @@ pub mod Shows
 pub mod Leaves
 pub mod Fenced
 pub mod Changes
+pub mod BankActs
