@@ -1,5 +1,6 @@
 -- Banks after each act of their processor.
 use Rattle.std.proofs.Common.{◌≡◌, ◌≢◌, ℕ, ◌+◌, ◌^◌, ◌<◌, Bool, true, false, cond, not, ◌&&◌, ◌||◌, eqb, ltb, List, [], ◌∷◌, Option, Some, None, refl, sym, ap, ◌∙◌, subst, ⊎_elim}
+use Rattle.std.specs.List.{list_any}
 use Rattle.std.specs.Prelude.{Result, Ok, Err}
 use Rattle.std.proofs.lemmas.Bool.{and_parts, cases_Bool, eq-eqb, ne_eqb, false≢true}
 use Rattle.axp_base.specs.Cpus.{cpu_number}
@@ -29,10 +30,11 @@ use Rattle.axp_lsu.specs.Going.{delivered, drain_outcome, drained, fill_outcome,
 use Rattle.axp_lsu.specs.Keeping.{Kept, copies_of, data_copies, held_pairs, with_copies}
 use Rattle.axp_lsu.specs.declared.asks.Ask2.{Ask2}
 use Rattle.axp_lsu.specs.declared.asks.Ask2.TheVariants as ask
+use Rattle.axp_lockreg.specs.Blocks.{is_allowed}
 use Rattle.axp_regs.specs.declared.asks.Kind.{Kind}
 use Rattle.axp_regs.specs.declared.asks.Kind.TheVariants as kind
 use Rattle.axp_wbuf.specs.Drains.{oldest_group}
-use Rattle.axp_wbuf.specs.Pending.{Pending}
+use Rattle.axp_wbuf.specs.Pending.{Pending, is_of_line}
 use Rattle.axp_model.specs.BusCalls.{BusCall, would_write}
 use Rattle.axp_model.specs.BusReply.{bus_reply, front, reply_by, tried}
 use Rattle.axp_model.specs.Late.{code_held, held, takes_away}
@@ -112,3 +114,87 @@ locked_goes image cpu h u cs a s v room fit bus was =
     (leaves_code p r h (itself cpu) (λ l. refl) (λ l. refl) refl) (barrier_left p r h (itself cpu) refl)
     (held_brought p (line_number line) r h (itself cpu) (this_line (line_of a) line is)) (stamp_brought p (line_number line) r h (itself cpu) (rw (this_line (line_of a) line is) refl))
     (subst (λ n. has_room n (data_copies (line_of a) u) ≡ true) (sym is) room) (bus_line image (r ∷ h) (calls_for image cs cpu (Ok (ask.Bus (request.Locked a)))) line (line_number line) _ _ bus refl refl refl) was
+
+-- a store-conditional writes its line again, where it succeeds
+abbrev conditional_call : (ℕ → ℕ) → Cpu → List BusCall → Request → Reply → List BusCall
+conditional_call image cpu cs q t = record { cpu = cpu; ask = q; answer = t } ∷ cs
+
+conditional_by : (b : Bool) (image : ℕ → ℕ) (cpu : Cpu) (h : List Record) (u : Kept) (cs : List BusCall) (a s v : ℕ) (armed : Bool)
+    → Goes image cpu (of_step cpu (wanting kind.Conditional a s v) u (Some (tried b (front image cs (cpu_number cpu)) (would_write (request.Conditional a s v armed)) (line_at a)))) h u
+    (stepped (Some (wanting kind.Conditional a s v)) (Some (tried b (front image cs (cpu_number cpu)) (would_write (request.Conditional a s v armed)) (line_at a))) u)
+    (conditional_call image cpu cs (request.Conditional a s v armed) (tried b (front image cs (cpu_number cpu)) (would_write (request.Conditional a s v armed)) (line_at a)))
+conditional_by true image cpu h u cs a s v armed fit bus was =
+    let p : ℕ = cpu_number cpu in
+    let t : Reply = tried true (front image cs p) (would_write (request.Conditional a s v armed)) (line_at a) in
+    let line : Line = line_at a in
+    let is : line_number line ≡ line_of a = line_at-number a fit.0.1.addressed in
+    let r : Record = of_step cpu (wanting kind.Conditional a s v) u (Some t) in
+    line_rewritten image p r h u line _ _
+    (leaves_others (line_number line) p r h (itself cpu) (λ l apart. refl) (λ l apart. refl) (λ l apart. other_line (line_of a) l line is apart) (λ l apart. refl) refl (λ l t apart. refl))
+    (leaves_code p r h (itself cpu) (λ l. refl) (λ l. refl) refl) (barrier_left p r h (itself cpu) refl)
+    (held_left p (line_number line) r h (itself cpu) refl refl refl refl refl) (stamp_brought p (line_number line) r h (itself cpu) (this_line (line_of a) line is))
+    (bus_line image (r ∷ h) (conditional_call image cpu cs (request.Conditional a s v armed) t) line (line_number line) _ _ bus refl refl refl) was
+conditional_by false image cpu h u cs a s v armed fit bus was = still image cpu h u _ refl refl refl refl was
+
+conditional_goes : (image : ℕ → ℕ) (cpu : Cpu) (h : List Record) (u : Kept) (cs : List BusCall) (a s v : ℕ) (armed : Bool)
+    → Goes image cpu (of_step cpu (wanting kind.Conditional a s v) u (reply_for image cs (cpu_number cpu) (Ok (ask.Bus (request.Conditional a s v armed))))) h u
+    (stepped (Some (wanting kind.Conditional a s v)) (reply_for image cs (cpu_number cpu) (Ok (ask.Bus (request.Conditional a s v armed)))) u) (calls_for image cs cpu (Ok (ask.Bus (request.Conditional a s v armed))))
+unfolding reply_by
+conditional_goes image cpu h u cs a s v armed = conditional_by (armed && is_allowed a (front image cs (cpu_number cpu)).block) image cpu h u cs a s v armed
+
+-- a barrier delivers all that is late
+barrier_goes : (image : ℕ → ℕ) (cpu : Cpu) (h : List Record) (u : Kept) (cs : List BusCall) (a s v : ℕ) → BusAgrees image h cs
+    → Goes image cpu (of_step cpu (wanting kind.Barrier a s v) u (reply_for image cs (cpu_number cpu) (Ok (ask.Bus (request.Barrier (held_pairs u)))))) h u
+    (stepped (Some (wanting kind.Barrier a s v)) (reply_for image cs (cpu_number cpu) (Ok (ask.Bus (request.Barrier (held_pairs u))))) u) (calls_for image cs cpu (Ok (ask.Bus (request.Barrier (held_pairs u)))))
+unfolding reply_by
+barrier_goes image cpu h u cs a s v before fit bus was =
+    let p : ℕ = cpu_number cpu in
+    let r : Record = of_step cpu (wanting kind.Barrier a s v) u (reply_for image cs p (Ok (ask.Bus (request.Barrier (held_pairs u))))) in
+    let code = leaves_code p r h (itself cpu) (λ l. refl) (λ l. refl) refl in
+    fence_shows image (r ∷ h) p r h cs u u.code before
+    (record { holds = λ l. held_fenced p l r h (itself cpu) refl refl refl refl refl; stamps = λ l. stamp_left p l r h (itself cpu) refl refl refl; fence = barrier_made p r h (itself cpu) refl })
+    (same_shows image (r ∷ h) (λ l. code_held p l h) (λ l. code_held p l (r ∷ h)) (λ l. code_stamp p l h) (λ l. code_stamp p l (r ∷ h)) u.code code.holds code.stamps was.code) was
+
+code_barrier_goes : (image : ℕ → ℕ) (cpu : Cpu) (h : List Record) (u : Kept) (cs : List BusCall) (a s v : ℕ) → BusAgrees image h cs
+    → Goes image cpu (of_step cpu (wanting kind.CodeBarrier a s v) u (reply_for image cs (cpu_number cpu) (Ok (ask.Bus (request.CodeBarrier (held_pairs u)))))) h u
+    (stepped (Some (wanting kind.CodeBarrier a s v)) (reply_for image cs (cpu_number cpu) (Ok (ask.Bus (request.CodeBarrier (held_pairs u))))) u) (calls_for image cs cpu (Ok (ask.Bus (request.CodeBarrier (held_pairs u)))))
+unfolding reply_by
+code_barrier_goes image cpu h u cs a s v before fit bus was =
+    let p : ℕ = cpu_number cpu in
+    let r : Record = of_step cpu (wanting kind.CodeBarrier a s v) u (reply_for image cs p (Ok (ask.Bus (request.CodeBarrier (held_pairs u))))) in
+    fence_shows image (r ∷ h) p r h cs u [] before
+    (record { holds = λ l. held_fenced p l r h (itself cpu) refl refl refl refl refl; stamps = λ l. stamp_left p l r h (itself cpu) refl refl refl; fence = barrier_made p r h (itself cpu) refl })
+    (record { whole = whole_empty; each = λ l. rw (told_of_none l) (code_lost p l r h (itself cpu) refl refl) }) was
+
+-- a Step
+access_goes : (k : Kind) (image : ℕ → ℕ) (cpu : Cpu) (h : List Record) (u : Kept) (cs : List BusCall) (a s v : ℕ) (boundary armed : Bool) (q : Ask2) → BusAgrees image h cs → step_ask boundary (Some (wanting k a s v)) armed u ≡ Some q
+    → Goes image cpu (of_step cpu (wanting k a s v) u (reply_for image cs (cpu_number cpu) (Ok q))) h u (stepped (Some (wanting k a s v)) (reply_for image cs (cpu_number cpu) (Ok q)) u) (calls_for image cs cpu (Ok q))
+access_goes kind.Fetch image cpu h u cs a s v boundary armed q before asks = λ fit bus was. still image cpu h u _ refl refl refl refl was
+access_goes kind.Read image cpu h u cs a s v boundary armed q before asks = λ fit bus was. still image cpu h u _ refl refl refl refl was
+access_goes kind.Write image cpu h u cs a s v boundary armed q before asks = λ fit bus was. still image cpu h u _ refl refl refl refl was
+access_goes kind.WriteBarrier image cpu h u cs a s v boundary armed q before asks = λ fit bus was. still image cpu h u _ refl refl refl refl was
+access_goes kind.Signal image cpu h u cs a s v boundary armed q before asks = λ fit bus was. still image cpu h u _ refl refl refl refl was
+access_goes kind.Console image cpu h u cs a s v boundary armed q before asks = λ fit bus was. still image cpu h u _ refl refl refl refl was
+access_goes kind.Poll image cpu h u cs a s v boundary armed q before asks = λ fit bus was. still image cpu h u _ refl refl refl refl was
+access_goes kind.Locked image cpu h u cs a s v boundary armed q before asks =
+    let both = asked_if (ready kind.Locked (line_of a) u) (ask.Bus (request.Locked a)) q asks in
+    let room = (and_parts (not (list_any (is_of_line (line_of a)) u.buffer.kept)) (has_room (line_of a) (data_copies (line_of a) u)) both.0).1 in
+    subst (λ x. Goes image cpu (of_step cpu (wanting kind.Locked a s v) u (reply_for image cs (cpu_number cpu) (Ok x))) h u (stepped (Some (wanting kind.Locked a s v)) (reply_for image cs (cpu_number cpu) (Ok x)) u) (calls_for image cs cpu (Ok x)))
+    both.1 (locked_goes image cpu h u cs a s v room)
+access_goes kind.Conditional image cpu h u cs a s v boundary armed q before asks =
+    let both = asked_if (ready kind.Conditional (line_of a) u) (ask.Bus (request.Conditional a s v armed)) q asks in
+    subst (λ x. Goes image cpu (of_step cpu (wanting kind.Conditional a s v) u (reply_for image cs (cpu_number cpu) (Ok x))) h u (stepped (Some (wanting kind.Conditional a s v)) (reply_for image cs (cpu_number cpu) (Ok x)) u) (calls_for image cs cpu (Ok x)))
+    both.1 (conditional_goes image cpu h u cs a s v armed)
+access_goes kind.Barrier image cpu h u cs a s v boundary armed q before asks =
+    let both = asked_if (ready kind.Barrier (line_of a) u) (ask.Bus (request.Barrier (held_pairs u))) q asks in
+    subst (λ x. Goes image cpu (of_step cpu (wanting kind.Barrier a s v) u (reply_for image cs (cpu_number cpu) (Ok x))) h u (stepped (Some (wanting kind.Barrier a s v)) (reply_for image cs (cpu_number cpu) (Ok x)) u) (calls_for image cs cpu (Ok x)))
+    both.1 (barrier_goes image cpu h u cs a s v before)
+access_goes kind.CodeBarrier image cpu h u cs a s v boundary armed q before asks =
+    let both = asked_if (ready kind.CodeBarrier (line_of a) u) (ask.Bus (request.CodeBarrier (held_pairs u))) q asks in
+    subst (λ x. Goes image cpu (of_step cpu (wanting kind.CodeBarrier a s v) u (reply_for image cs (cpu_number cpu) (Ok x))) h u (stepped (Some (wanting kind.CodeBarrier a s v)) (reply_for image cs (cpu_number cpu) (Ok x)) u) (calls_for image cs cpu (Ok x)))
+    both.1 (code_barrier_goes image cpu h u cs a s v before)
+
+step_goes : (o : Option Wanted) (image : ℕ → ℕ) (cpu : Cpu) (h : List Record) (u : Kept) (cs : List BusCall) (boundary armed : Bool) (q : Ask2) → BusAgrees image h cs → step_ask boundary o armed u ≡ Some q
+    → Goes image cpu (of_act cpu act.Step (step_outcome cpu o u (reply_for image cs (cpu_number cpu) (Ok q)))) h u (stepped o (reply_for image cs (cpu_number cpu) (Ok q)) u) (calls_for image cs cpu (Ok q))
+step_goes None image cpu h u cs boundary armed q before asks = λ fit bus was. idle image cpu act.Step outcome.NoAccess h u (λ l. refl) (λ l. refl) (λ l. refl) (λ l. refl) (λ l. refl) (λ l. refl) refl refl (λ l s. refl) was
+step_goes (Some w) image cpu h u cs boundary armed q before asks = access_goes w.kind image cpu h u cs w.address w.size w.value boundary armed q before asks
