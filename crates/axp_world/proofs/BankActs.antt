@@ -20,6 +20,7 @@ use Rattle.axp_access.specs.declared.Record.{Record}
 use Rattle.axp_access.specs.declared.Wanted.{Wanted}
 use Rattle.axp_bank.specs.Copies.{copy_of, dropped, has_room, is_held, put}
 use Rattle.axp_bank.proofs.BankLemmas.{whole_empty}
+use Rattle.axp_line.specs.Lines.{data_of}
 use Rattle.axp_line.specs.declared.contents.LineData.{LineData}
 use Rattle.axp_line.specs.declared.messages.Reply.{Reply}
 use Rattle.axp_line.specs.declared.messages.Reply.TheVariants as reply
@@ -33,7 +34,7 @@ use Rattle.axp_lsu.specs.declared.asks.Ask2.TheVariants as ask
 use Rattle.axp_lockreg.specs.Blocks.{is_allowed}
 use Rattle.axp_regs.specs.declared.asks.Kind.{Kind}
 use Rattle.axp_regs.specs.declared.asks.Kind.TheVariants as kind
-use Rattle.axp_wbuf.specs.Drains.{oldest_group}
+use Rattle.axp_wbuf.specs.Drains.{oldest_group, without}
 use Rattle.axp_wbuf.specs.Pending.{Pending, is_of_line}
 use Rattle.axp_model.specs.BusCalls.{BusCall, would_write}
 use Rattle.axp_model.specs.BusReply.{bus_reply, front, reply_by, tried}
@@ -198,3 +199,106 @@ step_goes : (o : Option Wanted) (image : ℕ → ℕ) (cpu : Cpu) (h : List Reco
     → Goes image cpu (of_act cpu act.Step (step_outcome cpu o u (reply_for image cs (cpu_number cpu) (Ok q)))) h u (stepped o (reply_for image cs (cpu_number cpu) (Ok q)) u) (calls_for image cs cpu (Ok q))
 step_goes None image cpu h u cs boundary armed q before asks = λ fit bus was. idle image cpu act.Step outcome.NoAccess h u (λ l. refl) (λ l. refl) (λ l. refl) (λ l. refl) (λ l. refl) (λ l. refl) refl refl (λ l s. refl) was
 step_goes (Some w) image cpu h u cs boundary armed q before asks = access_goes w.kind image cpu h u cs w.address w.size w.value boundary armed q before asks
+
+-- a Fill brings a line in
+abbrev of_fill : Cpu → Bank → Line → ℕ → Record
+of_fill cpu b line turn = of_act cpu act.Fill (outcome.Filled b line turn)
+
+data_filled : (b : Bank) (image : ℕ → ℕ) (cpu : Cpu) (h : List Record) (u : Kept) (line : Line) (turn : ℕ) (d : LineData) → in_bank b (line_number line) ≡ true → has_room (line_number line) (copies_of b u) ≡ true
+    → HasMemory image (of_fill cpu b line turn ∷ h) (line_number line) (Some (turn, d)) (turns h) → KeptShows image (of_fill cpu b line turn ∷ h) (cpu_number cpu) h u
+    → KeptShows image (of_fill cpu b line turn ∷ h) (cpu_number cpu) (of_fill cpu b line turn ∷ h) (with_copies b (put (copy_of line turn d) (copies_of b u)) u)
+data_filled Even image cpu h u line turn d mine room memory was =
+    let p : ℕ = cpu_number cpu in
+    let r : Record = of_fill cpu Even line turn in
+    let here : fills (line_number line) r.outcome ≡ true = this_line (line_number line) line refl in
+    line_brought image p Even r h u line turn d mine
+    (leaves_others (line_number line) p r h (itself cpu) (λ l apart. other_line (line_number line) l line refl apart) (λ l apart. refl) (λ l apart. refl) (λ l apart. refl) refl (λ l t apart. refl))
+    (leaves_code p r h (itself cpu) (λ l. refl) (λ l. refl) refl) (barrier_left p r h (itself cpu) refl)
+    (held_brought p (line_number line) r h (itself cpu) (rw here refl)) (stamp_brought p (line_number line) r h (itself cpu) (rw here refl)) room memory was
+data_filled Odd image cpu h u line turn d mine room memory was =
+    let p : ℕ = cpu_number cpu in
+    let r : Record = of_fill cpu Odd line turn in
+    let here : fills (line_number line) r.outcome ≡ true = this_line (line_number line) line refl in
+    line_brought image p Odd r h u line turn d mine
+    (leaves_others (line_number line) p r h (itself cpu) (λ l apart. other_line (line_number line) l line refl apart) (λ l apart. refl) (λ l apart. refl) (λ l apart. refl) refl (λ l t apart. refl))
+    (leaves_code p r h (itself cpu) (λ l. refl) (λ l. refl) refl) (barrier_left p r h (itself cpu) refl)
+    (held_brought p (line_number line) r h (itself cpu) (rw here refl)) (stamp_brought p (line_number line) r h (itself cpu) (rw here refl)) room memory was
+data_filled Code image cpu h u line turn d mine room memory was = absurd (false≢true mine)
+
+code_filled : (image : ℕ → ℕ) (cpu : Cpu) (h : List Record) (u : Kept) (line : Line) (turn : ℕ) (d : LineData) → has_room (line_number line) u.code ≡ true
+    → HasMemory image (of_fill cpu Code line turn ∷ h) (line_number line) (Some (turn, d)) (turns h) → KeptShows image (of_fill cpu Code line turn ∷ h) (cpu_number cpu) h u
+    → KeptShows image (of_fill cpu Code line turn ∷ h) (cpu_number cpu) (of_fill cpu Code line turn ∷ h) (with_copies Code (put (copy_of line turn d) u.code) u)
+code_filled image cpu h u line turn d room memory was =
+    let p : ℕ = cpu_number cpu in
+    let r : Record = of_fill cpu Code line turn in
+    let here : fills_code (line_number line) r.outcome ≡ true = this_line (line_number line) line refl in
+    code_line_brought image p r h u line turn d
+    (leaves_data p r h (itself cpu) (λ l. refl) (λ l. refl) (λ l. refl) (λ l. refl) refl (λ l t. refl))
+    (leaves_other_code (line_number line) p r h (itself cpu) (λ l apart. other_line (line_number line) l line refl apart) (λ l apart. refl) refl) (barrier_left p r h (itself cpu) refl)
+    (code_brought p (line_number line) r h (itself cpu) here) (code_stamp_brought p (line_number line) r h (itself cpu) here) room memory was
+
+data_fill_goes : (image : ℕ → ℕ) (cpu : Cpu) (h : List Record) (u : Kept) (cs : List BusCall) (a s v : ℕ) → a < 2 ^ 64 → has_room (line_of a) (data_copies (line_of a) u) ≡ true
+    → Goes image cpu (of_act cpu act.Fill (fill_outcome (Some (wanting kind.Read a s v)) (reply_for image cs (cpu_number cpu) (Ok (ask.Bus (request.Fill (line_at a))))))) h u
+    (filled (Some (wanting kind.Read a s v)) (reply_for image cs (cpu_number cpu) (Ok (ask.Bus (request.Fill (line_at a))))) u) (calls_for image cs cpu (Ok (ask.Bus (request.Fill (line_at a)))))
+unfolding reply_by
+data_fill_goes image cpu h u cs a s v low room fit bus was =
+    let line : Line = line_at a in
+    let is : line_number line ≡ line_of a = line_at-number a low in
+    data_filled (data_bank (line_of a)) image cpu h u line _ _ (subst (λ n. in_bank (data_bank (line_of a)) n ≡ true) (sym is) (bank_own (line_of a)))
+    (subst (λ n. has_room n (data_copies (line_of a) u) ≡ true) (sym is) room)
+    (bus_line image (of_fill cpu (data_bank (line_of a)) line (front image cs (cpu_number cpu)).turns ∷ h) (calls_for image cs cpu (Ok (ask.Bus (request.Fill line)))) line (line_number line) _ _ bus refl refl refl) was
+
+code_fill_goes : (image : ℕ → ℕ) (cpu : Cpu) (h : List Record) (u : Kept) (cs : List BusCall) (a s v : ℕ) → a < 2 ^ 64 → has_room (line_of a) u.code ≡ true
+    → Goes image cpu (of_act cpu act.Fill (fill_outcome (Some (wanting kind.Fetch a s v)) (reply_for image cs (cpu_number cpu) (Ok (ask.Bus (request.FillCode (line_at a))))))) h u
+    (filled (Some (wanting kind.Fetch a s v)) (reply_for image cs (cpu_number cpu) (Ok (ask.Bus (request.FillCode (line_at a))))) u) (calls_for image cs cpu (Ok (ask.Bus (request.FillCode (line_at a)))))
+unfolding reply_by
+code_fill_goes image cpu h u cs a s v low room fit bus was =
+    let line : Line = line_at a in
+    let is : line_number line ≡ line_of a = line_at-number a low in
+    code_filled image cpu h u line _ _ (subst (λ n. has_room n u.code ≡ true) (sym is) room)
+    (bus_line image (of_fill cpu Code line (front image cs (cpu_number cpu)).turns ∷ h) (calls_for image cs cpu (Ok (ask.Bus (request.FillCode line)))) line (line_number line) _ _ bus refl refl refl) was
+
+wanted_fill_goes : (k : Kind) (image : ℕ → ℕ) (cpu : Cpu) (h : List Record) (u : Kept) (cs : List BusCall) (a s v : ℕ) (q : Ask2) → IsInLine a s → fill_ask (Some (wanting k a s v)) u ≡ Some q
+    → Goes image cpu (of_act cpu act.Fill (fill_outcome (Some (wanting k a s v)) (reply_for image cs (cpu_number cpu) (Ok q)))) h u (filled (Some (wanting k a s v)) (reply_for image cs (cpu_number cpu) (Ok q)) u) (calls_for image cs cpu (Ok q))
+wanted_fill_goes kind.Fetch image cpu h u cs a s v q inside asks =
+    let both = asked_if (may_bring (line_of a) u.code) (ask.Bus (request.FillCode (line_at a))) q asks in
+    let room = (and_parts (not (is_held (line_of a) u.code)) (has_room (line_of a) u.code) both.0).1 in
+    subst (λ x. Goes image cpu (of_act cpu act.Fill (fill_outcome (Some (wanting kind.Fetch a s v)) (reply_for image cs (cpu_number cpu) (Ok x)))) h u (filled (Some (wanting kind.Fetch a s v)) (reply_for image cs (cpu_number cpu) (Ok x)) u) (calls_for image cs cpu (Ok x)))
+    both.1 (code_fill_goes image cpu h u cs a s v inside.addressed room)
+wanted_fill_goes kind.Read image cpu h u cs a s v q inside asks =
+    let both = asked_if (may_bring (line_of a) (data_copies (line_of a) u)) (ask.Bus (request.Fill (line_at a))) q asks in
+    let room = (and_parts (not (is_held (line_of a) (data_copies (line_of a) u))) (has_room (line_of a) (data_copies (line_of a) u)) both.0).1 in
+    subst (λ x. Goes image cpu (of_act cpu act.Fill (fill_outcome (Some (wanting kind.Read a s v)) (reply_for image cs (cpu_number cpu) (Ok x)))) h u (filled (Some (wanting kind.Read a s v)) (reply_for image cs (cpu_number cpu) (Ok x)) u) (calls_for image cs cpu (Ok x)))
+    both.1 (data_fill_goes image cpu h u cs a s v inside.addressed room)
+wanted_fill_goes _ image cpu h u cs a s v q inside asks = cc
+
+fill_goes : (o : Option Wanted) (image : ℕ → ℕ) (cpu : Cpu) (h : List Record) (u : Kept) (cs : List BusCall) (q : Ask2) → WantsInLine o → fill_ask o u ≡ Some q
+    → Goes image cpu (of_act cpu act.Fill (fill_outcome o (reply_for image cs (cpu_number cpu) (Ok q)))) h u (filled o (reply_for image cs (cpu_number cpu) (Ok q)) u) (calls_for image cs cpu (Ok q))
+fill_goes None image cpu h u cs q inside asks = cc
+fill_goes (Some w) image cpu h u cs q inside asks = wanted_fill_goes w.kind image cpu h u cs w.address w.size w.value q inside asks
+
+-- a Drain writes its entry's line again
+abbrev drain_of : Pending → Ask2
+drain_of e = ask.Bus (request.Drain (line_numbered e.line) (record { 0 = e.bits }) (data_of e.bytes))
+
+entry_goes : (image : ℕ → ℕ) (cpu : Cpu) (h : List Record) (u : Kept) (cs : List BusCall) (k : ℕ) (e : Pending)
+    → Goes image cpu (of_act cpu (act.Drain k) (drain_outcome (Some e) (reply_for image cs (cpu_number cpu) (Ok (drain_of e))))) h u (drained k (Some e) (reply_for image cs (cpu_number cpu) (Ok (drain_of e))) u) (calls_for image cs cpu (Ok (drain_of e)))
+unfolding reply_by
+entry_goes image cpu h u cs k e fit bus was =
+    let p : ℕ = cpu_number cpu in
+    let line : Line = line_numbered e.line in
+    let r : Record = of_act cpu (act.Drain k) (drain_outcome (Some e) (reply_for image cs (cpu_number cpu) (Ok (drain_of e)))) in
+    let here : turns_on (line_number line) r.outcome ≡ true = this_line (line_number line) line refl in
+    line_rewritten image p r h (record u { buffer = without k u.buffer }) line _ _
+    (leaves_others (line_number line) p r h (itself cpu) (λ l apart. refl) (λ l apart. refl) (λ l apart. other_line (line_number line) l line refl apart) (λ l apart. refl) refl (λ l t apart. refl))
+    (leaves_code p r h (itself cpu) (λ l. refl) (λ l. refl) refl) (barrier_left p r h (itself cpu) refl)
+    (held_left p (line_number line) r h (itself cpu) refl refl refl refl refl) (stamp_brought p (line_number line) r h (itself cpu) here)
+    (bus_line image (r ∷ h) (calls_for image cs cpu (Ok (drain_of e))) line (line_number line) _ _ bus refl refl refl) was
+
+drain_goes : (o : Option Pending) (image : ℕ → ℕ) (cpu : Cpu) (h : List Record) (u : Kept) (cs : List BusCall) (k : ℕ) (q : Ask2) → drain_ask o ≡ Some q
+    → Goes image cpu (of_act cpu (act.Drain k) (drain_outcome o (reply_for image cs (cpu_number cpu) (Ok q)))) h u (drained k o (reply_for image cs (cpu_number cpu) (Ok q)) u) (calls_for image cs cpu (Ok q))
+drain_goes None image cpu h u cs k q asks = cc
+drain_goes (Some e) image cpu h u cs k q asks =
+    let same : drain_of e ≡ q = cc in
+    subst (λ x. Goes image cpu (of_act cpu (act.Drain k) (drain_outcome (Some e) (reply_for image cs (cpu_number cpu) (Ok x)))) h u (drained k (Some e) (reply_for image cs (cpu_number cpu) (Ok x)) u) (calls_for image cs cpu (Ok x)))
+    same (entry_goes image cpu h u cs k e)
