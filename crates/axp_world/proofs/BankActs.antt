@@ -1,5 +1,5 @@
 -- Banks after each act of their processor.
-use Rattle.std.proofs.Common.{◌≡◌, ◌≢◌, ℕ, ◌+◌, ◌^◌, ◌<◌, Bool, true, false, cond, not, ◌&&◌, ◌||◌, eqb, ltb, List, [], ◌∷◌, Option, Some, None, refl, sym, ap, ◌∙◌, subst, ⊎_elim}
+use Rattle.std.proofs.Common.{◌≡◌, ◌≢◌, ℕ, ◌+◌, ◌^◌, ◌<◌, Bool, true, false, cond, not, ◌&&◌, ◌||◌, eqb, ltb, List, [], ◌∷◌, slice_get, Option, Some, None, refl, sym, ap, ◌∙◌, subst, ⊎_elim}
 use Rattle.std.specs.List.{list_any}
 use Rattle.std.specs.Prelude.{Result, Ok, Err}
 use Rattle.std.proofs.lemmas.Bool.{and_parts, cases_Bool, eq-eqb, ne_eqb, false≢true}
@@ -28,7 +28,7 @@ use Rattle.axp_line.specs.declared.messages.Request.{Request}
 use Rattle.axp_line.specs.declared.messages.Request.TheVariants as request
 use Rattle.axp_lsu.specs.Asking.{act_ask, drain_ask, fill_ask, may_bring, ready, step_ask, take_ask}
 use Rattle.axp_lsu.specs.Going.{delivered, drain_outcome, drained, fill_outcome, filled, kept_after, outcome_by, poll_outcome, step_outcome, stepped, take_outcome}
-use Rattle.axp_lsu.specs.Keeping.{Kept, copies_of, data_copies, held_pairs, with_copies}
+use Rattle.axp_lsu.specs.Keeping.{Kept, copies_of, data_copies, has_dropped, held_pairs, with_copies}
 use Rattle.axp_lsu.specs.declared.asks.Ask2.{Ask2}
 use Rattle.axp_lsu.specs.declared.asks.Ask2.TheVariants as ask
 use Rattle.axp_lockreg.specs.Blocks.{is_allowed}
@@ -98,18 +98,18 @@ this_line n line is = eq-eqb n (line_number line) (sym is)
 abbrev wanting : Kind → ℕ → ℕ → ℕ → Wanted
 wanting k a s v = record { kind = k; address = a; size = s; value = v }
 
-abbrev of_step : Cpu → Wanted → Kept → Option Reply → Record
-of_step cpu w u t = of_act cpu act.Step (step_outcome cpu (Some w) u t)
+abbrev of_step : Cpu → Cpu → Wanted → Kept → Option Reply → Record
+of_step cpu maker w u t = of_act cpu act.Step (step_outcome maker (Some w) u t)
 
 -- a load-locked brings its line in
-locked_goes : (image : ℕ → ℕ) (cpu : Cpu) (h : List Record) (u : Kept) (cs : List BusCall) (a s v : ℕ) → has_room (line_of a) (data_copies (line_of a) u) ≡ true
-    → Goes image cpu (of_step cpu (wanting kind.Locked a s v) u (reply_for image cs (cpu_number cpu) (Ok (ask.Bus (request.Locked a))))) h u (stepped (Some (wanting kind.Locked a s v)) (reply_for image cs (cpu_number cpu) (Ok (ask.Bus (request.Locked a)))) u) (calls_for image cs cpu (Ok (ask.Bus (request.Locked a))))
+locked_goes : (image : ℕ → ℕ) (cpu maker : Cpu) (h : List Record) (u : Kept) (cs : List BusCall) (a s v : ℕ) → has_room (line_of a) (data_copies (line_of a) u) ≡ true
+    → Goes image cpu (of_step cpu maker (wanting kind.Locked a s v) u (reply_for image cs (cpu_number cpu) (Ok (ask.Bus (request.Locked a))))) h u (stepped (Some (wanting kind.Locked a s v)) (reply_for image cs (cpu_number cpu) (Ok (ask.Bus (request.Locked a)))) u) (calls_for image cs cpu (Ok (ask.Bus (request.Locked a))))
 unfolding reply_by
-locked_goes image cpu h u cs a s v room fit bus was =
+locked_goes image cpu maker h u cs a s v room fit bus was =
     let p : ℕ = cpu_number cpu in
     let line : Line = line_at a in
     let is : line_number line ≡ line_of a = line_at-number a fit.0.1.addressed in
-    let r : Record = of_step cpu (wanting kind.Locked a s v) u (reply_for image cs p (Ok (ask.Bus (request.Locked a)))) in
+    let r : Record = of_step cpu maker (wanting kind.Locked a s v) u (reply_for image cs p (Ok (ask.Bus (request.Locked a)))) in
     line_brought image p (data_bank (line_of a)) r h u line _ _ (subst (λ n. in_bank (data_bank (line_of a)) n ≡ true) (sym is) (bank_own (line_of a)))
     (leaves_others (line_number line) p r h (itself cpu) (λ l apart. refl) (λ l apart. other_line (line_of a) l line is apart) (λ l apart. refl) (λ l apart. refl) refl (λ l t apart. refl))
     (leaves_code p r h (itself cpu) (λ l. refl) (λ l. refl) refl) (barrier_left p r h (itself cpu) refl)
@@ -120,85 +120,85 @@ locked_goes image cpu h u cs a s v room fit bus was =
 abbrev conditional_call : (ℕ → ℕ) → Cpu → List BusCall → Request → Reply → List BusCall
 conditional_call image cpu cs q t = record { cpu = cpu; ask = q; answer = t } ∷ cs
 
-conditional_by : (b : Bool) (image : ℕ → ℕ) (cpu : Cpu) (h : List Record) (u : Kept) (cs : List BusCall) (a s v : ℕ) (armed : Bool)
-    → Goes image cpu (of_step cpu (wanting kind.Conditional a s v) u (Some (tried b (front image cs (cpu_number cpu)) (would_write (request.Conditional a s v armed)) (line_at a)))) h u
+conditional_by : (b : Bool) (image : ℕ → ℕ) (cpu maker : Cpu) (h : List Record) (u : Kept) (cs : List BusCall) (a s v : ℕ) (armed : Bool)
+    → Goes image cpu (of_step cpu maker (wanting kind.Conditional a s v) u (Some (tried b (front image cs (cpu_number cpu)) (would_write (request.Conditional a s v armed)) (line_at a)))) h u
     (stepped (Some (wanting kind.Conditional a s v)) (Some (tried b (front image cs (cpu_number cpu)) (would_write (request.Conditional a s v armed)) (line_at a))) u)
     (conditional_call image cpu cs (request.Conditional a s v armed) (tried b (front image cs (cpu_number cpu)) (would_write (request.Conditional a s v armed)) (line_at a)))
-conditional_by true image cpu h u cs a s v armed fit bus was =
+conditional_by true image cpu maker h u cs a s v armed fit bus was =
     let p : ℕ = cpu_number cpu in
     let t : Reply = tried true (front image cs p) (would_write (request.Conditional a s v armed)) (line_at a) in
     let line : Line = line_at a in
     let is : line_number line ≡ line_of a = line_at-number a fit.0.1.addressed in
-    let r : Record = of_step cpu (wanting kind.Conditional a s v) u (Some t) in
+    let r : Record = of_step cpu maker (wanting kind.Conditional a s v) u (Some t) in
     line_rewritten image p r h u line _ _
     (leaves_others (line_number line) p r h (itself cpu) (λ l apart. refl) (λ l apart. refl) (λ l apart. other_line (line_of a) l line is apart) (λ l apart. refl) refl (λ l t apart. refl))
     (leaves_code p r h (itself cpu) (λ l. refl) (λ l. refl) refl) (barrier_left p r h (itself cpu) refl)
     (held_left p (line_number line) r h (itself cpu) refl refl refl refl refl) (stamp_brought p (line_number line) r h (itself cpu) (this_line (line_of a) line is))
     (bus_line image (r ∷ h) (conditional_call image cpu cs (request.Conditional a s v armed) t) line (line_number line) _ _ bus refl refl refl) was
-conditional_by false image cpu h u cs a s v armed fit bus was = still image cpu h u _ refl refl refl refl was
+conditional_by false image cpu maker h u cs a s v armed fit bus was = still image cpu h u _ refl refl refl refl was
 
-conditional_goes : (image : ℕ → ℕ) (cpu : Cpu) (h : List Record) (u : Kept) (cs : List BusCall) (a s v : ℕ) (armed : Bool)
-    → Goes image cpu (of_step cpu (wanting kind.Conditional a s v) u (reply_for image cs (cpu_number cpu) (Ok (ask.Bus (request.Conditional a s v armed))))) h u
+conditional_goes : (image : ℕ → ℕ) (cpu maker : Cpu) (h : List Record) (u : Kept) (cs : List BusCall) (a s v : ℕ) (armed : Bool)
+    → Goes image cpu (of_step cpu maker (wanting kind.Conditional a s v) u (reply_for image cs (cpu_number cpu) (Ok (ask.Bus (request.Conditional a s v armed))))) h u
     (stepped (Some (wanting kind.Conditional a s v)) (reply_for image cs (cpu_number cpu) (Ok (ask.Bus (request.Conditional a s v armed)))) u) (calls_for image cs cpu (Ok (ask.Bus (request.Conditional a s v armed))))
 unfolding reply_by
-conditional_goes image cpu h u cs a s v armed = conditional_by (armed && is_allowed a (front image cs (cpu_number cpu)).block) image cpu h u cs a s v armed
+conditional_goes image cpu maker h u cs a s v armed = conditional_by (armed && is_allowed a (front image cs (cpu_number cpu)).block) image cpu maker h u cs a s v armed
 
 -- a barrier delivers all that is late
-barrier_goes : (image : ℕ → ℕ) (cpu : Cpu) (h : List Record) (u : Kept) (cs : List BusCall) (a s v : ℕ) → BusAgrees image h cs
-    → Goes image cpu (of_step cpu (wanting kind.Barrier a s v) u (reply_for image cs (cpu_number cpu) (Ok (ask.Bus (request.Barrier (held_pairs u)))))) h u
+barrier_goes : (image : ℕ → ℕ) (cpu maker : Cpu) (h : List Record) (u : Kept) (cs : List BusCall) (a s v : ℕ) → BusAgrees image h cs
+    → Goes image cpu (of_step cpu maker (wanting kind.Barrier a s v) u (reply_for image cs (cpu_number cpu) (Ok (ask.Bus (request.Barrier (held_pairs u)))))) h u
     (stepped (Some (wanting kind.Barrier a s v)) (reply_for image cs (cpu_number cpu) (Ok (ask.Bus (request.Barrier (held_pairs u))))) u) (calls_for image cs cpu (Ok (ask.Bus (request.Barrier (held_pairs u)))))
 unfolding reply_by
-barrier_goes image cpu h u cs a s v before fit bus was =
+barrier_goes image cpu maker h u cs a s v before fit bus was =
     let p : ℕ = cpu_number cpu in
-    let r : Record = of_step cpu (wanting kind.Barrier a s v) u (reply_for image cs p (Ok (ask.Bus (request.Barrier (held_pairs u))))) in
+    let r : Record = of_step cpu maker (wanting kind.Barrier a s v) u (reply_for image cs p (Ok (ask.Bus (request.Barrier (held_pairs u))))) in
     let code = leaves_code p r h (itself cpu) (λ l. refl) (λ l. refl) refl in
     fence_shows image (r ∷ h) p r h cs u u.code before
     (record { holds = λ l. held_fenced p l r h (itself cpu) refl refl refl refl refl; stamps = λ l. stamp_left p l r h (itself cpu) refl refl refl; fence = barrier_made p r h (itself cpu) refl })
     (same_shows image (r ∷ h) (λ l. code_held p l h) (λ l. code_held p l (r ∷ h)) (λ l. code_stamp p l h) (λ l. code_stamp p l (r ∷ h)) u.code code.holds code.stamps was.code) was
 
-code_barrier_goes : (image : ℕ → ℕ) (cpu : Cpu) (h : List Record) (u : Kept) (cs : List BusCall) (a s v : ℕ) → BusAgrees image h cs
-    → Goes image cpu (of_step cpu (wanting kind.CodeBarrier a s v) u (reply_for image cs (cpu_number cpu) (Ok (ask.Bus (request.CodeBarrier (held_pairs u)))))) h u
+code_barrier_goes : (image : ℕ → ℕ) (cpu maker : Cpu) (h : List Record) (u : Kept) (cs : List BusCall) (a s v : ℕ) → BusAgrees image h cs
+    → Goes image cpu (of_step cpu maker (wanting kind.CodeBarrier a s v) u (reply_for image cs (cpu_number cpu) (Ok (ask.Bus (request.CodeBarrier (held_pairs u)))))) h u
     (stepped (Some (wanting kind.CodeBarrier a s v)) (reply_for image cs (cpu_number cpu) (Ok (ask.Bus (request.CodeBarrier (held_pairs u))))) u) (calls_for image cs cpu (Ok (ask.Bus (request.CodeBarrier (held_pairs u)))))
 unfolding reply_by
-code_barrier_goes image cpu h u cs a s v before fit bus was =
+code_barrier_goes image cpu maker h u cs a s v before fit bus was =
     let p : ℕ = cpu_number cpu in
-    let r : Record = of_step cpu (wanting kind.CodeBarrier a s v) u (reply_for image cs p (Ok (ask.Bus (request.CodeBarrier (held_pairs u))))) in
+    let r : Record = of_step cpu maker (wanting kind.CodeBarrier a s v) u (reply_for image cs p (Ok (ask.Bus (request.CodeBarrier (held_pairs u))))) in
     fence_shows image (r ∷ h) p r h cs u [] before
     (record { holds = λ l. held_fenced p l r h (itself cpu) refl refl refl refl refl; stamps = λ l. stamp_left p l r h (itself cpu) refl refl refl; fence = barrier_made p r h (itself cpu) refl })
     (record { whole = whole_empty; each = λ l. rw (told_of_none l) (code_lost p l r h (itself cpu) refl refl) }) was
 
 -- a Step
-access_goes : (k : Kind) (image : ℕ → ℕ) (cpu : Cpu) (h : List Record) (u : Kept) (cs : List BusCall) (a s v : ℕ) (boundary armed : Bool) (q : Ask2) → BusAgrees image h cs → step_ask boundary (Some (wanting k a s v)) armed u ≡ Some q
-    → Goes image cpu (of_step cpu (wanting k a s v) u (reply_for image cs (cpu_number cpu) (Ok q))) h u (stepped (Some (wanting k a s v)) (reply_for image cs (cpu_number cpu) (Ok q)) u) (calls_for image cs cpu (Ok q))
-access_goes kind.Fetch image cpu h u cs a s v boundary armed q before asks = λ fit bus was. still image cpu h u _ refl refl refl refl was
-access_goes kind.Read image cpu h u cs a s v boundary armed q before asks = λ fit bus was. still image cpu h u _ refl refl refl refl was
-access_goes kind.Write image cpu h u cs a s v boundary armed q before asks = λ fit bus was. still image cpu h u _ refl refl refl refl was
-access_goes kind.WriteBarrier image cpu h u cs a s v boundary armed q before asks = λ fit bus was. still image cpu h u _ refl refl refl refl was
-access_goes kind.Signal image cpu h u cs a s v boundary armed q before asks = λ fit bus was. still image cpu h u _ refl refl refl refl was
-access_goes kind.Console image cpu h u cs a s v boundary armed q before asks = λ fit bus was. still image cpu h u _ refl refl refl refl was
-access_goes kind.Poll image cpu h u cs a s v boundary armed q before asks = λ fit bus was. still image cpu h u _ refl refl refl refl was
-access_goes kind.Locked image cpu h u cs a s v boundary armed q before asks =
+access_goes : (k : Kind) (image : ℕ → ℕ) (cpu maker : Cpu) (h : List Record) (u : Kept) (cs : List BusCall) (a s v : ℕ) (boundary armed : Bool) (q : Ask2) → BusAgrees image h cs → step_ask boundary (Some (wanting k a s v)) armed u ≡ Some q
+    → Goes image cpu (of_step cpu maker (wanting k a s v) u (reply_for image cs (cpu_number cpu) (Ok q))) h u (stepped (Some (wanting k a s v)) (reply_for image cs (cpu_number cpu) (Ok q)) u) (calls_for image cs cpu (Ok q))
+access_goes kind.Fetch image cpu maker h u cs a s v boundary armed q before asks = λ fit bus was. still image cpu h u _ refl refl refl refl was
+access_goes kind.Read image cpu maker h u cs a s v boundary armed q before asks = λ fit bus was. still image cpu h u _ refl refl refl refl was
+access_goes kind.Write image cpu maker h u cs a s v boundary armed q before asks = λ fit bus was. still image cpu h u _ refl refl refl refl was
+access_goes kind.WriteBarrier image cpu maker h u cs a s v boundary armed q before asks = λ fit bus was. still image cpu h u _ refl refl refl refl was
+access_goes kind.Signal image cpu maker h u cs a s v boundary armed q before asks = λ fit bus was. still image cpu h u _ refl refl refl refl was
+access_goes kind.Console image cpu maker h u cs a s v boundary armed q before asks = λ fit bus was. still image cpu h u _ refl refl refl refl was
+access_goes kind.Poll image cpu maker h u cs a s v boundary armed q before asks = λ fit bus was. still image cpu h u _ refl refl refl refl was
+access_goes kind.Locked image cpu maker h u cs a s v boundary armed q before asks =
     let both = asked_if (ready kind.Locked (line_of a) u) (ask.Bus (request.Locked a)) q asks in
     let room = (and_parts (not (list_any (is_of_line (line_of a)) u.buffer.kept)) (has_room (line_of a) (data_copies (line_of a) u)) both.0).1 in
-    subst (λ x. Goes image cpu (of_step cpu (wanting kind.Locked a s v) u (reply_for image cs (cpu_number cpu) (Ok x))) h u (stepped (Some (wanting kind.Locked a s v)) (reply_for image cs (cpu_number cpu) (Ok x)) u) (calls_for image cs cpu (Ok x)))
-    both.1 (locked_goes image cpu h u cs a s v room)
-access_goes kind.Conditional image cpu h u cs a s v boundary armed q before asks =
+    subst (λ x. Goes image cpu (of_step cpu maker (wanting kind.Locked a s v) u (reply_for image cs (cpu_number cpu) (Ok x))) h u (stepped (Some (wanting kind.Locked a s v)) (reply_for image cs (cpu_number cpu) (Ok x)) u) (calls_for image cs cpu (Ok x)))
+    both.1 (locked_goes image cpu maker h u cs a s v room)
+access_goes kind.Conditional image cpu maker h u cs a s v boundary armed q before asks =
     let both = asked_if (ready kind.Conditional (line_of a) u) (ask.Bus (request.Conditional a s v armed)) q asks in
-    subst (λ x. Goes image cpu (of_step cpu (wanting kind.Conditional a s v) u (reply_for image cs (cpu_number cpu) (Ok x))) h u (stepped (Some (wanting kind.Conditional a s v)) (reply_for image cs (cpu_number cpu) (Ok x)) u) (calls_for image cs cpu (Ok x)))
-    both.1 (conditional_goes image cpu h u cs a s v armed)
-access_goes kind.Barrier image cpu h u cs a s v boundary armed q before asks =
+    subst (λ x. Goes image cpu (of_step cpu maker (wanting kind.Conditional a s v) u (reply_for image cs (cpu_number cpu) (Ok x))) h u (stepped (Some (wanting kind.Conditional a s v)) (reply_for image cs (cpu_number cpu) (Ok x)) u) (calls_for image cs cpu (Ok x)))
+    both.1 (conditional_goes image cpu maker h u cs a s v armed)
+access_goes kind.Barrier image cpu maker h u cs a s v boundary armed q before asks =
     let both = asked_if (ready kind.Barrier (line_of a) u) (ask.Bus (request.Barrier (held_pairs u))) q asks in
-    subst (λ x. Goes image cpu (of_step cpu (wanting kind.Barrier a s v) u (reply_for image cs (cpu_number cpu) (Ok x))) h u (stepped (Some (wanting kind.Barrier a s v)) (reply_for image cs (cpu_number cpu) (Ok x)) u) (calls_for image cs cpu (Ok x)))
-    both.1 (barrier_goes image cpu h u cs a s v before)
-access_goes kind.CodeBarrier image cpu h u cs a s v boundary armed q before asks =
+    subst (λ x. Goes image cpu (of_step cpu maker (wanting kind.Barrier a s v) u (reply_for image cs (cpu_number cpu) (Ok x))) h u (stepped (Some (wanting kind.Barrier a s v)) (reply_for image cs (cpu_number cpu) (Ok x)) u) (calls_for image cs cpu (Ok x)))
+    both.1 (barrier_goes image cpu maker h u cs a s v before)
+access_goes kind.CodeBarrier image cpu maker h u cs a s v boundary armed q before asks =
     let both = asked_if (ready kind.CodeBarrier (line_of a) u) (ask.Bus (request.CodeBarrier (held_pairs u))) q asks in
-    subst (λ x. Goes image cpu (of_step cpu (wanting kind.CodeBarrier a s v) u (reply_for image cs (cpu_number cpu) (Ok x))) h u (stepped (Some (wanting kind.CodeBarrier a s v)) (reply_for image cs (cpu_number cpu) (Ok x)) u) (calls_for image cs cpu (Ok x)))
-    both.1 (code_barrier_goes image cpu h u cs a s v before)
+    subst (λ x. Goes image cpu (of_step cpu maker (wanting kind.CodeBarrier a s v) u (reply_for image cs (cpu_number cpu) (Ok x))) h u (stepped (Some (wanting kind.CodeBarrier a s v)) (reply_for image cs (cpu_number cpu) (Ok x)) u) (calls_for image cs cpu (Ok x)))
+    both.1 (code_barrier_goes image cpu maker h u cs a s v before)
 
-step_goes : (o : Option Wanted) (image : ℕ → ℕ) (cpu : Cpu) (h : List Record) (u : Kept) (cs : List BusCall) (boundary armed : Bool) (q : Ask2) → BusAgrees image h cs → step_ask boundary o armed u ≡ Some q
-    → Goes image cpu (of_act cpu act.Step (step_outcome cpu o u (reply_for image cs (cpu_number cpu) (Ok q)))) h u (stepped o (reply_for image cs (cpu_number cpu) (Ok q)) u) (calls_for image cs cpu (Ok q))
-step_goes None image cpu h u cs boundary armed q before asks = λ fit bus was. idle image cpu act.Step outcome.NoAccess h u (λ l. refl) (λ l. refl) (λ l. refl) (λ l. refl) (λ l. refl) (λ l. refl) refl refl (λ l s. refl) was
-step_goes (Some w) image cpu h u cs boundary armed q before asks = access_goes w.kind image cpu h u cs w.address w.size w.value boundary armed q before asks
+step_goes : (o : Option Wanted) (image : ℕ → ℕ) (cpu maker : Cpu) (h : List Record) (u : Kept) (cs : List BusCall) (boundary armed : Bool) (q : Ask2) → BusAgrees image h cs → step_ask boundary o armed u ≡ Some q
+    → Goes image cpu (of_act cpu act.Step (step_outcome maker o u (reply_for image cs (cpu_number cpu) (Ok q)))) h u (stepped o (reply_for image cs (cpu_number cpu) (Ok q)) u) (calls_for image cs cpu (Ok q))
+step_goes None image cpu maker h u cs boundary armed q before asks = λ fit bus was. idle image cpu act.Step outcome.NoAccess h u (λ l. refl) (λ l. refl) (λ l. refl) (λ l. refl) (λ l. refl) (λ l. refl) refl refl (λ l s. refl) was
+step_goes (Some w) image cpu maker h u cs boundary armed q before asks = access_goes w.kind image cpu maker h u cs w.address w.size w.value boundary armed q before asks
 
 -- a Fill brings a line in
 abbrev of_fill : Cpu → Bank → Line → ℕ → Record
@@ -302,3 +302,61 @@ drain_goes (Some e) image cpu h u cs k q asks =
     let same : drain_of e ≡ q = cc in
     subst (λ x. Goes image cpu (of_act cpu (act.Drain k) (drain_outcome (Some e) (reply_for image cs (cpu_number cpu) (Ok x)))) h u (drained k (Some e) (reply_for image cs (cpu_number cpu) (Ok x)) u) (calls_for image cs cpu (Ok x)))
     same (entry_goes image cpu h u cs k e)
+
+-- a Take removes an older copy
+take_goes : (o : Option Reply) (image : ℕ → ℕ) (cpu : Cpu) (h : List Record) (u : Kept) (b : Bank) → KeptShows image (of_act cpu (act.Take b) (take_outcome u o) ∷ h) (cpu_number cpu) h u
+    → KeptShows image (of_act cpu (act.Take b) (take_outcome u o) ∷ h) (cpu_number cpu) (of_act cpu (act.Take b) (take_outcome u o) ∷ h) (delivered o u)
+take_goes (Some (reply.Late line turn)) image cpu h u b was =
+    let p : ℕ = cpu_number cpu in
+    let r : Record = of_act cpu (act.Take b) (take_outcome u (Some (reply.Late line turn))) in
+    let here : takes_away (line_number line) (stamp p (line_number line) h) r.outcome ≡ ltb (stamp p (line_number line) h) turn = rw (this_line (line_number line) line refl) refl in
+    line_invalidated image p r h u (line_number line) turn
+    (leaves_others (line_number line) p r h (itself cpu) (λ l apart. refl) (λ l apart. refl) (λ l apart. refl) (λ l apart. refl) refl (λ l s apart. rw (other_line (line_number line) l line refl apart) refl))
+    (leaves_code p r h (itself cpu) (λ l. refl) (λ l. refl) refl) (barrier_left p r h (itself cpu) refl)
+    (held_taken p (line_number line) r h (itself cpu) refl refl refl refl ∙ ap (λ (x : Bool). held p (line_number line) h && not x) here) (stamp_left p (line_number line) r h (itself cpu) refl refl refl) was
+take_goes _ image cpu h u b was = idle image cpu (act.Take b) outcome.NoAccess h u (λ l. refl) (λ l. refl) (λ l. refl) (λ l. refl) (λ l. refl) (λ l. refl) refl refl (λ l s. refl) was
+
+-- a Drop gives a held copy up
+drop_goes : (b : Bank) (image : ℕ → ℕ) (cpu : Cpu) (h : List Record) (u : Kept) (line : Line) → is_held (line_number line) (copies_of b u) ≡ true → KeptShows image (of_act cpu (act.Drop b line) outcome.Done ∷ h) (cpu_number cpu) h u
+    → KeptShows image (of_act cpu (act.Drop b line) outcome.Done ∷ h) (cpu_number cpu) (of_act cpu (act.Drop b line) outcome.Done ∷ h) (with_copies b (dropped (line_number line) (copies_of b u)) u)
+drop_goes Even image cpu h u line there was =
+    let p : ℕ = cpu_number cpu in
+    let r : Record = of_act cpu (act.Drop Even line) outcome.Done in
+    line_dropped image p Even r h u (line_number line) ((held_is_banked image (r ∷ h) p h u (line_number line) was).0 there)
+    (leaves_others (line_number line) p r h (itself cpu) (λ l apart. refl) (λ l apart. refl) (λ l apart. refl) (λ l apart. other_line (line_number line) l line refl apart) refl (λ l s apart. refl))
+    (leaves_code p r h (itself cpu) (λ l. refl) (λ l. refl) refl) (barrier_left p r h (itself cpu) refl)
+    (held_lost p (line_number line) r h (itself cpu) refl refl (rw (this_line (line_number line) line refl) refl)) was
+drop_goes Odd image cpu h u line there was =
+    let p : ℕ = cpu_number cpu in
+    let r : Record = of_act cpu (act.Drop Odd line) outcome.Done in
+    line_dropped image p Odd r h u (line_number line) ((held_is_banked image (r ∷ h) p h u (line_number line) was).1 there)
+    (leaves_others (line_number line) p r h (itself cpu) (λ l apart. refl) (λ l apart. refl) (λ l apart. refl) (λ l apart. other_line (line_number line) l line refl apart) refl (λ l s apart. refl))
+    (leaves_code p r h (itself cpu) (λ l. refl) (λ l. refl) refl) (barrier_left p r h (itself cpu) refl)
+    (held_lost p (line_number line) r h (itself cpu) refl refl (rw (this_line (line_number line) line refl) refl)) was
+drop_goes Code image cpu h u line there was =
+    let p : ℕ = cpu_number cpu in
+    let r : Record = of_act cpu (act.Drop Code line) outcome.Done in
+    code_line_dropped image p r h u (line_number line)
+    (leaves_data p r h (itself cpu) (λ l. refl) (λ l. refl) (λ l. refl) (λ l. refl) refl (λ l s. refl))
+    (leaves_other_code (line_number line) p r h (itself cpu) (λ l apart. refl) (λ l apart. other_line (line_number line) l line refl apart) refl) (barrier_left p r h (itself cpu) refl)
+    (code_lost p (line_number line) r h (itself cpu) refl (rw (this_line (line_number line) line refl) refl)) was
+
+-- a Poll leaves the banks
+poll_goes : (o : Option Reply) (image : ℕ → ℕ) (cpu : Cpu) (h : List Record) (u : Kept) (low : Bool) → KeptShows image (of_act cpu act.Poll (poll_outcome low o) ∷ h) (cpu_number cpu) h u
+    → KeptShows image (of_act cpu act.Poll (poll_outcome low o) ∷ h) (cpu_number cpu) (of_act cpu act.Poll (poll_outcome low o) ∷ h) u
+poll_goes (Some (reply.Polled pending turn)) image cpu h u low was = idle image cpu act.Poll _ h u (λ l. refl) (λ l. refl) (λ l. refl) (λ l. refl) (λ l. refl) (λ l. refl) refl refl (λ l s. refl) was
+poll_goes _ image cpu h u low was = idle image cpu act.Poll outcome.NoAccess h u (λ l. refl) (λ l. refl) (λ l. refl) (λ l. refl) (λ l. refl) (λ l. refl) refl refl (λ l s. refl) was
+
+-- each act
+pub act_goes : (a : Act) (image : ℕ → ℕ) (cpu maker : Cpu) (h : List Record) (i : Intent) (u : Kept) (cs : List BusCall) (q : Ask2) → WantsInLine i.wanted → BusAgrees image h cs → act_ask a i u ≡ Some q
+    → Goes image cpu (of_act cpu a (outcome_by a maker i u (reply_for image cs (cpu_number cpu) (Ok q)))) h u (kept_after a i (reply_for image cs (cpu_number cpu) (Ok q)) u) (calls_for image cs cpu (Ok q))
+act_goes act.Step image cpu maker h i u cs q inside before asks = step_goes i.wanted image cpu maker h u cs i.boundary i.armed q before asks
+act_goes act.Fill image cpu maker h i u cs q inside before asks = fill_goes i.wanted image cpu h u cs q inside asks
+act_goes (act.Drain k) image cpu maker h i u cs q inside before asks = drain_goes (slice_get (oldest_group u.buffer.kept) k) image cpu h u cs k q asks
+act_goes (act.Take b) image cpu maker h i u cs q inside before asks = λ fit bus was. take_goes (reply_for image cs (cpu_number cpu) (Ok q)) image cpu h u b was
+act_goes (act.Drop b line) image cpu maker h i u cs q inside before asks = λ fit bus was.
+    let both = asked_if (is_held (line_number line) (copies_of b u) && not (has_dropped b u.since)) ask.Private q asks in
+    let there = (and_parts (is_held (line_number line) (copies_of b u)) (not (has_dropped b u.since)) both.0).0 in
+    drop_goes b image cpu h u line there was
+act_goes act.Poll image cpu maker h i u cs q inside before asks = λ fit bus was. poll_goes (reply_for image cs (cpu_number cpu) (Ok q)) image cpu h u i.low was
+act_goes act.Tick image cpu maker h i u cs q inside before asks = λ fit bus was. idle image cpu act.Tick outcome.Done h u (λ l. refl) (λ l. refl) (λ l. refl) (λ l. refl) (λ l. refl) (λ l. refl) refl refl (λ l s. refl) was

@@ -8,3 +8,4 @@ pub mod Leaves
 pub mod Fenced
 pub mod Changes
 pub mod BankActs
+pub mod Banked
