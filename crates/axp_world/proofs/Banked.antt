@@ -33,10 +33,10 @@ use Rattle.axp_model.specs.Turns.{code_stamp, stamp}
 use Rattle.axp_model.proofs.Copies.{code_copies_exactly, copies_exactly}
 use Rattle.axp_model.proofs.Fits.{bank_own}
 use Rattle.axp_model.proofs.Kept.{Fitting}
-use Rattle.axp_world.specs.Worlds.{World, after_event, answer_of, calls_for, image_bytes, reply_at, reply_for, world}
+use Rattle.axp_world.specs.Worlds.{World, after_event, answer_of, calls_for, image_bytes, intents, reply_at, reply_for, world}
 use Rattle.axp_world.proofs.Agreement.{BanksAgree, BusAgrees, HasMemory}
 use Rattle.axp_world.proofs.BankActs.{Goes, act_goes, of_act}
-use Rattle.axp_world.proofs.Changes.{held_in, shown_in}
+use Rattle.axp_world.proofs.Changes.{held_in, is_held_by, shown_in}
 use Rattle.axp_world.proofs.Leaves.{other_leaves_barrier, other_leaves_code, other_leaves_data}
 use Rattle.axp_world.proofs.Played.{Shown, actor_other, actor_own, calls_after, shown}
 use Rattle.axp_world.proofs.Shows.{CopiesShow, KeptShows, Shows, carried, nothing_changed}
@@ -77,7 +77,7 @@ unfolding request_of ask_of
 act_asked a e q asks = may_act (may_now e (about a).finished a.kept.since.filled) (act_ask e (about a) a.kept) q (asked_act (ask_of e (about a) a.kept) (is_built e a) q asks)
 
 -- the processor that acted
-own_step : (image : Contents) (budget : ℕ) (r : Record) (h : List Record) → WantsInLine (about ((world image budget h).actors (cpu_number r.event.cpu))).wanted → Shown image (world image budget h) r.event r.outcome → Fitting (r ∷ h)
+own_step : (image : Contents) (budget : ℕ) (r : Record) (h : List Record) → WantsInLine (intents image budget (cpu_number r.event.cpu) h).wanted → Shown image (world image budget h) r.event r.outcome → Fitting (r ∷ h)
     → BusAgrees (image_bytes image) h (world image budget h).calls → BusAgrees (image_bytes image) (r ∷ h) (world image budget (r ∷ h)).calls → Banked (image_bytes image) (cpu_number r.event.cpu) h ((world image budget h).actors (cpu_number r.event.cpu)).kept
     → Banked (image_bytes image) (cpu_number r.event.cpu) (r ∷ h) (advanced ((world image budget h).actors (cpu_number r.event.cpu)) r.event.act (reply_at image (world image budget h) r.event)).kept
 unfolding advanced going.advanced outcome_of going.outcome_of
@@ -92,3 +92,46 @@ own_step image budget r h inside s fit before after was =
     let goes : Goes (image_bytes image) r.event.cpu r h a.kept (kept_after r.event.act (about a) (reply_for (image_bytes image) w.calls p (Ok s.ask)) a.kept) (calls_for (image_bytes image) w.calls r.event.cpu (Ok s.ask)) =
     subst (λ (o : Outcome). Goes (image_bytes image) r.event.cpu (of_act r.event.cpu r.event.act o) h a.kept (kept_after r.event.act (about a) (reply_for (image_bytes image) w.calls p (Ok s.ask)) a.kept) (calls_for (image_bytes image) w.calls r.event.cpu (Ok s.ask))) gives acted in
     subst (λ (t : Option Reply). Banked (image_bytes image) p (r ∷ h) (kept_after r.event.act (about a) t a.kept)) (sym s.answered) (goes fit bus (carried (image_bytes image) p r h a.kept fit was))
+
+-- another's record
+other_step : (image : ℕ → ℕ) (p : ℕ) (r : Record) (h : List Record) (u : Kept) → by p r ≡ false → Fitting (r ∷ h) → Banked image p h u → Banked image p (r ∷ h) u
+other_step image p r h u other fit was =
+    nothing_changed image (r ∷ h) p r h u (other_leaves_data p r h other) (other_leaves_code p r h other) (other_leaves_barrier p r h other) (carried image p r h u fit was)
+
+pub banks_step : (image : Contents) (cpus budget : ℕ) (r : Record) (h : List Record) → WantsInLine (intents image budget (cpu_number r.event.cpu) h).wanted → answer_of image cpus (world image budget h) r.event ≡ Ok r.outcome → Fitting (r ∷ h)
+    → BusAgrees (image_bytes image) h (world image budget h).calls → BusAgrees (image_bytes image) (r ∷ h) (world image budget (r ∷ h)).calls
+    → (p : ℕ) → Banked (image_bytes image) p h ((world image budget h).actors p).kept → Banked (image_bytes image) p (r ∷ h) ((world image budget (r ∷ h)).actors p).kept
+banks_step image cpus budget r h inside played fit before after p was =
+    let w : World = world image budget h in
+    ⊎_elim
+    (λ (own : by p r ≡ true).
+    let same : cpu_number r.event.cpu ≡ p = eqb-true (cpu_number r.event.cpu) p own in
+    let mine : Banked (image_bytes image) (cpu_number r.event.cpu) h (w.actors (cpu_number r.event.cpu)).kept = subst (λ n. Banked (image_bytes image) n h (w.actors n).kept) (sym same) was in
+    let gone : Banked (image_bytes image) (cpu_number r.event.cpu) (r ∷ h) (advanced (w.actors (cpu_number r.event.cpu)) r.event.act (reply_at image w r.event)).kept =
+    own_step image budget r h inside (shown image cpus w r.event r.outcome played) fit before after mine in
+    subst (λ (a : Actor). Banked (image_bytes image) p (r ∷ h) a.kept) (sym (actor_own image w r.event p own))
+    (subst (λ n. Banked (image_bytes image) n (r ∷ h) (advanced (w.actors n) r.event.act (reply_at image w r.event)).kept) same gone))
+    (λ (other : by p r ≡ false).
+    subst (λ (a : Actor). Banked (image_bytes image) p (r ∷ h) a.kept) (sym (actor_other image w r.event p other)) (other_step (image_bytes image) p r h (w.actors p).kept other fit was))
+    (cases_Bool (by p r))
+
+-- the banks as other parts are told of them
+memory_shown : (image : ℕ → ℕ) (h : List Record) (l turn : ℕ) (holds : Bool) (o : Option (ℕ × LineData)) → Shows image h l o holds turn → HasMemory image h l o turn
+memory_shown image h l turn holds None shows = tt
+memory_shown image h l turn holds (Some c) shows = shows.1
+
+same_lines : (image : ℕ → ℕ) (h : List Record) (holds : ℕ → Bool) (turn : ℕ → ℕ) (cs : List LineCopy) (ks : List ℕ) → ListsExactly holds ks → CopiesShow image h holds turn cs → map line_of cs ≡ ks
+same_lines image h holds turn cs ks listed shows =
+    same_ascending (map line_of cs) ks (ascending_lines cs shows.whole.up) listed.ascending (λ l. among_lines l cs ∙ is_held_by image h holds turn cs l shows ∙ sym (listed.members l))
+
+pub banks_agree : (image : ℕ → ℕ) (p : ℕ) (h : List Record) (u : Kept) → Banked image p h u → BanksAgree image p h u
+banks_agree image p h u shows = record {
+  lines = λ l. held_in image h p h u (data_bank l) l (bank_own l) shows;
+  code_lines_held = λ l. is_held_by image h (λ l. code_held p l h) (λ l. code_stamp p l h) u.code l shows.code;
+  line_memory = λ l. memory_shown image h l (stamp p l h) (held p l h) (get_of l (data_copies l u)) (shown_in image h p h u (data_bank l) l (bank_own l) shows);
+  code_memory = λ l. memory_shown image h l (code_stamp p l h) (code_held p l h) (get_of l u.code) (shows.code.each l);
+  even_lines = same_lines image h (λ l. in_bank Even l && held p l h) (λ l. stamp p l h) u.even (copies p Even h) (copies_exactly p Even h) shows.even;
+  odd_lines = same_lines image h (λ l. in_bank Odd l && held p l h) (λ l. stamp p l h) u.odd (copies p Odd h) (copies_exactly p Odd h) shows.odd;
+  code_lines = same_lines image h (λ l. code_held p l h) (λ l. code_stamp p l h) u.code (code_copies p h) (code_copies_exactly p h) shows.code;
+  barrier = shows.fenced;
+}
