@@ -30,7 +30,7 @@ shows_is : (image : ℕ → ℕ) (g : List Record) (l turn : ℕ) (holds : Bool)
 shows_is image g l turn holds None shows = sym shows
 shows_is image g l turn holds (Some c) shows = sym shows.0
 
-is_held_by : (image : ℕ → ℕ) (g : List Record) (holds : ℕ → Bool) (turn : ℕ → ℕ) (cs : List LineCopy) (l : ℕ) → CopiesShow image g holds turn cs → is_held l cs ≡ holds l
+pub is_held_by : (image : ℕ → ℕ) (g : List Record) (holds : ℕ → Bool) (turn : ℕ → ℕ) (cs : List LineCopy) (l : ℕ) → CopiesShow image g holds turn cs → is_held l cs ≡ holds l
 is_held_by image g holds turn cs l shows = held_get l cs ∙ shows_is image g l (turn l) (holds l) (get_of l cs) (shows.each l)
 
 pub held_in : (image : ℕ → ℕ) (g : List Record) (p : ℕ) (h : List Record) (u : Kept) (b : Bank) (l : ℕ) → in_bank b l ≡ true → KeptShows image g p h u → is_held l (copies_of b u) ≡ held p l h

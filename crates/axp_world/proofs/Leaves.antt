@@ -6,7 +6,7 @@ use Rattle.axp_inval.specs.Queues.{has_later}
 use Rattle.axp_model.specs.Late.{code_held, held, late, loses, takes_away}
 use Rattle.axp_model.specs.Records.{by, code_fences, drops, drops_code, fences, fills, fills_code, locks, turns_on}
 use Rattle.axp_model.specs.Turns.{barrier, code_stamp, stamp, turns}
-use Rattle.axp_world.proofs.Shows.{LeavesCode, LeavesData}
+use Rattle.axp_world.proofs.Shows.{LeavesCode, LeavesData, LeavesOtherCode, LeavesOthers}
 
 and_true : (b : Bool) → (b && true) ≡ b
 and_true true = refl
@@ -34,6 +34,10 @@ pub held_fenced : (p l : ℕ) (r : Record) (h : List Record) → by p r ≡ true
     → held p l (r ∷ h) ≡ (held p l h && not (has_later l (stamp p l h) (late p (data_bank l) h)))
 held_fenced p l r h own fill lock drop fence take =
     rw own (rw fill (rw lock (rw drop (rw fence (rw take (ap (λ (b : Bool). held p l h && not b) (or_false (has_later l (stamp p l h) (late p (data_bank l) h)))))))))
+
+pub held_taken : (p l : ℕ) (r : Record) (h : List Record) → by p r ≡ true → fills l r.outcome ≡ false → locks l r.outcome ≡ false → drops l r.event.act ≡ false → fences r.outcome ≡ false
+    → held p l (r ∷ h) ≡ (held p l h && not (takes_away l (stamp p l h) r.outcome))
+held_taken p l r h own fill lock drop fence = rw own (rw fill (rw lock (rw drop (rw fence refl))))
 
 pub stamp_left : (p l : ℕ) (r : Record) (h : List Record) → by p r ≡ true → fills l r.outcome ≡ false → locks l r.outcome ≡ false → turns_on l r.outcome ≡ false → stamp p l (r ∷ h) ≡ stamp p l h
 stamp_left p l r h own fill lock turn = rw own (rw fill (rw lock (rw turn refl)))
@@ -72,6 +76,17 @@ leaves_data p r h own fill lock turn drop fence take = record {
 
 pub leaves_code : (p : ℕ) (r : Record) (h : List Record) → by p r ≡ true → ((l : ℕ) → fills_code l r.outcome ≡ false) → ((l : ℕ) → drops_code l r.event.act ≡ false) → code_fences r.outcome ≡ false → LeavesCode p r h
 leaves_code p r h own fill drop fence = record { holds = λ l. code_left p l r h own (fill l) (drop l) fence; stamps = λ l. code_stamp_left p l r h own (fill l) }
+
+-- all lines but one
+pub leaves_others : (k p : ℕ) (r : Record) (h : List Record) → by p r ≡ true → ((l : ℕ) → l ≢ k → fills l r.outcome ≡ false) → ((l : ℕ) → l ≢ k → locks l r.outcome ≡ false) → ((l : ℕ) → l ≢ k → turns_on l r.outcome ≡ false) → ((l : ℕ) → l ≢ k → drops l r.event.act ≡ false)
+    → fences r.outcome ≡ false → ((l s : ℕ) → l ≢ k → takes_away l s r.outcome ≡ false) → LeavesOthers k p r h
+leaves_others k p r h own fill lock turn drop fence take = record {
+  holds = λ l apart. held_left p l r h own (fill l apart) (lock l apart) (drop l apart) fence (take l (stamp p l h) apart);
+  stamps = λ l apart. stamp_left p l r h own (fill l apart) (lock l apart) (turn l apart);
+}
+
+pub leaves_other_code : (k p : ℕ) (r : Record) (h : List Record) → by p r ≡ true → ((l : ℕ) → l ≢ k → fills_code l r.outcome ≡ false) → ((l : ℕ) → l ≢ k → drops_code l r.event.act ≡ false) → code_fences r.outcome ≡ false → LeavesOtherCode k p r h
+leaves_other_code k p r h own fill drop fence = record { holds = λ l apart. code_left p l r h own (fill l apart) (drop l apart) fence; stamps = λ l apart. code_stamp_left p l r h own (fill l apart) }
 
 -- another's record leaves all
 pub other_leaves_data : (p : ℕ) (r : Record) (h : List Record) → by p r ≡ false → LeavesData p r h

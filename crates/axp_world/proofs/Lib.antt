@@ -29,3 +29,5 @@ pub mod Seated
 pub mod Runs
 pub mod Wanting
 pub mod Refused
+pub mod BankActs
+pub mod Banked

@@ -72,7 +72,7 @@ pub record LeavesOtherCode (k p : ℕ) (r : Record) (h : List Record) : Type 0 w
   pub stamps : (l : ℕ) → l ≢ k → code_stamp p l (r ∷ h) ≡ code_stamp p l h
 
 -- a bank whose words are as they were
-same_shows : (image : ℕ → ℕ) (g : List Record) (holds now : ℕ → Bool) (turn next : ℕ → ℕ) (cs : List LineCopy) → ((l : ℕ) → now l ≡ holds l) → ((l : ℕ) → next l ≡ turn l) → CopiesShow image g holds turn cs → CopiesShow image g now next cs
+pub same_shows : (image : ℕ → ℕ) (g : List Record) (holds now : ℕ → Bool) (turn next : ℕ → ℕ) (cs : List LineCopy) → ((l : ℕ) → now l ≡ holds l) → ((l : ℕ) → next l ≡ turn l) → CopiesShow image g holds turn cs → CopiesShow image g now next cs
 same_shows image g holds now turn next cs held_same turn_same was = record { whole = was.whole; each = λ l. rw (held_same l, turn_same l) (was.each l) }
 
 -- a bank where one line changed
