@@ -2,7 +2,8 @@
 ghost use Rattle.std.specs.Prelude.{ℕ, ◌≡◌, ◌^◌, ◌<◌, ◌≤◌, IsTrue};
 ghost use Rattle.axp_line.specs.declared.contents.LineData.{LineData};
 ghost use Rattle.axp_line.specs.declared.messages.Reply.TheVariants as reply;
-ghost use Rattle.axp_lsu.specs.Fitting.{Fits2, FitsRequest};
+ghost use Rattle.axp_lsu.specs.Asking.{ask_of};
+ghost use Rattle.axp_lsu.specs.Fitting.{Fits2, FitsRequest, IsWantedInSome, IsWithinSome};
 ghost use Rattle.axp_lsu.specs.Within.{IsInMemory, IsKeptWithin, IsWantedBy, IsWantedWithin};
 
 use super::*;
@@ -10,7 +11,7 @@ use axp_access::{Act, Intent, Outcome, Place, Wanted};
 use axp_base::{Bank, Cpu, Line};
 use axp_line::{LineData, Reply, Request};
 use axp_regs::Kind;
-use std::process::Abort;
+use std::marker::Model;
 use std::test::*;
 
 /// The bytes of the memory that the unit's processor reads and writes.
@@ -27,8 +28,18 @@ const NEXT_ODD: u64 = 0x10C0;
 struct Rig {
     lsu: Lsu,
     acts: u32,
-    ghost within: { IsKeptWithin (2 ^ 16) lsu },
-    ghost few: { lsu.buffer.made ≤ acts },
+}
+
+impl Model for Rig {
+    ghost use Rattle.std.specs.Prelude.{◌^◌, ◌≤◌};
+    ghost use Rattle.axp_lsu.specs.Keeping.{Kept};
+    ghost use Rattle.axp_lsu.specs.Within.{IsKeptWithin};
+
+    ghost Value = { Kept };
+
+    ghost view = { λ r. r.lsu };
+
+    ghost invariant = { λ r. IsKeptWithin (2 ^ 16) r.lsu × (r.lsu.buffer.made ≤ r.acts) };
 }
 
 impl Rig {
@@ -50,52 +61,43 @@ impl Rig {
     }
 
     /// The value that the wanted access would give.
-    fn value(&self, rt: &impl Abort, intent: &Intent) -> u64 {
-        assert!(rt; is_in_memory(intent));
+    fn value(&self, intent: &Intent) -> Option<u64> {
+        if !is_in_memory(intent) {
+            return None;
+        }
         match &intent.wanted {
-            Some(wanted) => self.lsu.value(wanted, None),
-            None => 0,
+            Some(wanted) => Some(self.lsu.value(wanted, None)),
+            None => None,
         }
     }
 
-    /// Does an act that is legal, with an answer that fits.
-    fn does(
-        &mut self,
-        rt: &impl Abort,
-        act: Act,
-        intent: &Intent,
-        reply: Option<Reply>,
-    ) -> Outcome {
-        assert!(rt; fits(&self.asks(act, intent), reply));
-        assert!(rt; is_in_memory(intent));
-        assert!(rt; self.acts < 1000);
+    /// Does an act that is legal, with an answer that fits; `None` where it is not so.
+    fn does(&mut self, act: Act, intent: &Intent, reply: Option<Reply>) -> Option<Outcome> {
+        let cpu = Cpu::new(0)?;
+        if !fits(&self.lsu, act, intent, reply) {
+            return None;
+        }
+        if !is_in_memory(intent) {
+            return None;
+        }
+        if self.acts >= 1000 {
+            return None;
+        }
         self.acts += 1;
-        self.lsu.advance(act, first_cpu(rt), intent, reply)
+        Some(self.lsu.advance(act, cpu, intent, reply))
     }
 
     /// Makes the wanted access, and tells its value and place.
-    fn makes(
-        &mut self,
-        rt: &impl Abort,
-        intent: &Intent,
-        reply: Option<Reply>,
-    ) -> Option<(u64, Place)> {
-        match self.does(rt, Act::Step, intent, reply) {
-            Outcome::Access(access) => Some((access.value, access.place)),
+    fn makes(&mut self, intent: &Intent, reply: Option<Reply>) -> Option<(u64, Place)> {
+        match self.does(Act::Step, intent, reply) {
+            Some(Outcome::Access(access)) => Some((access.value, access.place)),
             _ => None,
         }
     }
 
     /// Copies the line of the wanted access.
-    fn fills(&mut self, rt: &impl Abort, intent: &Intent, turn: u64, bytes: LineData) -> Outcome {
-        self.does(rt, Act::Fill, intent, Some(Reply::Line { turn, bytes }))
-    }
-}
-
-fn first_cpu(rt: &impl Abort) -> Cpu {
-    match Cpu::new(0) {
-        Some(cpu) => cpu,
-        None => panic!(rt; "0 is a processor's number"),
+    fn fills(&mut self, intent: &Intent, turn: u64, bytes: LineData) -> Option<Outcome> {
+        self.does(Act::Fill, intent, Some(Reply::Line { turn, bytes }))
     }
 }
 
@@ -107,7 +109,14 @@ fn is_small(turn: u64) -> bool
 }
 
 /// The act is legal, and the answer fits what it asks.
-fn fits(ask: &Option<Ask2>, reply: Option<Reply>) -> bool
+fn fits(lsu: &Lsu, act: Act, intent: &Intent, reply: Option<Reply>) -> bool
+    requires { IsWithinSome lsu.now }
+    ensures { IsTrue result → Fits2 (ask_of act intent.now lsu.now) reply }
+{
+    answers(&lsu.ask(act, intent), reply)
+}
+
+fn answers(ask: &Option<Ask2>, reply: Option<Reply>) -> bool
     ensures { IsTrue result → Fits2 ask.now reply }
 {
     match ask {
@@ -118,12 +127,12 @@ fn fits(ask: &Option<Ask2>, reply: Option<Reply>) -> bool
         },
         Some(Ask2::Bus(request)) => match reply {
             None => false,
-            Some(reply) => answers(request, reply),
+            Some(reply) => answers_request(request, reply),
         },
     }
 }
 
-fn answers(request: &Request, reply: Reply) -> bool
+fn answers_request(request: &Request, reply: Reply) -> bool
     ensures { IsTrue result → FitsRequest request.now reply }
 {
     match reply {
@@ -177,7 +186,8 @@ fn is_take(request: &Request, line: Line) -> bool
 
 /// The wanted access lies in memory.
 fn is_in_memory(intent: &Intent) -> bool
-    ensures { IsTrue result → IsWantedWithin (2 ^ 16) intent.now.wanted }
+    ensures within { IsTrue result → IsWantedWithin (2 ^ 16) intent.now.wanted }
+    ensures some { IsTrue result → IsWantedInSome intent.now.wanted }
 {
     match &intent.wanted {
         None => true,
@@ -238,17 +248,17 @@ fn starting_with(value: u64) -> LineData {
 fn own_stores_are_read_over_the_copy(rt: HostRuntime) {
     let mut rig = Rig::empty();
     let store = wants(Kind::Write, EVEN + 4, 4, 0xAABB_CCDD);
-    assert_eq!(rt; rig.makes(&rt, &store, None), Some((0xAABB_CCDD, Place::Entry(1))));
+    assert_eq!(rt; rig.makes(&store, None), Some((0xAABB_CCDD, Place::Entry(1))));
     let read = wants(Kind::Read, EVEN, 8, 0);
     assert!(rt; !rig.may(Act::Step, &read));
-    let filled = rig.fills(&rt, &read, 5, starting_with(0x1111_2222_3333_4444));
-    assert_eq!(rt; filled, Outcome::Filled { bank: Bank::Even, line: Line::of(EVEN), turn: 5 });
+    let filled = rig.fills(&read, 5, starting_with(0x1111_2222_3333_4444));
+    assert_eq!(rt; filled, Some(Outcome::Filled { bank: Bank::Even, line: Line::of(EVEN), turn: 5 }));
     // after a fill only the step is left
     for act in [Act::Fill, Act::Drain(0), Act::Take(Bank::Even), Act::Drop(Bank::Even, Line::of(EVEN))] {
         assert!(rt; !rig.may(act, &read), "{act:?}");
     }
-    assert_eq!(rt; rig.value(&rt, &read), 0xAABB_CCDD_3333_4444);
-    assert_eq!(rt; rig.makes(&rt, &read, None), Some((0xAABB_CCDD_3333_4444, Place::At(5))));
+    assert_eq!(rt; rig.value(&read), Some(0xAABB_CCDD_3333_4444));
+    assert_eq!(rt; rig.makes(&read, None), Some((0xAABB_CCDD_3333_4444, Place::At(5))));
     assert!(rt; rig.may(Act::Drain(0), &read));
     assert!(rt; rig.may(Act::Drop(Bank::Even, Line::of(EVEN)), &read));
 }
@@ -258,20 +268,20 @@ fn stores_merge_until_a_write_barrier(rt: HostRuntime) {
     let mut rig = Rig::empty();
     for (address, entry) in [(EVEN, 1), (EVEN + 8, 1), (ODD, 2)] {
         let store = wants(Kind::Write, address, 8, address);
-        assert_eq!(rt; rig.makes(&rt, &store, None), Some((address, Place::Entry(entry))));
+        assert_eq!(rt; rig.makes(&store, None), Some((address, Place::Entry(entry))));
     }
     let close = wants_barrier(Kind::WriteBarrier);
-    assert_eq!(rt; rig.makes(&rt, &close, None), Some((0, Place::Absent)));
+    assert_eq!(rt; rig.makes(&close, None), Some((0, Place::Absent)));
     let store = wants(Kind::Write, EVEN, 2, 7);
-    assert_eq!(rt; rig.makes(&rt, &store, None), Some((7, Place::Entry(3))));
+    assert_eq!(rt; rig.makes(&store, None), Some((7, Place::Entry(3))));
     // two entries are of the oldest group, and a barrier waits for all
     let barrier = wants_barrier(Kind::Barrier);
     assert!(rt; !rig.may(Act::Step, &barrier));
     assert!(rt; !rig.may(Act::Drain(2), &barrier));
     let reply = Some(Reply::Stored { turn: 3, bytes: LineData::zero() });
     for (k, entry, address) in [(1, 2, ODD), (0, 1, EVEN), (0, 3, EVEN)] {
-        assert_eq!(rt; rig.does(&rt, Act::Drain(k), &barrier, reply),
-            Outcome::Drained { entry, line: Line::of(address), turn: 3 });
+        assert_eq!(rt; rig.does(Act::Drain(k), &barrier, reply),
+            Some(Outcome::Drained { entry, line: Line::of(address), turn: 3 }));
         assert!(rt; !rig.may(Act::Drain(1), &barrier));
     }
     assert!(rt; rig.may(Act::Step, &barrier));
@@ -281,7 +291,7 @@ fn stores_merge_until_a_write_barrier(rt: HostRuntime) {
 fn entry_is_asked_with_its_bytes(rt: HostRuntime) {
     let mut rig = Rig::empty();
     let store = wants(Kind::Write, EVEN + 8, 8, 0x0102_0304_0506_0708);
-    assert_eq!(rt; rig.makes(&rt, &store, None), Some((0x0102_0304_0506_0708, Place::Entry(1))));
+    assert_eq!(rt; rig.makes(&store, None), Some((0x0102_0304_0506_0708, Place::Entry(1))));
     match rig.asks(Act::Drain(0), &store) {
         Some(Ask2::Bus(Request::Drain { line, mask, bytes })) => {
             assert_eq!(rt; line, Line::of(EVEN));
@@ -292,10 +302,10 @@ fn entry_is_asked_with_its_bytes(rt: HostRuntime) {
     }
     // the drained line refreshes a copy, with its turn as stamp
     let read = wants(Kind::Read, EVEN, 8, 0);
-    rig.fills(&rt, &read, 1, starting_with(1));
-    rig.makes(&rt, &read, None);
-    rig.does(&rt, Act::Drain(0), &read, Some(Reply::Stored { turn: 2, bytes: starting_with(9) }));
-    assert_eq!(rt; rig.makes(&rt, &read, None), Some((9, Place::At(2))));
+    rig.fills(&read, 1, starting_with(1));
+    rig.makes(&read, None);
+    rig.does(Act::Drain(0), &read, Some(Reply::Stored { turn: 2, bytes: starting_with(9) }));
+    assert_eq!(rt; rig.makes(&read, None), Some((9, Place::At(2))));
 }
 
 #[test]
@@ -303,8 +313,8 @@ fn barrier_drops_the_copies_of_its_bits(rt: HostRuntime) {
     let mut rig = Rig::empty();
     for (address, turn) in [(NEXT_ODD, 4), (EVEN, 1), (ODD, 3), (NEXT_EVEN, 2)] {
         let read = wants(Kind::Read, address, 8, 0);
-        rig.fills(&rt, &read, turn, starting_with(address));
-        assert_eq!(rt; rig.makes(&rt, &read, None), Some((address, Place::At(turn))));
+        rig.fills(&read, turn, starting_with(address));
+        assert_eq!(rt; rig.makes(&read, None), Some((address, Place::At(turn))));
     }
     let barrier = wants_barrier(Kind::Barrier);
     match rig.asks(Act::Step, &barrier) {
@@ -321,12 +331,12 @@ fn barrier_drops_the_copies_of_its_bits(rt: HostRuntime) {
     }
     // those of the second line of d0, and of the first of d1
     let reply = Some(Reply::Barrier { turn: 20, gone: 0b0110 });
-    assert_eq!(rt; rig.makes(&rt, &barrier, reply), Some((0, Place::At(20))));
+    assert_eq!(rt; rig.makes(&barrier, reply), Some((0, Place::At(20))));
     for (address, held) in [(EVEN, true), (NEXT_EVEN, false), (ODD, false), (NEXT_ODD, true)] {
         let read = wants(Kind::Read, address, 8, 0);
         assert_eq!(rt; rig.may(Act::Step, &read), held, "{address}");
         if held {
-            assert_eq!(rt; rig.makes(&rt, &read, None), Some((address, Place::At(20))));
+            assert_eq!(rt; rig.makes(&read, None), Some((address, Place::At(20))));
         }
     }
 }
@@ -336,11 +346,11 @@ fn take_removes_an_older_copy(rt: HostRuntime) {
     let mut rig = Rig::empty();
     let read = wants(Kind::Read, EVEN, 8, 0);
     let line = Line::of(EVEN);
-    rig.fills(&rt, &read, 5, starting_with(1));
-    rig.makes(&rt, &read, None);
+    rig.fills(&read, 5, starting_with(1));
+    rig.makes(&read, None);
     for (turn, gone) in [(5, false), (6, true), (7, false)] {
         let reply = Some(Reply::Late { line, turn });
-        assert_eq!(rt; rig.does(&rt, Act::Take(Bank::Even), &read, reply), Outcome::Taken { line, turn, gone });
+        assert_eq!(rt; rig.does(Act::Take(Bank::Even), &read, reply), Some(Outcome::Taken { line, turn, gone }));
         assert_eq!(rt; rig.may(Act::Step, &read), turn < 6);
     }
 }
@@ -350,18 +360,18 @@ fn each_bank_gives_up_one_line_a_step(rt: HostRuntime) {
     let mut rig = Rig::empty();
     for address in [EVEN, NEXT_EVEN, ODD] {
         let read = wants(Kind::Read, address, 8, 0);
-        rig.fills(&rt, &read, 1, LineData::zero());
-        rig.makes(&rt, &read, None);
+        rig.fills(&read, 1, LineData::zero());
+        rig.makes(&read, None);
     }
     let read = wants(Kind::Read, NEXT_EVEN, 8, 0);
     let drop = Act::Drop(Bank::Even, Line::of(EVEN));
     let next = Act::Drop(Bank::Even, Line::of(NEXT_EVEN));
     let odd = Act::Drop(Bank::Odd, Line::of(ODD));
     assert!(rt; !rig.may(Act::Drop(Bank::Even, Line::of(ODD)), &read));
-    assert_eq!(rt; rig.does(&rt, drop, &read, None), Outcome::Done);
+    assert_eq!(rt; rig.does(drop, &read, None), Some(Outcome::Done));
     assert!(rt; !rig.may(next, &read));
-    assert_eq!(rt; rig.does(&rt, odd, &read, None), Outcome::Done);
-    assert!(rt; rig.makes(&rt, &read, None).is_some());
+    assert_eq!(rt; rig.does(odd, &read, None), Some(Outcome::Done));
+    assert!(rt; rig.makes(&read, None).is_some());
     assert!(rt; rig.may(next, &read));
     assert!(rt; !rig.may(odd, &read));
 }
@@ -370,13 +380,13 @@ fn each_bank_gives_up_one_line_a_step(rt: HostRuntime) {
 fn code_is_fetched_until_an_imb(rt: HostRuntime) {
     let mut rig = Rig::empty();
     let fetch = wants(Kind::Fetch, EVEN + 4, 4, 0);
-    let filled = rig.fills(&rt, &fetch, 9, starting_with(0x1111_2222_3333_4444));
-    assert_eq!(rt; filled, Outcome::Filled { bank: Bank::Code, line: Line::of(EVEN), turn: 9 });
+    let filled = rig.fills(&fetch, 9, starting_with(0x1111_2222_3333_4444));
+    assert_eq!(rt; filled, Some(Outcome::Filled { bank: Bank::Code, line: Line::of(EVEN), turn: 9 }));
     let found = Some((0x1111_2222, Place::At(9)));
-    assert_eq!(rt; rig.makes(&rt, &fetch, None), found);
+    assert_eq!(rt; rig.makes(&fetch, None), found);
     let reply = Some(Reply::Barrier { turn: 12, gone: 0 });
-    rig.makes(&rt, &wants_barrier(Kind::Barrier), reply);
-    assert_eq!(rt; rig.makes(&rt, &fetch, None), found);
-    rig.makes(&rt, &wants_barrier(Kind::CodeBarrier), reply);
+    rig.makes(&wants_barrier(Kind::Barrier), reply);
+    assert_eq!(rt; rig.makes(&fetch, None), found);
+    rig.makes(&wants_barrier(Kind::CodeBarrier), reply);
     assert!(rt; !rig.may(Act::Step, &fetch));
 }
