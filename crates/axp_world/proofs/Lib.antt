@@ -31,3 +31,4 @@ pub mod Wanting
 pub mod Refused
 pub mod BankActs
 pub mod Banked
+pub mod Joined
