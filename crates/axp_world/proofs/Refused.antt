@@ -40,6 +40,7 @@ use Rattle.axp_regs.specs.declared.asks.Kind.{Kind}
 use Rattle.axp_regs.specs.declared.asks.Kind.TheVariants as kind
 use Rattle.axp_wbuf.specs.Drains.{oldest_group}
 use Rattle.axp_wbuf.specs.Pending.{Pending}
+use Rattle.axp_world.specs.RunLaws.{is_not_legal}
 use Rattle.axp_world.specs.Worlds.{World, answer_by, answer_of, image_bytes, intents, reply_at, reply_for, world}
 use Rattle.axp_world.proofs.Agreement.{BusAgrees}
 use Rattle.axp_world.proofs.Called.{some_if}
@@ -47,11 +48,6 @@ use Rattle.axp_world.proofs.Legality.{has_late, legal_agrees}
 use Rattle.axp_world.proofs.Runs.{Agrees}
 use Rattle.axp_world.proofs.Seated.{answer}
 
--- the event is refused as not legal
-abbrev pub is_not_legal : Result Outcome Refusal → Bool
-is_not_legal (Ok o) = false
-is_not_legal (Err NotLegal) = true
-is_not_legal (Err NotBuilt) = false
 
 -- nothing is late
 abbrev is_nothing : Option Reply → Bool

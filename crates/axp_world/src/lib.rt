@@ -2,6 +2,8 @@
 //! memory model's. No code that runs.
 #![tactic(auto)]
 
+mod laws;
 mod lengths;
 
+pub use laws::{played_histories_are_runs, refused_where_not_legal, runs_are_played};
 pub use lengths::{EVENTS_PER_STEP, length_of_a_history};

@@ -1,0 +1,11 @@
+use Rattle.axp_world.proofs.Joined.{joined}
+use Rattle.axp_world.proofs.Wanting.{intents_in_line}
+use Rattle.axp_world.proofs.laws.played_histories_are_runs.Goals as goal
+
+pub returns : goal.returns
+returns c = record {
+  in_line = intents_in_line;
+  run = λ image cpus budget h valid played. (joined image cpus budget h valid played).run;
+  turns = λ image cpus budget h valid played. (joined image cpus budget h valid played).bus.count;
+  memory = λ image cpus budget h valid played. (joined image cpus budget h valid played).bus.bytes;
+}

@@ -1,0 +1,5 @@
+use Rattle.axp_world.proofs.Joined as joined
+use Rattle.axp_world.proofs.laws.runs_are_played.Goals as goal
+
+pub returns : goal.returns
+returns c = joined.runs_are_played

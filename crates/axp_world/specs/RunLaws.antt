@@ -1,0 +1,23 @@
+-- What the laws of played histories speak of.
+use Rattle.std.specs.Prelude.{◌≡◌, ℕ, ◌<◌, Bool, true, false, List, [], ◌∷◌, Result, Ok, Err}
+use Rattle.axp_access.specs.declared.Outcome.{Outcome}
+use Rattle.axp_access.specs.declared.Record.{Record}
+use Rattle.axp_base.specs.Cpus.{cpu_number}
+use Rattle.axp_cpu.specs.declared.refusals.Refusal.{Refusal}
+use Rattle.axp_cpu.specs.declared.refusals.Refusal.TheVariants.{NotLegal, NotBuilt}
+use Rattle.axp_image.specs.Contents.{Contents}
+use Rattle.axp_world.specs.Worlds.{answer_of, world}
+
+-- an event is refused because it is not legal
+abbrev pub is_not_legal : Result Outcome Refusal → Bool
+is_not_legal (Ok o) = false
+is_not_legal (Err NotLegal) = true
+is_not_legal (Err NotBuilt) = false
+
+-- each event of a history is of a processor that there is, and came to nothing that is not built
+abbrev pub IsBuilt : Contents → ℕ → ℕ → List Record → Type 0
+IsBuilt image cpus budget [] = Unit {0}
+IsBuilt image cpus budget (r ∷ h) =
+    (cpu_number r.event.cpu < cpus)
+    × (answer_of image cpus (world image budget h) r.event ≡ Err NotBuilt → ⊥)
+    × IsBuilt image cpus budget h

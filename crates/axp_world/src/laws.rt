@@ -1,0 +1,38 @@
+//! What processors play over the bus is what the memory model says.
+ghost use Rattle.std.specs.Prelude.{ℕ, List, ◌≡◌, ◌<◌, not, true};
+ghost use Rattle.axp_access.specs.declared.Event.{Event};
+ghost use Rattle.axp_access.specs.declared.Record.{Record};
+ghost use Rattle.axp_base.specs.Cpus.{cpu_number};
+ghost use Rattle.axp_image.specs.Contents.{Contents, IsValid};
+ghost use Rattle.axp_model.specs.BusCalls as calls;
+ghost use Rattle.axp_model.specs.Legal.{legal};
+ghost use Rattle.axp_model.specs.Memory.{memory_byte};
+ghost use Rattle.axp_model.specs.OrderLaws.{AreInLine};
+ghost use Rattle.axp_model.specs.Outcomes.{IsRun};
+ghost use Rattle.axp_model.specs.Turns.{turns};
+ghost use Rattle.axp_world.specs.RunLaws.{IsBuilt, is_not_legal};
+ghost use Rattle.axp_world.specs.Worlds.{IsPlayed, answer_of, image_bytes, intents, world};
+
+/// Every history that processors play over the bus is a run of the memory model: each event was legal
+/// after the records before it, and has the outcome that the model says. What processors want lies
+/// within a line each, so all laws of the model hold of it. Its turns and its memory are the bus's.
+pub fn played_histories_are_runs()
+    ensures in_line { (image : Contents) (budget : ℕ) → IsValid image → AreInLine (intents image budget) }
+    ensures run { (image : Contents) (cpus budget : ℕ) (h : List Record) → IsValid image → IsPlayed image cpus budget h → IsRun (image_bytes image) (intents image budget) h }
+    ensures turns { (image : Contents) (cpus budget : ℕ) (h : List Record) → IsValid image → IsPlayed image cpus budget h → calls.turns (world image budget h).calls ≡ turns h }
+    ensures memory { (image : Contents) (cpus budget : ℕ) (h : List Record) → IsValid image → IsPlayed image cpus budget h → (at : ℕ)
+        → calls.memory (image_bytes image) (world image budget h).calls at ≡ memory_byte (image_bytes image) h (turns h) at }
+{}
+
+/// After a played history an event of a processor that there is gets refused as not legal exactly where
+/// the memory model says that it is not.
+pub fn refused_where_not_legal()
+    ensures { (image : Contents) (cpus budget : ℕ) (h : List Record) (e : Event) → IsValid image → IsPlayed image cpus budget h → cpu_number e.cpu < cpus
+        → is_not_legal (answer_of image cpus (world image budget h) e) ≡ not (legal (intents image budget (cpu_number e.cpu) h) h e) }
+{}
+
+/// Every run of the memory model is played, where each event is of a processor that there is and comes
+/// to nothing that is not built.
+pub fn runs_are_played()
+    ensures { (image : Contents) (cpus budget : ℕ) (h : List Record) → IsValid image → IsRun (image_bytes image) (intents image budget) h → IsBuilt image cpus budget h → IsPlayed image cpus budget h }
+{}
