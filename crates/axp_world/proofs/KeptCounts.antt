@@ -1,7 +1,5 @@
 -- What an act leaves of a processor's entries, and of what it did since its last Step.
-use Rattle.std.proofs.Common.{◌≡◌, ℕ, ◌+◌, ◌<◌, ◌≤◌, Bool, true, false, cond, eqb, List, [], ◌∷◌, length, slice_get, Option, Some, None, refl, sym, ap, ◌∙◌, subst, ⊎_elim, arith}
-use Rattle.std.specs.List.{remove}
-use Rattle.std.proofs.lemmas.Bool.{cases_Bool}
+use Rattle.std.proofs.Common.{◌≡◌, ℕ, ◌+◌, ◌≤◌, Bool, true, false, cond, eqb, List, [], ◌∷◌, length, slice_get, Option, Some, None, refl, sym, ap, ◌∙◌, arith}
 use Rattle.std.proofs.lemmas.List.Edits.{length-remove}
 use Rattle.std.proofs.lemmas.Option.{same_Some, slice_get_within}
 use Rattle.axp_base.specs.Lines.{line_number, data_bank}
@@ -22,7 +20,7 @@ use Rattle.axp_wbuf.specs.Pending.{Buffer, Pending, is_at, put_into}
 use Rattle.axp_model.specs.Records.{line_numbered}
 use Rattle.axp_lsu.specs.Asking.{access_ask, drain_ask, step_ask}
 use Rattle.axp_lsu.specs.Going.{accessed, brought, delivered, drained, fenced, filled, kept_after, rewritten, stepped}
-use Rattle.axp_lsu.specs.Keeping.{Kept, copies_of, nothing, with_copies, with_drop}
+use Rattle.axp_lsu.specs.Keeping.{Kept, nothing, with_copies, with_drop}
 use Rattle.axp_lsu.specs.declared.asks.Ask2.{Ask2}
 use Rattle.axp_lsu.specs.declared.asks.Ask2.TheVariants as ask
 use Rattle.axp_lsu.specs.declared.since.Since.{Since}
