@@ -1,35 +1,18 @@
 -- What an act that is asked for shows: what allowed it, and what its answer cannot be.
-use Rattle.std.proofs.Common.{◌≡◌, ℕ, ◌+◌, ◌<◌, ◌≤◌, Bool, true, false, not, ◌&&◌, cond, leb, List, [], ◌∷◌, length, slice_get, Option, Some, None, refl, sym, ap, ◌∙◌, subst, ⊎_elim, arith}
-use Rattle.std.specs.Prelude.{Result, Ok, Err}
-use Rattle.std.proofs.lemmas.Bool.{and_parts, cases_Bool, leb-false, not-true, or_parts}
-use Rattle.std.proofs.lemmas.Option.{same_Some}
-use Rattle.axp_base.specs.declared.lines.Bank.{Bank}
-use Rattle.axp_base.specs.declared.lines.Bank.TheVariants.{Even, Odd, Code}
-use Rattle.axp_base.specs.declared.lines.Line.{Line}
-use Rattle.axp_base.specs.declared.processors.Cpu.{Cpu}
-use Rattle.axp_line.specs.declared.messages.Reply.TheVariants as reply
+use Rattle.std.proofs.Common.{◌≡◌, ℕ, ◌<◌, Bool, true, false, not, ◌&&◌, cond, leb, Option, Some, None, refl}
+use Rattle.std.specs.Prelude.{Ok}
+use Rattle.std.proofs.lemmas.Bool.{and_parts, leb-false, not-true, or_parts}
 use Rattle.axp_line.specs.declared.messages.Request.TheVariants as request
-use Rattle.axp_regs.specs.declared.asks.Kind.{Kind}
-use Rattle.axp_regs.specs.declared.asks.Kind.TheVariants as kind
 use Rattle.axp_access.specs.declared.Act.{Act}
 use Rattle.axp_access.specs.declared.Act.TheVariants as act
-use Rattle.axp_access.specs.declared.Intent.{Intent}
-use Rattle.axp_access.specs.declared.Wanted.{Wanted}
-use Rattle.axp_wbuf.specs.Drains.{oldest_group}
-use Rattle.axp_wbuf.specs.Pending.{Pending}
-use Rattle.axp_model.specs.BusCalls.{BusCall, late}
-use Rattle.axp_model.specs.BusReply.{first_late, reply_by}
 use Rattle.axp_model.specs.Legal.{may_now}
-use Rattle.axp_lsu.specs.Asking.{act_ask, ask_of, drain_ask, fill_ask, fill_for, step_ask, take_ask}
-use Rattle.axp_lsu.specs.Keeping.{Kept, has_dropped}
+use Rattle.axp_lsu.specs.Asking.{act_ask, ask_of}
+use Rattle.axp_lsu.specs.Keeping.{has_dropped}
 use Rattle.axp_lsu.specs.declared.asks.Ask2.{Ask2}
 use Rattle.axp_lsu.specs.declared.asks.Ask2.TheVariants as ask
 use Rattle.axp_lsu.specs.declared.since.Since.{Since}
 use Rattle.axp_cpu.specs.Actors.{Actor, about, asked_by, is_built, request_of}
 use Rattle.axp_cpu.specs.Seats.{Seat, is_finished}
-use Rattle.axp_cpu.specs.declared.refusals.Refusal.{Refusal}
-use Rattle.axp_world.specs.Worlds.{calls_for, reply_for}
-use Rattle.axp_world.proofs.CallCounts.{pairs, turned}
 
 asked_parts : (x : Option Ask2) (built : Bool) (q : Ask2) → asked_by x built ≡ Ok q → (x ≡ Some q) × (built ≡ true)
 asked_parts None built q h = cc

@@ -1,5 +1,5 @@
 -- A processor's acts, but for its Takes, are bounded by its budget of steps.
-use Rattle.std.proofs.Common.{◌≡◌, ℕ, ◌+◌, ◌*◌, ◌<◌, ◌≤◌, Bool, true, false, cond, List, [], ◌∷◌, length, slice_get, Option, Some, None, refl, sym, ap, ◌∙◌, subst, arith}
+use Rattle.std.proofs.Common.{◌≡◌, ℕ, ◌+◌, ◌*◌, ◌<◌, ◌≤◌, Bool, true, false, cond, List, length, slice_get, Option, Some, None, refl, sym, ap, ◌∙◌, subst, arith}
 use Rattle.std.specs.Prelude.{Ok}
 use Rattle.axp_base.specs.declared.lines.Bank.{Bank}
 use Rattle.axp_base.specs.declared.lines.Bank.TheVariants.{Even, Odd, Code}
@@ -14,17 +14,16 @@ use Rattle.axp_model.specs.Legal.{is_step}
 use Rattle.axp_lsu.specs.Asking.{act_ask}
 use Rattle.axp_lsu.specs.Going as going
 use Rattle.axp_lsu.specs.Going.{kept_after}
-use Rattle.axp_lsu.specs.Keeping.{Kept, has_dropped, with_copies, with_drop}
+use Rattle.axp_lsu.specs.Keeping.{Kept, has_dropped, with_drop}
 use Rattle.axp_lsu.specs.declared.asks.Ask2.{Ask2}
-use Rattle.axp_lsu.specs.declared.asks.Ask2.TheVariants as ask
 use Rattle.axp_lsu.specs.declared.since.Since.{Since}
 use Rattle.axp_cpu.specs.Actors.{Actor, about, advanced, is_built, moved_by, request_of, seat_after, step_built}
 use Rattle.axp_cpu.specs.Plans.{Plan, End, Want, Unbuilt}
 use Rattle.axp_cpu.specs.Seats.{Seat, moved}
 use Rattle.axp_world.specs.Worlds.{reply_for}
-use Rattle.axp_world.proofs.Asked.{IsAllowed, IsAsked, allowed, is_asked}
+use Rattle.axp_world.proofs.Asked.{IsAllowed, allowed, is_asked}
 use Rattle.axp_world.proofs.CallCounts.{turned, turned_most}
-use Rattle.axp_world.proofs.KeptCounts.{IsOneMore, copies_same, delivered_same, drained_one, filled_same, since_after, since_is, stepped_one}
+use Rattle.axp_world.proofs.KeptCounts.{copies_same, delivered_same, drained_one, filled_same, since_after, since_is, stepped_one}
 use Rattle.axp_world.proofs.Quiet.{IsQuiet, aside_quiet, is_aside}
 use Rattle.axp_world.proofs.Tallies.{Tally, counted, counts_steps, total, with_dropped}
 

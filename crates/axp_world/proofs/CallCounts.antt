@@ -1,12 +1,12 @@
 -- What a call of the bus does to the counts of turns and of late pairs.
-use Rattle.std.proofs.Common.{◌≡◌, ℕ, ◌+◌, ◌%◌, ◌≤◌, Bool, true, false, not, eqb, cond, List, [], ◌∷◌, ◌++◌, length, Option, Some, None, refl, sym, ap, ◌∙◌, ⊎_elim, arith}
+use Rattle.std.proofs.Common.{◌≡◌, ℕ, ◌+◌, ◌%◌, ◌≤◌, Bool, true, false, eqb, cond, List, [], ◌∷◌, length, Option, Some, None, refl, ⊎_elim, arith}
 use Rattle.std.specs.Prelude.{Ok}
 use Rattle.std.proofs.lemmas.Bool.{cases_Bool}
 use Rattle.std.proofs.lemmas.List.{length-append}
 use Rattle.axp_base.specs.Cpus.{cpu_number}
 use Rattle.axp_base.specs.Lines.{line_number}
 use Rattle.axp_base.specs.declared.lines.Bank.{Bank}
-use Rattle.axp_base.specs.declared.lines.Bank.TheVariants.{Even, Odd, Code}
+use Rattle.axp_base.specs.declared.lines.Bank.TheVariants.{Even, Odd}
 use Rattle.axp_base.specs.declared.lines.Line.{Line}
 use Rattle.axp_base.specs.declared.processors.Cpu.{Cpu}
 use Rattle.axp_inval.specs.Queues.{others}
@@ -17,10 +17,9 @@ use Rattle.axp_line.specs.declared.messages.Request.TheVariants as request
 use Rattle.axp_lsu.specs.declared.asks.Ask2.{Ask2}
 use Rattle.axp_lsu.specs.declared.asks.Ask2.TheVariants as ask
 use Rattle.axp_model.specs.BusCalls.{BusCall, is_turn, turns, late, late_by_own, line_written, would_write, wrote}
-use Rattle.axp_model.specs.BusReply.{bus_reply, first_late, reply_by}
+use Rattle.axp_model.specs.BusReply.{bus_reply}
 use Rattle.axp_model.specs.Late.{late_by_other}
 use Rattle.axp_model.specs.Legal.{same_bank}
-use Rattle.axp_model.specs.Records.{in_bank}
 use Rattle.axp_world.specs.Worlds.{calls_for, reply_for}
 
 -- the turn that an answer gave

@@ -1,6 +1,6 @@
 -- A played history is counted: its events, Steps and turns, by processors.
-use Rattle.std.proofs.Common.{◌≡◌, ℕ, zero, suc, ◌+◌, ◌-◌, ◌*◌, ◌<◌, ◌≤◌, Bool, true, false, eqb, ltb, cond, List, [], ◌∷◌, length, Option, Some, None, refl, sym, ap, ◌∙◌, subst, ⊎_elim, arith}
-use Rattle.std.specs.Prelude.{Ok, Err}
+use Rattle.std.proofs.Common.{◌≡◌, ℕ, zero, suc, ◌+◌, ◌*◌, ◌<◌, ◌≤◌, Bool, true, false, ltb, cond, List, [], ◌∷◌, length, Some, refl, sym, ap, ◌∙◌, subst, ⊎_elim, arith}
+use Rattle.std.specs.Prelude.{Ok}
 use Rattle.std.proofs.Math.Nat.{add-mul, mul-add, mul_assoc, mul_left_comm, suc-mul}
 use Rattle.std.proofs.lemmas.Bool.{cases_Bool, eq-eqb, eqb-true, ltb-true}
 use Rattle.std.proofs.lemmas.Nat.{mul-le}
@@ -23,9 +23,9 @@ use Rattle.axp_model.specs.Records.{by}
 use Rattle.axp_lsu.specs.Asking.{act_ask}
 use Rattle.axp_lsu.specs.Keeping.{Kept}
 use Rattle.axp_lsu.specs.declared.asks.Ask2.{Ask2}
-use Rattle.axp_cpu.specs.Actors.{Actor, about, advanced, request_of}
+use Rattle.axp_cpu.specs.Actors.{Actor, advanced, request_of}
 use Rattle.axp_world.specs.Lengths.{events_per_step, steps_in, steps_of}
-use Rattle.axp_world.specs.Worlds.{IsPlayed, World, after_event, answer_of, calls_for, image_bytes, reply_at, reply_for, world}
+use Rattle.axp_world.specs.Worlds.{IsPlayed, World, after_event, answer_of, calls_for, image_bytes, reply_for, world}
 use Rattle.axp_world.specs.declared.lengths.TheConstants.{EVENTS_PER_STEP}
 use Rattle.axp_world.proofs.Asked.{is_asked}
 use Rattle.axp_world.proofs.Bounded.{IsBounded, acts_bounded, bounded_after, steps_bounded, turns_bounded}
@@ -118,7 +118,7 @@ taken_own image w r h p s own was =
     let asks = (is_asked (w.actors (cpu_number r.event.cpu)) r.event.act s.ask s.asked).asks in
     let some = subst (λ x. x ≡ Some reply.Nothing → ⊥) s.answered s.something in
     let takes = subst (λ n. (counted r.event.act (tally p h)).takes + pairs n (calls_for bytes w.calls r.event.cpu (Ok s.ask)) ≤ (tally p h).takes + pairs n w.calls) at
-        (own_takes bytes w.calls r.event.cpu r.event.act _ _ s.ask (tally p h) asks some) in
+    (own_takes bytes w.calls r.event.cpu r.event.act _ _ s.ask (tally p h) asks some) in
     rw (tally_own p r h own) (omega (arith, was, takes, own_after bytes w.calls r.event.cpu p s.ask own, turns_after bytes w.calls r.event.cpu s.ask))
 
 taken_other : (image : Contents) (w : World) (r : Record) (h : List Record) (p : ℕ) (s : Shown image w r.event r.outcome) → by p r ≡ false → AreTaken p (tally p h).takes w.calls
@@ -142,13 +142,13 @@ counted_after image cpus budget w r h below s was =
     subst (λ cs. IsCounted cpus budget (after_event image w r.event).actors cs (r ∷ h)) (sym (calls_after image w r.event r.outcome s))
     (record {
       bounded = λ p. ⊎_elim
-      (λ (mine : by p r ≡ true). bounded_own image w r h budget p s mine (was.bounded p))
-      (λ (other : by p r ≡ false). bounded_other image w r h budget p s other (was.bounded p))
-      (cases_Bool (by p r));
+          (λ (mine : by p r ≡ true). bounded_own image w r h budget p s mine (was.bounded p))
+          (λ (other : by p r ≡ false). bounded_other image w r h budget p s other (was.bounded p))
+          (cases_Bool (by p r));
       taken = λ p. ⊎_elim
-      (λ (mine : by p r ≡ true). taken_own image w r h p s mine (was.taken p))
-      (λ (other : by p r ≡ false). taken_other image w r h p s other (was.taken p))
-      (cases_Bool (by p r));
+          (λ (mine : by p r ≡ true). taken_own image w r h p s mine (was.taken p))
+          (λ (other : by p r ≡ false). taken_other image w r h p s other (was.taken p))
+          (cases_Bool (by p r));
       events = omega (arith, was.events, sum_raised (λ p. total (tally p h)) (λ p. total (tally p (r ∷ h))) cpu 1 cpus below (ap total its ∙ counts_once r.event.act (tally cpu h)) (λ p other. ap total (tally_other p r h other)));
       steps = omega (arith, was.steps, more_if (is_step r.event.act) (steps_in h), sum_raised (λ p. (tally p h).steps) (λ p. (tally p (r ∷ h)).steps) cpu (cond (is_step r.event.act) 1 0) cpus below (ap (λ t. t.steps) its ∙ counts_steps r.event.act (tally cpu h)) (λ p other. ap (λ t. t.steps) (tally_other p r h other)));
       turned = omega (arith, was.turned, turns_after bytes w.calls r.event.cpu s.ask, sum_raised (λ p. own_turns p w.calls) (λ p. own_turns p (calls_for bytes w.calls r.event.cpu (Ok s.ask))) cpu (turned (reply_for bytes w.calls cpu (Ok s.ask))) cpus below (own_after bytes w.calls r.event.cpu cpu s.ask own) (λ p other. other_after bytes w.calls r.event.cpu p s.ask other));

@@ -1,7 +1,5 @@
 -- What an act leaves of a processor's entries, and of what it did since its last Step.
-use Rattle.std.proofs.Common.{◌≡◌, ℕ, ◌+◌, ◌<◌, ◌≤◌, Bool, true, false, cond, eqb, List, [], ◌∷◌, length, slice_get, Option, Some, None, refl, sym, ap, ◌∙◌, subst, ⊎_elim, arith}
-use Rattle.std.specs.List.{remove}
-use Rattle.std.proofs.lemmas.Bool.{cases_Bool}
+use Rattle.std.proofs.Common.{◌≡◌, ℕ, ◌+◌, ◌≤◌, Bool, true, false, cond, List, [], ◌∷◌, length, slice_get, Option, Some, None, refl, sym, ap, ◌∙◌, arith}
 use Rattle.std.proofs.lemmas.List.Edits.{length-remove}
 use Rattle.std.proofs.lemmas.Option.{same_Some, slice_get_within}
 use Rattle.axp_base.specs.Lines.{line_number, data_bank}
@@ -17,12 +15,13 @@ use Rattle.axp_access.specs.declared.Act.{Act}
 use Rattle.axp_access.specs.declared.Act.TheVariants as act
 use Rattle.axp_access.specs.declared.Intent.{Intent}
 use Rattle.axp_access.specs.declared.Wanted.{Wanted}
-use Rattle.axp_wbuf.specs.Drains.{in_front, first_group, oldest_group, without}
+use Rattle.axp_wbuf.specs.Drains.{oldest_group, without}
 use Rattle.axp_wbuf.specs.Pending.{Buffer, Pending, is_at, put_into}
 use Rattle.axp_model.specs.Records.{line_numbered}
+use Rattle.axp_wbuf.proofs.Fronts.{oldest_inside}
 use Rattle.axp_lsu.specs.Asking.{access_ask, drain_ask, step_ask}
 use Rattle.axp_lsu.specs.Going.{accessed, brought, delivered, drained, fenced, filled, kept_after, rewritten, stepped}
-use Rattle.axp_lsu.specs.Keeping.{Kept, copies_of, nothing, with_copies, with_drop}
+use Rattle.axp_lsu.specs.Keeping.{Kept, nothing, with_copies, with_drop}
 use Rattle.axp_lsu.specs.declared.asks.Ask2.{Ask2}
 use Rattle.axp_lsu.specs.declared.asks.Ask2.TheVariants as ask
 use Rattle.axp_lsu.specs.declared.since.Since.{Since}
@@ -98,23 +97,13 @@ stepped_one (Some w) boundary armed r u q asks quiet =
     accessed_one w.kind w armed r u (λ private. quiet (sym (same_Some (access_ask w.kind w armed u) q (some_if _ (Some (access_ask w.kind w armed u)) q asks).1) ∙ private))
 
 -- a Drain takes one entry away
-front_length : (b : Bool) (e : Pending) (es fs : List Pending) → length es ≤ length fs → length (cond b (e ∷ es) []) ≤ length fs + 1
-front_length true e es fs within = omega (arith, within)
-front_length false e es fs within = omega arith
-
-front_few : (group : ℕ) (es : List Pending) → length (in_front group es) ≤ length es
-unfolding in_front
-front_few group [] = omega arith
-front_few group (e ∷ es) = omega (arith, front_length (eqb e.group group) e (in_front group es) es (front_few group es))
-
 pub drained_one : (k : ℕ) (o : Option Pending) (r : Option Reply) (u : Kept) (q : Ask2) → slice_get (oldest_group u.buffer.kept) k ≡ o → drain_ask o ≡ Some q
     → length (drained k o r u).buffer.kept + 1 ≡ length u.buffer.kept
 drained_one k None r u q at asks = cc
 drained_one k (Some e) r u q at asks =
     let within = slice_get_within (oldest_group u.buffer.kept) k e at in
-    let few = front_few (first_group u.buffer.kept) u.buffer.kept in
     let same = ap (λ b. length b.kept) (rewritten_same (line_numbered e.line) r (record u { buffer = without k u.buffer })).buffer in
-    omega (arith, same, length-remove u.buffer.kept k (omega (arith, within, few)))
+    omega (arith, same, length-remove u.buffer.kept k (omega (arith, within, oldest_inside u.buffer.kept)))
 
 -- what was done since the last Step
 abbrev pub since_after : Act → Since → Since

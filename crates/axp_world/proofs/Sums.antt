@@ -1,5 +1,5 @@
 -- Sums over the processors below a count.
-use Rattle.std.proofs.Common.{◌≡◌, ℕ, zero, suc, ◌+◌, ◌*◌, ◌<◌, ◌≤◌, true, false, eqb, refl, sym, ap, ◌∙◌, subst, ⊎_elim, arith}
+use Rattle.std.proofs.Common.{◌≡◌, ℕ, zero, suc, ◌+◌, ◌*◌, ◌<◌, ◌≤◌, true, false, eqb, refl, subst, ⊎_elim, arith}
 use Rattle.std.proofs.Math.Nat.{suc-mul}
 use Rattle.std.proofs.lemmas.Bool.{cases_Bool, eqb-true, eqb-false, ne_eqb}
 
@@ -34,9 +34,9 @@ sum_raised f g q k (suc n) below raised same =
     omega (arith, here, sum_same f g n (λ p less. same p (ne_eqb q p (λ e. omega (arith, at, e, less))))))
     (λ (other : eqb q n ≡ false). omega (arith, same n other, sum_raised f g q k n (nearer q n below (eqb-false q n other)) raised same))
     (cases_Bool (eqb q n))
-    where
-  nearer : (q n : ℕ) → q < suc n → (q ≡ n → ⊥) → q < n
-  nearer q n below apart = grind (arith, below, apart)
+  where
+    nearer : (q n : ℕ) → q < suc n → (q ≡ n → ⊥) → q < n
+    nearer q n below apart = grind (arith, below, apart)
 
 pub sum_none : (f : ℕ → ℕ) (n : ℕ) → ((p : ℕ) → f p ≡ 0) → sum_below f n ≡ 0
 sum_none f zero none = refl
