@@ -1,28 +1,26 @@
 -- How the world after a history agrees with the memory model's words on that history: the write buffer with
 -- the entries that wait, the banks with what is held, the bus with turns, late pairs, locks and memory.
-use Rattle.std.specs.Prelude.{◌≡◌, ℕ, ◌+◌, ◌-◌, ◌%◌, ◌==◌, ◌<◌, ◌&&◌, Bool, true, false, List, [], ◌∷◌, map, length, slice_get, slice_index, Option, Some, None, is_some}
+use Rattle.std.specs.Prelude.{◌≡◌, ℕ, ◌-◌, ◌%◌, ◌==◌, ◌&&◌, Bool, true, false, List, [], ◌∷◌, map, length, slice_get, slice_index, Option, Some, None, is_some}
 use Rattle.std.specs.List.{find, list_any}
-use Rattle.axp_base.specs.Lines.{line_number, data_bank}
+use Rattle.axp_base.specs.Lines.{line_number}
 use Rattle.axp_base.specs.Masks.{has_bit}
 use Rattle.axp_base.specs.Parts.{byte}
 use Rattle.axp_base.specs.declared.lines.Bank.{Bank}
 use Rattle.axp_base.specs.declared.lines.Bank.TheVariants.{Even, Odd, Code}
 use Rattle.axp_base.specs.declared.lines.TheConstants.{LINE_BYTES}
-use Rattle.axp_access.specs.declared.Access.{Access}
 use Rattle.axp_access.specs.declared.Place.{Place}
 use Rattle.axp_access.specs.declared.Place.TheVariants.{At, Entry, Absent}
 use Rattle.axp_access.specs.declared.Record.{Record}
-use Rattle.axp_bank.specs.Copies.{line_of, is_held, get_of, stamp_of}
-use Rattle.axp_bank.specs.declared.copies.LineCopy.{LineCopy}
+use Rattle.axp_bank.specs.Copies.{line_of, is_held, get_of}
 use Rattle.axp_line.specs.Lines.{bytes_of_line}
 use Rattle.axp_line.specs.declared.contents.LineData.{LineData}
-use Rattle.axp_lsu.specs.Keeping.{Kept, copies_of, data_copies}
+use Rattle.axp_lsu.specs.Keeping.{Kept, data_copies}
 use Rattle.axp_wbuf.specs.Drains.{oldest_group}
 use Rattle.axp_wbuf.specs.Pending as pending
 use Rattle.axp_wbuf.specs.Pending.{Pending, is_before, is_of_line, overlaid, store_number}
 use Rattle.axp_model.specs.BusCalls as calls
 use Rattle.axp_model.specs.BusCalls.{BusCall}
-use Rattle.axp_model.specs.Entries.{Waiting, Buffer, buffer, entry_for, has_closed, has_line, oldest}
+use Rattle.axp_model.specs.Entries.{Waiting, buffer, entry_for, has_closed, has_line, oldest}
 use Rattle.axp_model.specs.Late.{late, held, code_held, copies, code_copies}
 use Rattle.axp_model.specs.Legal.{is_drop_of, is_empty, is_fill, is_poll_act, is_tick, since_step, takes_write}
 use Rattle.axp_model.specs.Locks.{lock, signalled}

@@ -1,8 +1,8 @@
 -- Banks after each act of their processor.
-use Rattle.std.proofs.Common.{◌≡◌, ◌≢◌, ℕ, ◌+◌, ◌^◌, ◌<◌, Bool, true, false, cond, not, ◌&&◌, ◌||◌, eqb, ltb, List, [], ◌∷◌, slice_get, Option, Some, None, refl, sym, ap, ◌∙◌, subst, ⊎_elim}
+use Rattle.std.proofs.Common.{◌≡◌, ◌≢◌, ℕ, ◌^◌, ◌<◌, Bool, true, false, cond, not, ◌&&◌, eqb, ltb, List, [], ◌∷◌, slice_get, Option, Some, None, refl, sym, ap, ◌∙◌, subst}
 use Rattle.std.specs.List.{list_any}
-use Rattle.std.specs.Prelude.{Result, Ok, Err}
-use Rattle.std.proofs.lemmas.Bool.{and_parts, cases_Bool, eq-eqb, ne_eqb, false≢true}
+use Rattle.std.specs.Prelude.{Ok}
+use Rattle.std.proofs.lemmas.Bool.{and_parts, eq-eqb, ne_eqb, false≢true}
 use Rattle.axp_base.specs.Cpus.{cpu_number}
 use Rattle.axp_base.specs.Lines.{data_bank, line_number}
 use Rattle.axp_base.specs.declared.lines.Bank.{Bank}
@@ -12,7 +12,6 @@ use Rattle.axp_base.specs.declared.processors.Cpu.{Cpu}
 use Rattle.axp_access.specs.declared.Access.{Access}
 use Rattle.axp_access.specs.declared.Act.{Act}
 use Rattle.axp_access.specs.declared.Act.TheVariants as act
-use Rattle.axp_access.specs.declared.Event.{Event}
 use Rattle.axp_access.specs.declared.Intent.{Intent}
 use Rattle.axp_access.specs.declared.Outcome.{Outcome}
 use Rattle.axp_access.specs.declared.Outcome.TheVariants as outcome
@@ -26,7 +25,7 @@ use Rattle.axp_line.specs.declared.messages.Reply.{Reply}
 use Rattle.axp_line.specs.declared.messages.Reply.TheVariants as reply
 use Rattle.axp_line.specs.declared.messages.Request.{Request}
 use Rattle.axp_line.specs.declared.messages.Request.TheVariants as request
-use Rattle.axp_lsu.specs.Asking.{act_ask, drain_ask, fill_ask, may_bring, ready, step_ask, take_ask}
+use Rattle.axp_lsu.specs.Asking.{act_ask, drain_ask, fill_ask, may_bring, ready, step_ask}
 use Rattle.axp_lsu.specs.Going.{delivered, drain_outcome, drained, fill_outcome, filled, kept_after, outcome_by, poll_outcome, step_outcome, stepped, take_outcome}
 use Rattle.axp_lsu.specs.Keeping.{Kept, copies_of, data_copies, has_dropped, held_pairs, with_copies}
 use Rattle.axp_lsu.specs.declared.asks.Ask2.{Ask2}
@@ -37,20 +36,20 @@ use Rattle.axp_regs.specs.declared.asks.Kind.TheVariants as kind
 use Rattle.axp_wbuf.specs.Drains.{oldest_group, without}
 use Rattle.axp_wbuf.specs.Pending.{Pending, is_of_line}
 use Rattle.axp_model.specs.BusCalls.{BusCall, would_write}
-use Rattle.axp_model.specs.BusReply.{bus_reply, front, reply_by, tried}
+use Rattle.axp_model.specs.BusReply.{front, reply_by, tried}
 use Rattle.axp_model.specs.Late.{code_held, held, takes_away}
 use Rattle.axp_model.specs.OrderLaws.{IsInLine, WantsInLine}
-use Rattle.axp_model.specs.Records.{by, code_fences, drops, drops_code, fences, fills, fills_code, in_bank, is_barrier, is_code_barrier, is_locked, is_success, line_at, line_numbered, line_of, locks, turns_on}
-use Rattle.axp_model.specs.Turns.{barrier, code_stamp, stamp, turns}
+use Rattle.axp_model.specs.Records.{code_fences, drops, drops_code, fences, fills, fills_code, in_bank, is_barrier, is_code_barrier, is_locked, is_success, line_at, line_numbered, line_of, locks, turns_on}
+use Rattle.axp_model.specs.Turns.{code_stamp, stamp, turns}
 use Rattle.axp_model.proofs.Fits.{bank_own, line_at-number}
 use Rattle.axp_model.proofs.Kept.{Fitting}
 use Rattle.axp_world.specs.Worlds.{calls_for, reply_for}
 use Rattle.axp_world.proofs.Agreement.{BusAgrees, HasMemory}
 use Rattle.axp_world.proofs.BusLines.{bus_line}
 use Rattle.axp_world.proofs.Changes.{code_line_brought, code_line_dropped, held_is_banked, line_brought, line_dropped, line_invalidated, line_rewritten}
-use Rattle.axp_world.proofs.Fenced.{Fences, fence_shows}
-use Rattle.axp_world.proofs.Leaves.{barrier_left, barrier_made, code_brought, code_left, code_lost, code_stamp_brought, code_stamp_left, held_brought, held_fenced, held_left, held_lost, held_taken, leaves_code, leaves_data, leaves_other_code, leaves_others, stamp_brought, stamp_left}
-use Rattle.axp_world.proofs.Shows.{CopiesShow, KeptShows, nothing_changed, same_shows}
+use Rattle.axp_world.proofs.Fenced.{fence_shows}
+use Rattle.axp_world.proofs.Leaves.{barrier_left, barrier_made, code_brought, code_lost, code_stamp_brought, held_brought, held_fenced, held_left, held_lost, held_taken, leaves_code, leaves_data, leaves_other_code, leaves_others, stamp_brought, stamp_left}
+use Rattle.axp_world.proofs.Shows.{KeptShows, nothing_changed, same_shows}
 use Rattle.axp_world.proofs.Spared.{told_of_none}
 
 -- a record of an act

@@ -1,20 +1,17 @@
 -- The banks of a processor are the copies of the lines that it holds, by the history's words.
-use Rattle.std.proofs.Common.{◌≡◌, ℕ, ◌<◌, Bool, true, false, cond, ◌&&◌, eqb, List, [], ◌∷◌, map, Option, Some, None, refl, sym, ap, ◌∙◌, subst, ⊎_elim}
-use Rattle.std.specs.Prelude.{Result, Ok, Err}
+use Rattle.std.proofs.Common.{◌≡◌, ℕ, Bool, true, false, cond, ◌&&◌, List, [], ◌∷◌, map, Option, Some, None, refl, sym, ap, ◌∙◌, subst, ⊎_elim}
+use Rattle.std.specs.Prelude.{Ok}
 use Rattle.std.proofs.lemmas.Bool.{cases_Bool, eqb-true}
 use Rattle.axp_access.specs.declared.Act.{Act}
-use Rattle.axp_access.specs.declared.Intent.{Intent}
 use Rattle.axp_access.specs.declared.Outcome.{Outcome}
 use Rattle.axp_access.specs.declared.Record.{Record}
-use Rattle.axp_bank.specs.Copies.{get_of, is_held, line_of}
+use Rattle.axp_bank.specs.Copies.{get_of, line_of}
 use Rattle.axp_bank.specs.declared.copies.LineCopy.{LineCopy}
 use Rattle.axp_bank.proofs.BankLemmas.{whole_empty}
 use Rattle.axp_base.specs.Cpus.{cpu_number}
 use Rattle.axp_base.specs.Lines.{data_bank}
-use Rattle.axp_base.specs.declared.lines.Bank.{Bank}
-use Rattle.axp_base.specs.declared.lines.Bank.TheVariants.{Even, Odd, Code}
+use Rattle.axp_base.specs.declared.lines.Bank.TheVariants.{Even, Odd}
 use Rattle.axp_cpu.specs.Actors.{Actor, about, advanced, asked_by, is_built, outcome_of, request_of}
-use Rattle.axp_cpu.specs.declared.refusals.Refusal.{Refusal}
 use Rattle.axp_image.specs.Contents.{Contents}
 use Rattle.axp_line.specs.declared.contents.LineData.{LineData}
 use Rattle.axp_line.specs.declared.messages.Reply.{Reply}
@@ -23,7 +20,6 @@ use Rattle.axp_lsu.specs.Going as going
 use Rattle.axp_lsu.specs.Going.{kept_after, outcome_by}
 use Rattle.axp_lsu.specs.Keeping.{Kept, data_copies}
 use Rattle.axp_lsu.specs.declared.asks.Ask2.{Ask2}
-use Rattle.axp_model.specs.BusCalls.{BusCall}
 use Rattle.axp_model.specs.Late.{code_copies, code_held, copies, held}
 use Rattle.axp_model.specs.LateLaws.{ListsExactly}
 use Rattle.axp_model.specs.Legal.{may_now}
@@ -33,7 +29,7 @@ use Rattle.axp_model.specs.Turns.{code_stamp, stamp}
 use Rattle.axp_model.proofs.Copies.{code_copies_exactly, copies_exactly}
 use Rattle.axp_model.proofs.Fits.{bank_own}
 use Rattle.axp_model.proofs.Kept.{Fitting}
-use Rattle.axp_world.specs.Worlds.{World, after_event, answer_of, calls_for, image_bytes, intents, reply_at, reply_for, world}
+use Rattle.axp_world.specs.Worlds.{World, answer_of, calls_for, image_bytes, intents, reply_at, reply_for, world}
 use Rattle.axp_world.proofs.Agreement.{BanksAgree, BusAgrees, HasMemory}
 use Rattle.axp_world.proofs.BankActs.{Goes, act_goes, of_act}
 use Rattle.axp_world.proofs.Changes.{held_in, is_held_by, shown_in}

@@ -1,8 +1,8 @@
 -- A call leaves the bus as its record leaves the history.
-use Rattle.std.proofs.Common.{true, false, ℕ, ◌+◌, ◌%◌, ◌^◌, ◌≤◌, ◌≡◌, ⊎_elim, eqb, ltb, cond, Bool, not, ◌&&◌, List, [], ◌∷◌, slice_get, Option, Some, None, refl, sym, ap, ◌∙◌, subst, arith}
-use Rattle.std.specs.Prelude.{Result, Ok, Err}
+use Rattle.std.proofs.Common.{true, false, ℕ, ◌+◌, ◌%◌, ◌^◌, ◌≡◌, ⊎_elim, eqb, ltb, cond, Bool, not, ◌&&◌, List, [], ◌∷◌, slice_get, Option, Some, None, refl, sym, ap, ◌∙◌, subst, arith}
+use Rattle.std.specs.Prelude.{Ok}
 use Rattle.std.specs.List.{AllByRecursion}
-use Rattle.std.proofs.lemmas.Bool.{cases_Bool, and_parts, eqb-true, false≢true, not-true}
+use Rattle.std.proofs.lemmas.Bool.{cases_Bool, eqb-true, not-true}
 use Rattle.axp_bank.specs.Copies.{is_held}
 use Rattle.axp_base.specs.Cpus.{cpu_by, cpu_number, cpu_of}
 use Rattle.axp_base.specs.Lines.{line_number}
@@ -20,7 +20,6 @@ use Rattle.axp_access.specs.declared.Outcome.TheVariants as outcome
 use Rattle.axp_access.specs.declared.Place.TheVariants.{At}
 use Rattle.axp_access.specs.declared.Record.{Record}
 use Rattle.axp_access.specs.declared.Wanted.{Wanted}
-use Rattle.axp_cpu.specs.declared.refusals.Refusal.{Refusal}
 use Rattle.axp_cpu.specs.Actors.{Actor, about, asked_by, is_built, outcome_of, request_of}
 use Rattle.axp_image.specs.Contents.{Contents}
 use Rattle.axp_inval.specs.Queues.{others}
@@ -39,11 +38,11 @@ use Rattle.axp_model.specs.BusCalls as calls
 use Rattle.axp_model.specs.BusCalls.{BusCall}
 use Rattle.axp_model.specs.BusReply.{Front, bus_reply, first_late, front, reply_by, tried}
 use Rattle.axp_model.specs.Entries.{buffer, oldest}
-use Rattle.axp_model.specs.Late.{late, late_by_other, late_by_own}
+use Rattle.axp_model.specs.Late.{late, late_by_own}
 use Rattle.axp_model.specs.Legal.{may_now, same_bank}
-use Rattle.axp_model.specs.Locks.{lock, lock_by_other, lock_by_own, signalled}
+use Rattle.axp_model.specs.Locks.{lock, lock_by_own, signalled}
 use Rattle.axp_model.specs.Memory.{memory_byte}
-use Rattle.axp_model.specs.Records.{by, enters, in_bank, is_turn, line_at, line_of, line_numbered, signals, turned}
+use Rattle.axp_model.specs.Records.{enters, in_bank, is_turn, line_at, line_of, line_numbered, signals, turned}
 use Rattle.axp_model.specs.Sources.{byte_of_source}
 use Rattle.axp_model.specs.Turns.{turns}
 use Rattle.axp_model.proofs.Closed.{memory_step}
@@ -55,10 +54,10 @@ use Rattle.axp_regs.specs.declared.asks.Kind.{Kind}
 use Rattle.axp_regs.specs.declared.asks.Kind.TheVariants as kind
 use Rattle.axp_wbuf.specs.Drains.{oldest_group}
 use Rattle.axp_wbuf.specs.Pending.{Buffer, Pending}
-use Rattle.axp_world.specs.Worlds.{World, answer_of, calls_for, image_bytes, reply_at, reply_for, world}
+use Rattle.axp_world.specs.Worlds.{World, answer_of, calls_for, image_bytes, reply_for, world}
 use Rattle.axp_world.proofs.Agreement.{BufferAgrees, BusAgrees}
 use Rattle.axp_world.proofs.MemoryTurns.{memory_left}
-use Rattle.axp_world.proofs.Played.{Shown, calls_after, shown}
+use Rattle.axp_world.proofs.Played.{calls_after, shown}
 use Rattle.axp_world.proofs.Written.{drained_memory, entry_line, entry_waits, stored_memory}
 
 -- what a request with its answer leaves, its record leaves

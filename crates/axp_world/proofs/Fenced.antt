@@ -1,17 +1,17 @@
 -- An own barrier spares the copies that nothing late has.
-use Rattle.std.proofs.Common.{◌≡◌, ◌≢◌, ℕ, ◌+◌, ◌*◌, ◌/◌, ◌^◌, ◌<◌, ◌≤◌, Bool, true, false, not, ◌&&◌, ◌||◌, eqb, ltb, List, [], ◌∷◌, ◌++◌, length, map, Option, Some, None, refl, sym, ap, ◌∙◌, subst, arith, ⊎_elim}
+use Rattle.std.proofs.Common.{◌≡◌, ℕ, ◌*◌, ◌/◌, ◌^◌, Bool, true, false, not, ◌&&◌, ◌||◌, eqb, List, [], ◌∷◌, length, map, Option, Some, None, refl, sym, ap, ◌∙◌, arith, ⊎_elim}
 use Rattle.std.specs.List.{AllByRecursion}
 use Rattle.std.proofs.lemmas.Bool.{and_parts, cases_Bool, eqb-true, not-true, false≢true}
 use Rattle.std.proofs.lemmas.List.{append-nil, map-append}
 use Rattle.axp_base.specs.Lines.{data_bank, line_number}
 use Rattle.axp_base.specs.declared.lines.Bank.{Bank}
-use Rattle.axp_base.specs.declared.lines.Bank.TheVariants.{Even, Odd, Code}
+use Rattle.axp_base.specs.declared.lines.Bank.TheVariants.{Even, Odd}
 use Rattle.axp_base.specs.declared.lines.Line.{Line}
 use Rattle.axp_base.specs.declared.lines.TheConstants.{LINE_BYTES}
 use Rattle.axp_access.specs.declared.Record.{Record}
 use Rattle.axp_bank.specs.Copies.{get_of, spared}
 use Rattle.axp_bank.specs.declared.copies.LineCopy.{LineCopy}
-use Rattle.axp_inval.specs.Queues.{has_later, is_later}
+use Rattle.axp_inval.specs.Queues.{has_later}
 use Rattle.axp_line.specs.declared.contents.LineData.{LineData}
 use Rattle.axp_lsu.specs.Keeping.{Kept, held_pairs}
 use Rattle.axp_model.specs.BusCalls.{BusCall}
@@ -22,7 +22,7 @@ use Rattle.axp_model.specs.Turns.{barrier, code_stamp, stamp, turns}
 use Rattle.axp_model.proofs.Reached.{bank_of_line}
 use Rattle.axp_model.proofs.TurnsLate.{late_turns}
 use Rattle.axp_world.proofs.Agreement.{BusAgrees}
-use Rattle.axp_world.proofs.Shows.{BanksShow, CopiesShow, KeptShows, LeavesCode, Shows}
+use Rattle.axp_world.proofs.Shows.{BanksShow, CopiesShow, KeptShows, Shows}
 use Rattle.axp_world.proofs.Spared.{bits_behind, get_without, late_at, pair_of, spared_are, unless, whole_without, without}
 
 -- pairs of a bank's lines have nothing later of a line of the other bank

@@ -1,5 +1,5 @@
 -- What the newest record leaves and changes of the words of held lines.
-use Rattle.std.proofs.Common.{◌≡◌, ◌≢◌, ℕ, Bool, true, false, not, ◌&&◌, ◌||◌, List, [], ◌∷◌, Option, Some, None, refl, sym, ap, ◌∙◌}
+use Rattle.std.proofs.Common.{◌≡◌, ◌≢◌, ℕ, Bool, true, false, not, ◌&&◌, ◌||◌, List, ◌∷◌, refl, ap}
 use Rattle.axp_base.specs.Lines.{data_bank}
 use Rattle.axp_access.specs.declared.Record.{Record}
 use Rattle.axp_inval.specs.Queues.{has_later}

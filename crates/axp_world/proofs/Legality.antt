@@ -1,6 +1,6 @@
 -- What a processor asks of the bus is legal by the history's words, and nothing else is.
-use Rattle.std.proofs.Common.{true, false, ℕ, zero, suc, ◌+◌, ◌%◌, ◌<◌, ◌≤◌, ◌≡◌, ⊎_elim, eqb, ltb, cond, Bool, not, ◌&&◌, ◌||◌, List, [], ◌∷◌, length, map, slice_get, Option, Some, None, is_some, refl, sym, ap, ◌∙◌, arith}
-use Rattle.std.specs.List.{AllByRecursion, list_any}
+use Rattle.std.proofs.Common.{true, false, ℕ, zero, suc, ◌%◌, ◌<◌, ◌≤◌, ◌≡◌, ⊎_elim, eqb, ltb, cond, Bool, not, ◌&&◌, ◌||◌, List, [], ◌∷◌, length, map, slice_get, Option, Some, None, is_some, refl, sym, ap, ◌∙◌, arith}
+use Rattle.std.specs.List.{AllByRecursion}
 use Rattle.std.proofs.lemmas.Bool.{cases_lt, le-ltb, lt-ltb, false≢true}
 use Rattle.axp_bank.specs.Copies as copies
 use Rattle.axp_bank.specs.Copies.{is_held}
@@ -23,18 +23,18 @@ use Rattle.axp_lsu.specs.Keeping.{Kept, copies_of, data_copies, has_dropped}
 use Rattle.axp_line.specs.declared.messages.Request.TheVariants as request
 use Rattle.axp_model.specs.BusCalls as calls
 use Rattle.axp_model.specs.BusCalls.{BusCall}
-use Rattle.axp_model.specs.Entries.{Waiting, buffer, has_line, oldest}
+use Rattle.axp_model.specs.Entries.{Waiting, buffer, oldest}
 use Rattle.axp_model.specs.Late.{code_held, held, late}
 use Rattle.axp_model.specs.Late as model
 use Rattle.axp_model.specs.LateLaws.{is_among}
-use Rattle.axp_model.specs.Legal.{code_has_room, has_room, holds_in, is_drop_of, is_empty, is_fill, may, may_act, may_fill, may_fill_for, may_now, may_step, ready, since_step}
+use Rattle.axp_model.specs.Legal.{has_room, holds_in, is_drop_of, is_empty, may, may_act, may_fill, may_fill_for, may_now, may_step, ready, since_step}
 use Rattle.axp_model.specs.Records.{in_bank, line_at, line_of}
-use Rattle.axp_model.proofs.Copies.{code_copies_exactly, copies_exactly}
-use Rattle.axp_model.proofs.Fits.{InBank, bank_own, late_in}
+use Rattle.axp_model.proofs.Copies.{copies_exactly}
+use Rattle.axp_model.proofs.Fits.{InBank, late_in}
 use Rattle.axp_regs.specs.declared.asks.Kind.{Kind}
 use Rattle.axp_regs.specs.declared.asks.Kind.TheVariants as kind
 use Rattle.axp_wbuf.specs.Drains.{oldest_group}
-use Rattle.axp_wbuf.specs.Pending.{Pending, is_of_line}
+use Rattle.axp_wbuf.specs.Pending.{Pending}
 use Rattle.axp_world.proofs.Agreement.{AreEntriesOf, BanksAgree, BufferAgrees, BusAgrees, SinceAgrees}
 
 asked_if : (b : Bool) (x : Ask2) → is_some (cond b (Some x) None) ≡ b

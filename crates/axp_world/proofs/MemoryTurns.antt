@@ -1,24 +1,22 @@
 -- Memory after one more turn: a store-conditional or an entry that is drained stands over what memory had.
-use Rattle.std.proofs.Common.{true, false, ℕ, ◌+◌, ◌<◌, ◌≤◌, ◌≡◌, ◌⊎◌, inl, inr, ⊎_elim, eqb, leb, cond, Bool, not, ◌&&◌, ◌||◌, List, [], ◌∷◌, Option, Some, None, refl, sym, ap, ◌∙◌, subst, arith}
-use Rattle.std.specs.List.{AllByRecursion, find}
+use Rattle.std.proofs.Common.{true, false, ℕ, ◌+◌, ◌<◌, ◌≤◌, ◌≡◌, inr, ⊎_elim, eqb, cond, Bool, not, ◌&&◌, List, ◌∷◌, Option, Some, None, refl, sym, ap, ◌∙◌, arith}
+use Rattle.std.specs.List.{AllByRecursion}
 use Rattle.std.specs.Option.{option_or}
-use Rattle.std.proofs.lemmas.Bool.{cases_Bool, and_parts, and_from, cases_lt, lt-ltb, le-leb, lt-leb, leb-true, eqb-true, eq-eqb, false≢true}
+use Rattle.std.proofs.lemmas.Bool.{cases_Bool, and_parts, lt-ltb, le-leb, leb-true, eqb-true, eq-eqb, false≢true}
 use Rattle.axp_base.specs.Cpus.{cpu_number}
 use Rattle.axp_base.specs.declared.lines.Line.{Line}
 use Rattle.axp_access.specs.declared.Access.{Access}
 use Rattle.axp_access.specs.declared.Event.{Event}
-use Rattle.axp_access.specs.declared.Outcome.{Outcome}
 use Rattle.axp_access.specs.declared.Outcome.TheVariants as outcome
 use Rattle.axp_access.specs.declared.Place.{Place}
 use Rattle.axp_access.specs.declared.Place.TheVariants.{At, Entry, Absent}
 use Rattle.axp_access.specs.declared.Record.{Record}
 use Rattle.axp_model.specs.Records.{line_of, has_byte, is_memory_write, is_write}
 use Rattle.axp_model.specs.Turns.{turns, drained}
-use Rattle.axp_model.specs.Places.{Item, cpu_of, accesses, next_item, Times, times, Spot, spot}
-use Rattle.axp_model.specs.Before.{Key, key, key_before, before, latest}
+use Rattle.axp_model.specs.Places.{Item, accesses, next_item, Times, times, Spot, spot}
+use Rattle.axp_model.specs.Before.{key, key_before, before, latest}
 use Rattle.axp_model.specs.Memory.{is_by, reached, memory_source}
-use Rattle.axp_model.specs.OrderLaws.{AllPairs}
-use Rattle.axp_model.proofs.Kept.{FitsOutcome, Fitting, KnownItem, Kept, PairOk}
+use Rattle.axp_model.proofs.Kept.{Fitting, KnownItem, Kept, PairOk}
 use Rattle.axp_model.proofs.Orders.{at_key}
 use Rattle.axp_model.proofs.Keeps.{mark}
 use Rattle.axp_model.proofs.Drains.{Naming, named_or, IsNamed, IsOther, both_named}

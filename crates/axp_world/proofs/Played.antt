@@ -1,19 +1,17 @@
 -- What a record that was played shows: what its processor asked, what it was answered, and what that gave.
-use Rattle.std.proofs.Common.{◌≡◌, ℕ, Bool, true, false, cond, eqb, ltb, List, [], ◌∷◌, Option, Some, None, refl, sym, ap, ◌∙◌, ⊎_elim}
+use Rattle.std.proofs.Common.{◌≡◌, ℕ, true, false, eqb, ltb, Option, Some, None, refl, sym, ap, ◌∙◌, ⊎_elim}
 use Rattle.std.specs.Prelude.{Result, Ok, Err}
 use Rattle.std.proofs.lemmas.Bool.{cases_Bool}
 use Rattle.axp_access.specs.declared.Event.{Event}
 use Rattle.axp_access.specs.declared.Outcome.{Outcome}
-use Rattle.axp_access.specs.declared.Record.{Record}
 use Rattle.axp_base.specs.Cpus.{cpu_number}
 use Rattle.axp_cpu.specs.declared.refusals.Refusal.{Refusal}
-use Rattle.axp_cpu.specs.Actors.{Actor, advanced, outcome_of, request_of}
+use Rattle.axp_cpu.specs.Actors.{advanced, outcome_of, request_of}
 use Rattle.axp_image.specs.Contents.{Contents}
 use Rattle.axp_line.specs.declared.messages.Reply.{Reply}
 use Rattle.axp_line.specs.declared.messages.Reply.TheVariants as reply
 use Rattle.axp_lsu.specs.declared.asks.Ask2.{Ask2}
-use Rattle.axp_model.specs.BusCalls.{BusCall}
-use Rattle.axp_world.specs.Worlds.{World, answer_by, answer_of, asked, after_event, calls_for, image_bytes, reply_at, reply_for, world}
+use Rattle.axp_world.specs.Worlds.{World, answer_by, answer_of, asked, after_event, calls_for, image_bytes, reply_at, reply_for}
 
 -- the event's processor asked this, and its answer gave the outcome
 pub record Shown (image : Contents) (w : World) (e : Event) (o : Outcome) : Type 0 where

@@ -1,19 +1,19 @@
 -- The value that an access finds in a copy, or in a line from the bus, is that of its sources.
-use Rattle.std.proofs.Common.{true, false, ℕ, zero, suc, ◌+◌, ◌-◌, ◌*◌, ◌/◌, ◌%◌, ◌^◌, ◌<◌, ◌≤◌, ◌≡◌, ⊎_elim, eqb, max, Bool, List, [], ◌∷◌, length, get_or, slice_index, Option, Some, None, is_some, refl, sym, ap, ◌∙◌, subst, add-one, arith}
+use Rattle.std.proofs.Common.{true, false, ℕ, zero, suc, ◌+◌, ◌*◌, ◌%◌, ◌^◌, ◌<◌, ◌≤◌, ◌≡◌, List, length, get_or, slice_index, Option, Some, None, is_some, refl, sym, ap, ◌∙◌, subst, arith}
 use Rattle.std.specs.Option.{option_map, option_or}
 use Rattle.std.proofs.lemmas.Bool.{false≢true}
-use Rattle.axp_bank.specs.Copies.{get_of, is_held, stamp_of}
+use Rattle.axp_bank.specs.Copies.{get_of, stamp_of}
 use Rattle.axp_bank.proofs.GetLemmas.{held_get}
 use Rattle.axp_base.specs.Cpus.{cpu_number}
 use Rattle.axp_base.specs.Lines.{line_number}
-use Rattle.axp_base.specs.Parts.{byte, number_at, part}
+use Rattle.axp_base.specs.Parts.{number_at, part}
 use Rattle.axp_base.specs.declared.lines.TheConstants.{LINE_BYTES}
 use Rattle.axp_base.specs.declared.processors.Cpu.{Cpu}
 use Rattle.axp_access.specs.declared.Access.{Access}
 use Rattle.axp_access.specs.declared.Place.TheVariants.{At}
 use Rattle.axp_access.specs.declared.Record.{Record}
 use Rattle.axp_access.specs.declared.Wanted.{Wanted}
-use Rattle.axp_line.specs.Lines.{bytes_of_line, data_of}
+use Rattle.axp_line.specs.Lines.{bytes_of_line}
 use Rattle.axp_line.specs.declared.contents.LineData.{LineData}
 use Rattle.axp_lsu.specs.Going.{fetched_value, part_of, read_value, stamp_or_none}
 use Rattle.axp_lsu.specs.Keeping.{Kept, data_copies}
@@ -25,7 +25,7 @@ use Rattle.axp_model.specs.OrderLaws.{IsInLine}
 use Rattle.axp_model.specs.Places.{Item, accesses, next_item, times}
 use Rattle.axp_model.specs.Records.{line_at, line_of}
 use Rattle.axp_model.specs.Sources.{byte_of_source, source_byte, source_value}
-use Rattle.axp_model.specs.Turns.{barrier, code_stamp, read_place, stamp, turns}
+use Rattle.axp_model.specs.Turns.{code_stamp, read_place, stamp, turns}
 use Rattle.axp_model.proofs.Closed.{fetch_source, read_source}
 use Rattle.axp_model.proofs.Fits.{line_at-number}
 use Rattle.axp_model.proofs.Grows.{stamp_most}

@@ -1,6 +1,6 @@
 -- An event is refused as not legal exactly where the memory model says that it is not.
-use Rattle.std.proofs.Common.{true, false, ℕ, ◌%◌, ◌^◌, ◌<◌, ◌≡◌, ltb, cond, Bool, not, ◌&&◌, List, [], ◌∷◌, slice_get, Option, Some, None, is_some, refl, sym, ap, ◌∙◌, subst}
-use Rattle.std.specs.Prelude.{Result, Ok, Err}
+use Rattle.std.proofs.Common.{true, false, ℕ, ◌<◌, ◌≡◌, cond, Bool, not, ◌&&◌, List, [], ◌∷◌, slice_get, Option, Some, None, is_some, refl, sym, ap, ◌∙◌}
+use Rattle.std.specs.Prelude.{Ok}
 use Rattle.std.proofs.lemmas.Bool.{lt-ltb, false≢true}
 use Rattle.axp_bank.specs.Copies.{is_held}
 use Rattle.axp_base.specs.Cpus.{cpu_number, cpu_of}
@@ -16,14 +16,11 @@ use Rattle.axp_access.specs.declared.Intent.{Intent}
 use Rattle.axp_access.specs.declared.Outcome.{Outcome}
 use Rattle.axp_access.specs.declared.Record.{Record}
 use Rattle.axp_access.specs.declared.Wanted.{Wanted}
-use Rattle.axp_cpu.specs.declared.refusals.Refusal.{Refusal}
-use Rattle.axp_cpu.specs.declared.refusals.Refusal.TheVariants.{NotLegal, NotBuilt}
 use Rattle.axp_cpu.specs.Actors.{Actor, about, asked_by, is_built, outcome_of, request_of}
 use Rattle.axp_image.specs.Contents.{Contents}
 use Rattle.axp_line.specs.Lines.{data_of}
 use Rattle.axp_line.specs.declared.messages.Reply.{Reply}
 use Rattle.axp_line.specs.declared.messages.Reply.TheVariants as reply
-use Rattle.axp_line.specs.declared.messages.Request.{Request}
 use Rattle.axp_line.specs.declared.messages.Request.TheVariants as request
 use Rattle.axp_lockreg.specs.Blocks.{is_allowed}
 use Rattle.axp_lsu.specs.declared.asks.Ask2.{Ask2}
@@ -47,7 +44,6 @@ use Rattle.axp_world.proofs.Called.{some_if}
 use Rattle.axp_world.proofs.Legality.{has_late, legal_agrees}
 use Rattle.axp_world.proofs.Runs.{Agrees}
 use Rattle.axp_world.proofs.Seated.{answer}
-
 
 -- nothing is late
 abbrev is_nothing : Option Reply → Bool

@@ -1,8 +1,8 @@
 -- A record that was played is legal after those before it, and has its outcome by the memory model.
-use Rattle.std.proofs.Common.{true, false, ℕ, ◌<◌, ◌≡◌, ⊎_elim, eqb, ltb, cond, Bool, not, ◌&&◌, List, [], ◌∷◌, Option, Some, None, is_some, refl, sym, ap, ◌∙◌, subst}
-use Rattle.std.specs.Prelude.{Result, Ok, Err}
+use Rattle.std.proofs.Common.{true, false, ℕ, ◌≡◌, ⊎_elim, eqb, not, List, [], ◌∷◌, Option, Some, is_some, refl, sym, ap, ◌∙◌, subst}
+use Rattle.std.specs.Prelude.{Ok}
 use Rattle.std.proofs.lemmas.Bool.{cases_Bool, and_parts}
-use Rattle.axp_base.specs.Cpus.{cpu_number, cpu_of}
+use Rattle.axp_base.specs.Cpus.{cpu_number}
 use Rattle.axp_base.specs.declared.lines.Bank.{Bank}
 use Rattle.axp_base.specs.declared.lines.Bank.TheVariants.{Even, Odd, Code}
 use Rattle.axp_base.specs.declared.lines.Line.{Line}
@@ -10,13 +10,9 @@ use Rattle.axp_base.specs.declared.processors.Cpu.{Cpu}
 use Rattle.axp_base.proofs.CpuLemmas.{cpu_of_number}
 use Rattle.axp_access.specs.declared.Act.{Act}
 use Rattle.axp_access.specs.declared.Act.TheVariants as act
-use Rattle.axp_access.specs.declared.Event.{Event}
 use Rattle.axp_access.specs.declared.Intent.{Intent}
-use Rattle.axp_access.specs.declared.Outcome.{Outcome}
 use Rattle.axp_access.specs.declared.Record.{Record}
-use Rattle.axp_cpu.specs.declared.refusals.Refusal.{Refusal}
-use Rattle.axp_cpu.specs.declared.refusals.Refusal.TheVariants.{NotLegal, NotBuilt}
-use Rattle.axp_cpu.specs.Actors.{Actor, about, advanced, asked_by, is_built, outcome_of, request_of}
+use Rattle.axp_cpu.specs.Actors.{Actor, about, advanced, is_built, outcome_of, request_of}
 use Rattle.axp_image.specs.Contents.{Contents, IsValid}
 use Rattle.axp_line.specs.declared.messages.Reply.{Reply}
 use Rattle.axp_line.specs.declared.messages.Reply.TheVariants as reply
@@ -29,17 +25,17 @@ use Rattle.axp_lsu.specs.Keeping.{Kept}
 use Rattle.axp_model.specs.BusCalls as calls
 use Rattle.axp_model.specs.BusCalls.{BusCall}
 use Rattle.axp_model.specs.BusReply.{first_late, reply_by}
-use Rattle.axp_model.specs.Legal.{is_empty, legal, may, may_act, may_now, since_step, is_fill}
+use Rattle.axp_model.specs.Legal.{is_empty, legal, may, may_now, since_step, is_fill}
 use Rattle.axp_model.specs.OrderLaws.{AreInLine, WantsInLine}
 use Rattle.axp_model.specs.Outcomes as model
 use Rattle.axp_model.specs.Outcomes.{IsRun}
 use Rattle.axp_model.proofs.Fits.{run_fits}
 use Rattle.axp_model.proofs.Kept.{Fitting}
-use Rattle.axp_world.specs.Worlds.{World, after_event, answer_of, cpu_or_first, image_bytes, intents, reply_at, world}
+use Rattle.axp_world.specs.Worlds.{World, answer_of, cpu_or_first, image_bytes, intents, reply_at, world}
 use Rattle.axp_world.proofs.Agreement.{BanksAgree, BufferAgrees, BusAgrees, SinceAgrees}
 use Rattle.axp_world.proofs.Called.{asked_act, asked_ok}
 use Rattle.axp_world.proofs.Legality.{has_late, legal_agrees}
-use Rattle.axp_world.proofs.Played.{Shown, actor_other, actor_own, shown}
+use Rattle.axp_world.proofs.Played.{actor_other, actor_own, shown}
 use Rattle.axp_world.proofs.Seated.{WantsTarget, answer, outcome_agrees}
 use Rattle.axp_world.proofs.Wanting.{intents_in_line, intents_name_targets}
 

@@ -1,11 +1,11 @@
 -- What a processor's act gives is what the memory model says of it.
-use Rattle.std.proofs.Common.{true, false, ℕ, ◌+◌, ◌*◌, ◌%◌, ◌^◌, ◌<◌, ◌≡◌, eqb, ltb, cond, max, Bool, not, ◌&&◌, List, [], ◌∷◌, slice_get, Option, Some, None, is_some, refl, sym, ap, ◌∙◌, subst}
-use Rattle.std.specs.Prelude.{Result, Ok, Err}
+use Rattle.std.proofs.Common.{true, false, ℕ, ◌+◌, ◌*◌, ◌^◌, ◌<◌, ◌≡◌, ltb, max, Bool, not, ◌&&◌, List, [], ◌∷◌, slice_get, Option, Some, None, is_some, refl, sym, ap, ◌∙◌, subst}
+use Rattle.std.specs.Prelude.{Ok}
 use mathlib.Core.Bool.{Bool-set}
 use Rattle.std.proofs.lemmas.Bool.{and_parts, not-true, lt-ltb, false≢true}
 use Rattle.axp_bank.specs.Copies.{get_of, has_older, is_older}
 use Rattle.axp_bank.proofs.GetLemmas.{held_get}
-use Rattle.axp_base.specs.Cpus.{cpu_by, cpu_number, cpu_of}
+use Rattle.axp_base.specs.Cpus.{cpu_by, cpu_number}
 use Rattle.axp_base.specs.Lines.{line_number}
 use Rattle.axp_base.specs.declared.lines.Bank.{Bank}
 use Rattle.axp_base.specs.declared.lines.Bank.TheVariants.{Even, Odd, Code}
@@ -15,15 +15,13 @@ use Rattle.axp_base.specs.declared.processors.Cpu.{Cpu}
 use Rattle.axp_base.specs.declared.processors.TheConstants.{MAX_CPUS}
 use Rattle.axp_access.specs.declared.Act.{Act}
 use Rattle.axp_access.specs.declared.Act.TheVariants as act
-use Rattle.axp_access.specs.declared.Event.{Event}
 use Rattle.axp_access.specs.declared.Intent.{Intent}
-use Rattle.axp_access.specs.declared.Outcome.{Outcome}
 use Rattle.axp_access.specs.declared.Outcome.TheVariants as outcome
 use Rattle.axp_access.specs.declared.Place.{Place}
-use Rattle.axp_access.specs.declared.Place.TheVariants.{At, Entry, Absent}
+use Rattle.axp_access.specs.declared.Place.TheVariants.{At, Entry}
 use Rattle.axp_access.specs.declared.Record.{Record}
 use Rattle.axp_access.specs.declared.Wanted.{Wanted}
-use Rattle.axp_line.specs.Lines.{bytes_of_line, data_of}
+use Rattle.axp_line.specs.Lines.{data_of}
 use Rattle.axp_line.specs.declared.contents.LineData.{LineData}
 use Rattle.axp_line.specs.declared.messages.Reply.{Reply}
 use Rattle.axp_line.specs.declared.messages.Reply.TheVariants as reply
@@ -38,16 +36,15 @@ use Rattle.axp_lsu.specs.Keeping.{Kept, data_copies}
 use Rattle.axp_model.specs.BusCalls as calls
 use Rattle.axp_model.specs.BusCalls.{BusCall, Written}
 use Rattle.axp_model.specs.BusReply.{Front, first_late, front, reply_by, tried}
-use Rattle.axp_model.specs.Entries.{Waiting, buffer, entry_for, has_closed, has_line, oldest}
+use Rattle.axp_model.specs.Entries.{Waiting, buffer, entry_for, has_line, oldest}
 use Rattle.axp_model.specs.Late.{held, late}
 use Rattle.axp_model.specs.Legal.{may, may_step, ready}
-use Rattle.axp_model.specs.Locks.{lock, signalled, undisturbed}
-use Rattle.axp_model.specs.Memory.{memory_byte}
+use Rattle.axp_model.specs.Locks.{signalled}
 use Rattle.axp_model.specs.OrderLaws.{IsInLine, WantsInLine}
 use Rattle.axp_model.specs.Outcomes as model
 use Rattle.axp_model.specs.Outcomes.{bank_for, outcome_by, step_by}
 use Rattle.axp_model.specs.Records.{line_at, line_by, line_numbered, line_of}
-use Rattle.axp_model.specs.Turns.{barrier, code_stamp, read_place, stamp, turns}
+use Rattle.axp_model.specs.Turns.{code_stamp, read_place, stamp, turns}
 use Rattle.axp_model.proofs.Kept.{Fitting}
 use Rattle.axp_regs.specs.declared.asks.Kind.{Kind}
 use Rattle.axp_regs.specs.declared.asks.Kind.TheVariants as kind

@@ -1,15 +1,11 @@
 -- What a processor did since its last Step is what the history shows of it.
-use Rattle.std.proofs.Common.{◌≡◌, ℕ, Bool, true, false, eqb, List, [], ◌∷◌, slice_get, Option, Some, None, refl, sym, ap, ◌∙◌, subst, ⊎_elim}
+use Rattle.std.proofs.Common.{◌≡◌, ℕ, Bool, true, false, List, [], ◌∷◌, slice_get, Option, Some, None, refl, sym, ap, ◌∙◌, ⊎_elim}
 use Rattle.std.proofs.lemmas.Bool.{cases_Bool}
 use Rattle.axp_access.specs.declared.Act.{Act}
 use Rattle.axp_access.specs.declared.Act.TheVariants as act
-use Rattle.axp_access.specs.declared.Event.{Event}
 use Rattle.axp_access.specs.declared.Intent.{Intent}
 use Rattle.axp_access.specs.declared.Record.{Record}
-use Rattle.axp_access.specs.declared.Wanted.{Wanted}
 use Rattle.axp_bank.specs.declared.copies.LineCopy.{LineCopy}
-use Rattle.axp_base.specs.Cpus.{cpu_number}
-use Rattle.axp_base.specs.Lines.{line_number}
 use Rattle.axp_base.specs.declared.lines.Bank.{Bank}
 use Rattle.axp_base.specs.declared.lines.Bank.TheVariants.{Even, Odd, Code}
 use Rattle.axp_base.specs.declared.lines.Line.{Line}
@@ -25,7 +21,7 @@ use Rattle.axp_wbuf.specs.Drains.{oldest_group}
 use Rattle.axp_wbuf.specs.Pending.{Pending}
 use Rattle.axp_model.specs.Legal.{is_drop_of, is_fill, is_poll_act, is_step, is_tick, since_step}
 use Rattle.axp_model.specs.Records.{by}
-use Rattle.axp_world.specs.Worlds.{World, after_event, reply_at, world}
+use Rattle.axp_world.specs.Worlds.{World, reply_at, world}
 use Rattle.axp_world.proofs.Agreement.{SinceAgrees}
 use Rattle.axp_world.proofs.Played.{actor_other, actor_own}
 

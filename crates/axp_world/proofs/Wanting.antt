@@ -1,5 +1,5 @@
 -- What processors want along a history lies in lines, and names processors.
-use Rattle.std.proofs.Common.{true, false, ℕ, ◌+◌, ◌%◌, ◌^◌, ◌<◌, ◌≤◌, ◌≡◌, ⊎_elim, eqb, cond, Bool, List, [], ◌∷◌, ◌++◌, Option, Some, None, refl, sym, ap, ◌∙◌, subst, arith}
+use Rattle.std.proofs.Common.{true, false, ℕ, ◌%◌, ◌≤◌, ◌≡◌, ⊎_elim, eqb, cond, Bool, List, [], ◌∷◌, ◌++◌, Option, Some, None, refl, sym, subst, arith}
 use Rattle.std.proofs.lemmas.Bool.{cases_Bool}
 use Rattle.axp_base.specs.Cpus.{cpu_number, cpu_of}
 use Rattle.axp_base.proofs.MaskLemmas.{ends_inside}
@@ -10,7 +10,7 @@ use Rattle.axp_access.specs.declared.Wanted.{Wanted}
 use Rattle.axp_cpu.specs.Actors.{Actor, about, advanced, moved_by, seat_after}
 use Rattle.axp_cpu.specs.Plans.{Plan, End, Want, Unbuilt, along}
 use Rattle.axp_cpu.specs.Rows.{group}
-use Rattle.axp_cpu.specs.Seats.{Seat, first_seat, first_table, is_finished, moved, plan_now, stepped, wanted, wanted_by}
+use Rattle.axp_cpu.specs.Seats.{Seat, first_seat, first_table, is_finished, moved, plan_now, wanted, wanted_by}
 use Rattle.axp_cpu.specs.Soundness.{IsSound, IsSoundAs}
 use Rattle.axp_cpu.proofs.PlanLemmas.{along_sound, group_sound}
 use Rattle.axp_cpu.proofs.SeatLemmas.{first_stands}
@@ -23,7 +23,7 @@ use Rattle.axp_model.specs.OrderLaws.{AreInLine, IsInLine, WantsInLine}
 use Rattle.axp_regs.specs.States.{pc_of}
 use Rattle.axp_regs.specs.declared.asks.Kind.{Kind}
 use Rattle.axp_regs.specs.declared.asks.Kind.TheVariants as kind
-use Rattle.axp_world.specs.Worlds.{World, cpu_or_first, image_bytes, intents, reply_at, world}
+use Rattle.axp_world.specs.Worlds.{World, cpu_or_first, intents, reply_at, world}
 use Rattle.axp_world.proofs.Played.{actor_other, actor_own}
 use Rattle.axp_world.proofs.Seated.{WantsTarget}
 

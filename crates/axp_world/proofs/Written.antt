@@ -1,6 +1,5 @@
 -- The bytes that a call writes are those of the writes that its record puts into memory.
-use Rattle.std.proofs.Common.{true, false, ℕ, zero, suc, ◌+◌, ◌-◌, ◌*◌, ◌/◌, ◌%◌, ◌^◌, ◌<◌, ◌≤◌, ◌≡◌, ⊎_elim, eqb, ltb, leb, cond, Bool, ◌&&◌, List, [], ◌∷◌, length, replicate, get_or, slice_get, slice_index, Option, Some, None, is_some, refl, sym, ap, ◌∙◌, subst, arith}
-use Rattle.std.specs.List.{find}
+use Rattle.std.proofs.Common.{true, false, ℕ, zero, suc, ◌+◌, ◌-◌, ◌*◌, ◌%◌, ◌^◌, ◌<◌, ◌≤◌, ◌≡◌, ⊎_elim, eqb, ltb, leb, cond, Bool, ◌&&◌, List, [], ◌∷◌, length, replicate, get_or, slice_get, slice_index, Option, Some, None, is_some, refl, sym, ap, ◌∙◌, subst, arith}
 use Rattle.std.specs.Option.{option_or}
 use Rattle.std.proofs.lemmas.Bool.{cases_Bool, and_parts, cases_lt, lt-ltb, le-ltb, le-leb, lt-leb, leb-true, ltb-true, eqb-true, eq-eqb, false≢true}
 use Rattle.std.proofs.lemmas.List.{length-replicate}
@@ -19,17 +18,17 @@ use Rattle.axp_access.specs.declared.Place.TheVariants.{At, Entry}
 use Rattle.axp_access.specs.declared.Record.{Record}
 use Rattle.axp_line.specs.Lines.{bytes_of_line, data_by, data_of}
 use Rattle.axp_model.specs.BusCalls.{Written, overwritten, stored_bytes}
-use Rattle.axp_model.specs.Entries.{Waiting, buffer, oldest}
+use Rattle.axp_model.specs.Entries.{Waiting, buffer}
 use Rattle.axp_model.specs.Memory.{memory_source, memory_byte}
 use Rattle.axp_model.specs.OrderLaws.{IsInLine}
-use Rattle.axp_model.specs.Places.{Item, accesses, next_item, times}
+use Rattle.axp_model.specs.Places.{Item, accesses, times}
 use Rattle.axp_model.specs.Records.{line_of, line_at, line_by, line_numbered, has_byte, is_memory_write}
 use Rattle.axp_model.specs.Sources.{byte_of_source}
-use Rattle.axp_model.specs.Turns.{turns, drained}
+use Rattle.axp_model.specs.Turns.{turns}
 use Rattle.axp_model.proofs.Closed.{byte_line, find_some}
-use Rattle.axp_model.proofs.Drains.{IsNamed, entry_write}
+use Rattle.axp_model.proofs.Drains.{entry_write}
 use Rattle.axp_model.proofs.Fits.{line_at-number}
-use Rattle.axp_model.proofs.Kept.{Fitting, Goes, KnownItem, Kept, Named, waits}
+use Rattle.axp_model.proofs.Kept.{Fitting, Goes, KnownItem, Kept, Named}
 use Rattle.axp_model.proofs.Settled.{named_line}
 use Rattle.axp_model.proofs.Steps.{kept}
 use Rattle.axp_wbuf.specs.Pending.{Pending}
