@@ -1,19 +1,18 @@
 -- A processor is its sequencer and what it keeps: both go on together.
-use Rattle.std.proofs.Common.{◌≡◌, ℕ, ◌+◌, ◌*◌, ◌/◌, ◌%◌, ◌^◌, ◌<◌, ◌≤◌, Bool, true, false, not, ◌&&◌, ◌||◌, cond, eqb, leb, List, [], ◌∷◌, ◌++◌, length, Option, Some, None, refl, sym, ap, ◌∙◌, subst, arith, rules, ⊎_elim}
+use Rattle.std.proofs.Common.{◌≡◌, ℕ, ◌+◌, ◌/◌, ◌<◌, ◌≤◌, Bool, true, false, cond, leb, List, [], ◌∷◌, ◌++◌, Option, Some, None, refl, sym, ap, ◌∙◌, subst, arith}
 use Rattle.std.proofs.lemmas.Bool.{cond_both, leb-false, or_parts}
-use Rattle.std.specs.Prelude.{slice_get, IfSome, Result, Ok, Err, is_some, nat_le}
-use Rattle.std.specs.List.{AllByRecursion}
+use Rattle.std.specs.Prelude.{slice_get, IfSome, Ok, is_some}
 use Rattle.axp_access.specs.declared.Act.{Act}
 use Rattle.axp_access.specs.declared.Act.TheVariants as act
 use Rattle.axp_access.specs.declared.Intent.{Intent}
 use Rattle.axp_base.specs.declared.processors.Cpu.{Cpu}
 use Rattle.axp_base.specs.declared.processors.TheConstants.{MAX_BUDGET}
 use Rattle.axp_base.specs.Cpus.{cpu_number}
-use Rattle.axp_image.specs.Contents.{Contents, IsValid}
+use Rattle.axp_image.specs.Contents.{Contents}
 use Rattle.axp_line.specs.declared.messages.Reply.{Reply}
 use Rattle.axp_line.specs.declared.messages.Reply.TheVariants as reply
 use Rattle.axp_lsu.specs.Asking.{ask_of}
-use Rattle.axp_lsu.specs.Fitting.{Fits2, IsWantedInSome, IsWithinSome}
+use Rattle.axp_lsu.specs.Fitting.{Fits2, IsWantedInSome}
 use Rattle.axp_lsu.specs.Going.{value_by, value_of}
 use Rattle.axp_lsu.specs.Going as going
 use Rattle.axp_lsu.specs.Keeping.{Kept, none_kept, with_copies}
@@ -26,11 +25,10 @@ use Rattle.axp_base.specs.declared.lines.Line.{Line}
 use Rattle.axp_base.specs.declared.lines.TheConstants.{LINE_BYTES}
 use Rattle.axp_bank.specs.declared.copies.LineCopy.{LineCopy}
 use Rattle.axp_wbuf.specs.Drains.{oldest_group}
-use Rattle.axp_cpu.specs.declared.refusals.Refusal.{Refusal}
 use Rattle.axp_cpu.specs.declared.sequencers.Sequencer.{Sequencer}
 use Rattle.axp_cpu.specs.declared.processors.Processor.{Processor}
 use Rattle.axp_cpu.specs.Actors.{Actor, about, advanced, asked_by, first_actor, is_built, moved_by, request_of, seat_after, step_built}
-use Rattle.axp_cpu.specs.ActorStands.{IsAnswered, IsAt, IsMovable, IsSeated, IsSeatedWith}
+use Rattle.axp_cpu.specs.ActorStands.{IsAnswered, IsAt, IsMovable, IsSeatedWith}
 use Rattle.axp_cpu.specs.Plans.{Plan, End, Want, Unbuilt, along}
 use Rattle.axp_cpu.specs.Rows.{group}
 use Rattle.axp_cpu.specs.Seats.{Seat, first_seat, intent_of, is_finished, leads, plan_now, stepped, wanted, moved}
@@ -176,8 +174,8 @@ moved_by_steps (Some w) r a is few =
     let going : is_finished a.seat ≡ false = unfinished a.seat w is in
     let parts = stepped_parts a.seat (value_of w a.kept r) in
     omega (arith, parts.2, steps_left a.seat going) where
-  steps_left : (s : Seat) → is_finished s ≡ false → s.steps < s.budget
-  steps_left s e = leb-false s.budget s.steps (or_parts (is_some s.start.halted) (leb s.budget s.steps) e).1
+      steps_left : (s : Seat) → is_finished s ≡ false → s.steps < s.budget
+      steps_left s e = leb-false s.budget s.steps (or_parts (is_some s.start.halted) (leb s.budget s.steps) e).1
 
 pub seat_steps : (e : Act) (r : Option Reply) (a : Actor) → a.seat.steps ≤ a.seat.budget → (seat_after e r a).steps ≤ (seat_after e r a).budget
 seat_steps e r a few = rw (seat_size e r a).1 (by_act e) where

@@ -34,7 +34,7 @@ use Rattle.axp_cpu.specs.declared.tables.Table.{Table}
 use Rattle.axp_cpu.specs.Addresses.{in_kseg, physical, reached, aligned, is_canonical, first_entry, looked_up}
 use Rattle.axp_cpu.specs.Plans.{Plan, End, Want, Unbuilt, given, along}
 use Rattle.axp_cpu.specs.Rows.{group, fetched, fenced, row, memory_row, branch_row, branch_goal, operate_row, misc_row, pal_row, ended, wrote, loaded, stored, as_read, as_longword, address_of, quadword_at, operand}
-use Rattle.axp_cpu.specs.Soundness.{IsSound, IsSoundAs, IsBare, IsFetched}
+use Rattle.axp_cpu.specs.Soundness.{IsSound, IsSoundAs}
 use Rattle.axp_cpu.specs.Tables.{counted, next_pc}
 
 -- the end of an aligned part of whole pages lies in them
@@ -224,10 +224,11 @@ looked_up_sound size table a pages =
       within = part_within 8 (first_entry table a) size (inr (inr (inr refl))) (entry_aligned (table * PAGE_BYTES + 8 * (a / 2 ^ 33 % 2 ^ 10)) (whole table (a / 2 ^ 33 % 2 ^ 10))) (ltb-true (first_entry table a) size (both-true (is_canonical a) (ltb (first_entry table a) size) passed)) pages;
     })
     (λ v. tt) where
-  whole : (m n : ℕ) → (m * PAGE_BYTES + 8 * n) % 8 ≡ 0
-  whole m n = omega arith
-  entry_aligned : (n : ℕ) → n % 8 ≡ 0 → n % 2 ^ 64 % 8 ≡ 0
-  entry_aligned n e = omega arith
+      whole : (m n : ℕ) → (m * PAGE_BYTES + 8 * n) % 8 ≡ 0
+      whole m n = omega arith
+
+      entry_aligned : (n : ℕ) → n % 8 ≡ 0 → n % 2 ^ 64 % 8 ≡ 0
+      entry_aligned n e = omega arith
 
 pub group_sound : (size : ℕ) (t : Table) → size % PAGE_BYTES ≡ 0 → IsAligned t → IsSound size (group size t)
 unfolding group

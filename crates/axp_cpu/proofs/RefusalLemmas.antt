@@ -121,6 +121,6 @@ pub group_built : (size : ℕ) (t : Table) → is_built (group size t) ≡ is_be
 unfolding group
 group_built size t =
     both (in_kseg (pc_of t.state)) _ _ _ _ (reached_built size Fetch (pc_of t.state) INSTRUCTION_BYTES 0 (fetched size t)) (looked_up_built size (ptbr_of t.state) (pc_of t.state)) where
-  both : (tested : Bool) (p q : Plan) (a b : Bool) → is_built p ≡ a → is_built q ≡ b → is_built (cond tested p q) ≡ cond tested a b
-  both true p q a b left right = left
-  both false p q a b left right = right
+      both : (tested : Bool) (p q : Plan) (a b : Bool) → is_built p ≡ a → is_built q ≡ b → is_built (cond tested p q) ≡ cond tested a b
+      both true p q a b left right = left
+      both false p q a b left right = right

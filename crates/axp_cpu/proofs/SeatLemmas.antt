@@ -1,5 +1,5 @@
 -- A processor stays at its seat, step by step.
-use Rattle.std.proofs.Common.{◌≡◌, ℕ, Bool, true, false, ◌+◌, ◌%◌, List, [], ◌∷◌, ◌++◌, Option, Some, None, rules, refl, sym, ap, ◌∙◌, subst}
+use Rattle.std.proofs.Common.{◌≡◌, ℕ, Bool, false, ◌+◌, ◌%◌, List, [], ◌∷◌, ◌++◌, Option, Some, None, rules, refl, sym, ap, ◌∙◌, subst}
 use Rattle.axp_access.specs.declared.Wanted.{Wanted}
 use Rattle.axp_image.specs.Contents.{Contents, IsValid}
 use Rattle.axp_cpu.specs.declared.phases.Phase.{Phase}

@@ -13,8 +13,8 @@ mod rows;
 mod sequencers;
 mod tables;
 
-pub use laws::what_is_not_built;
 pub use axp_lsu::Ask2;
+pub use laws::what_is_not_built;
 pub use processors::Processor;
 pub use refusals::Refusal;
 pub use sequencers::Sequencer;

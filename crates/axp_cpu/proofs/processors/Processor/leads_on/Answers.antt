@@ -1,4 +1,4 @@
-use Rattle.axp_cpu.proofs.ActorLemmas.{wanted_in_some, is_going, leads_is}
+use Rattle.axp_cpu.proofs.ActorLemmas.{wanted_in_some}
 use Rattle.axp_cpu.proofs.processors.Processor.leads_on.Goals as goal
 
 pub value-value-requires : goal.value-value-requires

@@ -1,4 +1,4 @@
-use Rattle.std.proofs.Common.{rules, refl}
+use Rattle.std.proofs.Common.{rules}
 use Rattle.axp_cpu.proofs.SeatLemmas.{intent_is}
 use Rattle.axp_cpu.proofs.sequencers.Sequencer.intent.Goals as goal
 
