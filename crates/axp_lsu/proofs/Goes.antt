@@ -1,12 +1,11 @@
 -- What is kept stays within memory by each act, and few entries are made.
-use Rattle.std.proofs.Common.{◌≡◌, ℕ, zero, suc, ◌+◌, ◌*◌, ◌/◌, ◌%◌, ◌^◌, ◌<◌, ◌≤◌, ◌==◌, ◌&&◌, Bool, true, false, not, cond, nat_lt, List, [], ◌∷◌, length, Some, None, refl, ap, arith, IfSome}
+use Rattle.std.proofs.Common.{◌≡◌, ℕ, zero, suc, ◌+◌, ◌/◌, ◌%◌, ◌^◌, ◌≤◌, ◌==◌, Bool, true, false, not, cond, nat_lt, List, [], ◌∷◌, length, Some, None, refl, ap, arith, IfSome}
 use Rattle.std.specs.Prelude.{Option, slice_get}
-use Rattle.std.specs.List.{AllByRecursion, list_any, remove}
+use Rattle.std.specs.List.{AllByRecursion, remove}
 use Rattle.axp_base.specs.Lines.{line_number, data_bank}
 use Rattle.axp_base.specs.declared.lines.Bank.{Bank}
 use Rattle.axp_base.specs.declared.lines.Bank.TheVariants.{Even, Odd, Code}
 use Rattle.axp_base.specs.declared.lines.Line.{Line}
-use Rattle.axp_base.specs.declared.lines.TheConstants.{LINE_BYTES}
 use Rattle.axp_bank.specs.Copies.{copy_of, dropped, has_older, inserted, invalidated, is_held, is_of, put, refreshed, spared}
 use Rattle.axp_bank.specs.Copies as bank
 use Rattle.axp_bank.specs.declared.copies.LineCopy.{LineCopy}
@@ -17,7 +16,7 @@ use Rattle.axp_line.specs.declared.messages.Reply.TheVariants as reply
 use Rattle.axp_regs.specs.declared.asks.Kind.{Kind}
 use Rattle.axp_regs.specs.declared.asks.Kind.TheVariants as kind
 use Rattle.axp_wbuf.specs.Drains.{oldest_group, without}
-use Rattle.axp_wbuf.specs.Pending.{Pending, Buffer, closed, is_at, made_by, merges, put_into, stored, with_store}
+use Rattle.axp_wbuf.specs.Pending.{Pending, Buffer, is_at, made_by, merges, put_into, stored, with_store}
 use Rattle.axp_access.specs.declared.Act.{Act}
 use Rattle.axp_access.specs.declared.Act.TheVariants as act
 use Rattle.axp_access.specs.declared.Intent.{Intent}

@@ -1,6 +1,6 @@
 -- Numbers that no processor has.
-use Rattle.std.proofs.Common.{◌≡◌, ℕ, ◌≤◌, Bool, true, false, nat_lt, None, refl, sym, ◌∙◌, arith}
-use Rattle.std.proofs.lemmas.Bool.{true≢false, ltb-true}
+use Rattle.std.proofs.Common.{◌≡◌, ℕ, ◌≤◌, Bool, true, false, nat_lt, None, refl, arith}
+use Rattle.std.proofs.lemmas.Bool.{ltb-true}
 use Rattle.axp_base.specs.Cpus.{cpu_of, cpu_by}
 use Rattle.axp_base.specs.declared.processors.TheConstants.{MAX_CPUS}
 

@@ -1,5 +1,5 @@
 -- What an act gives and leaves, with the bus's answer where it asked.
-use Rattle.std.specs.Prelude.{ℕ, ◌+◌, ◌/◌, ◌%◌, ◌^◌, ◌==◌, max, Bool, true, false, ◌&&◌, if◌then◌else◌, List, [], ◌∷◌, length, slice_get, Option, Some, None}
+use Rattle.std.specs.Prelude.{ℕ, ◌/◌, ◌%◌, ◌^◌, max, Bool, true, false, ◌&&◌, if◌then◌else◌, List, [], length, slice_get, Option, Some, None}
 use Rattle.axp_base.specs.Lines.{line_number, data_bank}
 use Rattle.axp_base.specs.Parts.{part}
 use Rattle.axp_base.specs.declared.lines.Bank.{Bank}
@@ -7,7 +7,6 @@ use Rattle.axp_base.specs.declared.lines.Line.{Line}
 use Rattle.axp_base.specs.declared.lines.TheConstants.{LINE_BYTES}
 use Rattle.axp_base.specs.declared.processors.Cpu.{Cpu}
 use Rattle.axp_bank.specs.Copies.{copy_of, get_of, stamp_of, has_older, put, refreshed, invalidated, dropped, spared}
-use Rattle.axp_bank.specs.declared.copies.LineCopy.{LineCopy}
 use Rattle.axp_line.specs.Lines.{bytes_of_line}
 use Rattle.axp_line.specs.declared.contents.LineData.{LineData}
 use Rattle.axp_line.specs.declared.messages.Reply.{Reply}
@@ -145,7 +144,6 @@ brought b line _ u = u
 abbrev pub rewritten : Line → Option Reply → Kept → Kept
 rewritten line (Some (reply.Stored turn bytes)) u = with_copies (data_bank (line_number line)) (refreshed (copy_of line turn bytes) (data_copies (line_number line) u)) u
 rewritten line _ u = u
-
 
 -- a barrier delivers all that was late: the bits are of bank d0's copies, and then of d1's
 abbrev pub fenced : Option Reply → Kept → Kept

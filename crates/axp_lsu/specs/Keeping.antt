@@ -1,5 +1,5 @@
 -- What a processor keeps of memory: its write buffer, its banks, and counts.
-use Rattle.std.specs.Prelude.{ℕ, ◌*◌, ◌%◌, Bool, true, false, if◌then◌else◌, List, [], ◌++◌, map}
+use Rattle.std.specs.Prelude.{ℕ, ◌*◌, Bool, true, false, List, [], ◌++◌, map}
 use Rattle.axp_base.specs.Lines.{data_bank, line_number}
 use Rattle.axp_base.specs.declared.lines.Bank.{Bank}
 use Rattle.axp_base.specs.declared.lines.Bank.TheVariants.{Even, Odd, Code}

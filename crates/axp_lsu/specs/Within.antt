@@ -1,6 +1,6 @@
 -- What lies in a memory of some bytes: addresses that are asked for, entries and copies. Turns are numbers
 -- of 32 bits.
-use Rattle.std.specs.Prelude.{◌≡◌, ◌⊎◌, ℕ, ◌*◌, ◌+◌, ◌%◌, ◌^◌, ◌<◌, ◌≤◌, List, Option, Some, None}
+use Rattle.std.specs.Prelude.{◌≡◌, ◌⊎◌, ℕ, ◌*◌, ◌+◌, ◌%◌, ◌^◌, ◌<◌, ◌≤◌, Option, Some, None}
 use Rattle.std.specs.List.{AllByRecursion}
 use Rattle.axp_base.specs.Lines.{line_number}
 use Rattle.axp_base.specs.Masks.{IsSize}

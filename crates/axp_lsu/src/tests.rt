@@ -19,8 +19,11 @@ const SIZE: u64 = 0x1_0000;
 
 /// Lines of bank d0, and the next ones, of bank d1.
 const EVEN: u64 = 0x1000;
+
 const NEXT_EVEN: u64 = 0x1080;
+
 const ODD: u64 = 0x1040;
+
 const NEXT_ODD: u64 = 0x10C0;
 
 /// A unit within that memory, and how many acts it made.
@@ -248,17 +251,35 @@ fn starting_with(value: u64) -> LineData {
 fn own_stores_are_read_over_the_copy(rt: HostRuntime) {
     let mut rig = Rig::empty();
     let store = wants(Kind::Write, EVEN + 4, 4, 0xAABB_CCDD);
-    assert_eq!(rt; rig.makes(&store, None), Some((0xAABB_CCDD, Place::Entry(1))));
+    assert_eq!(rt;
+        rig.makes(&store, None),
+        Some((0xAABB_CCDD, Place::Entry(1)))
+    );
     let read = wants(Kind::Read, EVEN, 8, 0);
     assert!(rt; !rig.may(Act::Step, &read));
     let filled = rig.fills(&read, 5, starting_with(0x1111_2222_3333_4444));
-    assert_eq!(rt; filled, Some(Outcome::Filled { bank: Bank::Even, line: Line::of(EVEN), turn: 5 }));
+    assert_eq!(rt;
+        filled,
+        Some(Outcome::Filled {
+            bank: Bank::Even,
+            line: Line::of(EVEN),
+            turn: 5
+        })
+    );
     // after a fill only the step is left
-    for act in [Act::Fill, Act::Drain(0), Act::Take(Bank::Even), Act::Drop(Bank::Even, Line::of(EVEN))] {
+    for act in [
+        Act::Fill,
+        Act::Drain(0),
+        Act::Take(Bank::Even),
+        Act::Drop(Bank::Even, Line::of(EVEN)),
+    ] {
         assert!(rt; !rig.may(act, &read), "{act:?}");
     }
     assert_eq!(rt; rig.value(&read), Some(0xAABB_CCDD_3333_4444));
-    assert_eq!(rt; rig.makes(&read, None), Some((0xAABB_CCDD_3333_4444, Place::At(5))));
+    assert_eq!(rt;
+        rig.makes(&read, None),
+        Some((0xAABB_CCDD_3333_4444, Place::At(5)))
+    );
     assert!(rt; rig.may(Act::Drain(0), &read));
     assert!(rt; rig.may(Act::Drop(Bank::Even, Line::of(EVEN)), &read));
 }
@@ -268,7 +289,10 @@ fn stores_merge_until_a_write_barrier(rt: HostRuntime) {
     let mut rig = Rig::empty();
     for (address, entry) in [(EVEN, 1), (EVEN + 8, 1), (ODD, 2)] {
         let store = wants(Kind::Write, address, 8, address);
-        assert_eq!(rt; rig.makes(&store, None), Some((address, Place::Entry(entry))));
+        assert_eq!(rt;
+            rig.makes(&store, None),
+            Some((address, Place::Entry(entry)))
+        );
     }
     let close = wants_barrier(Kind::WriteBarrier);
     assert_eq!(rt; rig.makes(&close, None), Some((0, Place::Absent)));
@@ -278,10 +302,19 @@ fn stores_merge_until_a_write_barrier(rt: HostRuntime) {
     let barrier = wants_barrier(Kind::Barrier);
     assert!(rt; !rig.may(Act::Step, &barrier));
     assert!(rt; !rig.may(Act::Drain(2), &barrier));
-    let reply = Some(Reply::Stored { turn: 3, bytes: LineData::zero() });
+    let reply = Some(Reply::Stored {
+        turn: 3,
+        bytes: LineData::zero(),
+    });
     for (k, entry, address) in [(1, 2, ODD), (0, 1, EVEN), (0, 3, EVEN)] {
-        assert_eq!(rt; rig.does(Act::Drain(k), &barrier, reply),
-            Some(Outcome::Drained { entry, line: Line::of(address), turn: 3 }));
+        assert_eq!(rt;
+            rig.does(Act::Drain(k), &barrier, reply),
+            Some(Outcome::Drained {
+                entry,
+                line: Line::of(address),
+                turn: 3
+            })
+        );
         assert!(rt; !rig.may(Act::Drain(1), &barrier));
     }
     assert!(rt; rig.may(Act::Step, &barrier));
@@ -291,11 +324,17 @@ fn stores_merge_until_a_write_barrier(rt: HostRuntime) {
 fn entry_is_asked_with_its_bytes(rt: HostRuntime) {
     let mut rig = Rig::empty();
     let store = wants(Kind::Write, EVEN + 8, 8, 0x0102_0304_0506_0708);
-    assert_eq!(rt; rig.makes(&store, None), Some((0x0102_0304_0506_0708, Place::Entry(1))));
+    assert_eq!(rt;
+        rig.makes(&store, None),
+        Some((0x0102_0304_0506_0708, Place::Entry(1)))
+    );
     match rig.asks(Act::Drain(0), &store) {
         Some(Ask2::Bus(Request::Drain { line, mask, bytes })) => {
             assert_eq!(rt; line, Line::of(EVEN));
-            assert_eq!(rt; (mask.has(7), mask.has(8), mask.has(15), mask.has(16)), (false, true, true, false));
+            assert_eq!(rt;
+                (mask.has(7), mask.has(8), mask.has(15), mask.has(16)),
+                (false, true, true, false)
+            );
             assert_eq!(rt; bytes.get(8, 8), 0x0102_0304_0506_0708);
         }
         _ => panic!(rt; "the entry may be drained"),
@@ -304,7 +343,14 @@ fn entry_is_asked_with_its_bytes(rt: HostRuntime) {
     let read = wants(Kind::Read, EVEN, 8, 0);
     rig.fills(&read, 1, starting_with(1));
     rig.makes(&read, None);
-    rig.does(Act::Drain(0), &read, Some(Reply::Stored { turn: 2, bytes: starting_with(9) }));
+    rig.does(
+        Act::Drain(0),
+        &read,
+        Some(Reply::Stored {
+            turn: 2,
+            bytes: starting_with(9),
+        }),
+    );
     assert_eq!(rt; rig.makes(&read, None), Some((9, Place::At(2))));
 }
 
@@ -330,9 +376,17 @@ fn barrier_drops_the_copies_of_its_bits(rt: HostRuntime) {
         _ => panic!(rt; "no entry is kept"),
     }
     // those of the second line of d0, and of the first of d1
-    let reply = Some(Reply::Barrier { turn: 20, gone: 0b0110 });
+    let reply = Some(Reply::Barrier {
+        turn: 20,
+        gone: 0b0110,
+    });
     assert_eq!(rt; rig.makes(&barrier, reply), Some((0, Place::At(20))));
-    for (address, held) in [(EVEN, true), (NEXT_EVEN, false), (ODD, false), (NEXT_ODD, true)] {
+    for (address, held) in [
+        (EVEN, true),
+        (NEXT_EVEN, false),
+        (ODD, false),
+        (NEXT_ODD, true),
+    ] {
         let read = wants(Kind::Read, address, 8, 0);
         assert_eq!(rt; rig.may(Act::Step, &read), held, "{address}");
         if held {
@@ -350,7 +404,10 @@ fn take_removes_an_older_copy(rt: HostRuntime) {
     rig.makes(&read, None);
     for (turn, gone) in [(5, false), (6, true), (7, false)] {
         let reply = Some(Reply::Late { line, turn });
-        assert_eq!(rt; rig.does(Act::Take(Bank::Even), &read, reply), Some(Outcome::Taken { line, turn, gone }));
+        assert_eq!(rt;
+            rig.does(Act::Take(Bank::Even), &read, reply),
+            Some(Outcome::Taken { line, turn, gone })
+        );
         assert_eq!(rt; rig.may(Act::Step, &read), turn < 6);
     }
 }
@@ -381,7 +438,14 @@ fn code_is_fetched_until_an_imb(rt: HostRuntime) {
     let mut rig = Rig::empty();
     let fetch = wants(Kind::Fetch, EVEN + 4, 4, 0);
     let filled = rig.fills(&fetch, 9, starting_with(0x1111_2222_3333_4444));
-    assert_eq!(rt; filled, Some(Outcome::Filled { bank: Bank::Code, line: Line::of(EVEN), turn: 9 }));
+    assert_eq!(rt;
+        filled,
+        Some(Outcome::Filled {
+            bank: Bank::Code,
+            line: Line::of(EVEN),
+            turn: 9
+        })
+    );
     let found = Some((0x1111_2222, Place::At(9)));
     assert_eq!(rt; rig.makes(&fetch, None), found);
     let reply = Some(Reply::Barrier { turn: 12, gone: 0 });

@@ -8,8 +8,8 @@ ghost use Rattle.axp_wbuf.specs.Drains.{oldest_group, told, without};
 ghost use Rattle.axp_wbuf.specs.Pending.{IsTidy, closed, is_before, is_of_line, no_entries, overlaid, store_number, stored, takes};
 
 use crate::lists::{
-    Entries, any_before, any_of_line, append, has_place, has_room, merge_into, newest_after, oldest_count,
-    overlay_each, remove_at,
+    Entries, any_before, any_of_line, append, has_place, has_room, merge_into, newest_after,
+    oldest_count, overlay_each, remove_at,
 };
 use arrayvec::ArrayVec;
 use axp_base::{Line, Mask};

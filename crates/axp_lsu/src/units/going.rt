@@ -25,13 +25,7 @@ use axp_wbuf::Full;
 
 impl Lsu {
     /// Does an act that is legal, with the bus's answer where it asked, and tells its outcome.
-    pub fn advance(
-        &mut self,
-        act: Act,
-        cpu: Cpu,
-        intent: &Intent,
-        reply: Option<Reply>,
-    ) -> Outcome
+    pub fn advance(&mut self, act: Act, cpu: Cpu, intent: &Intent, reply: Option<Reply>) -> Outcome
         requires fits { Fits2 (ask_of act intent.now self.old) reply }
         requires wanted { IsWantedInSome intent.now.wanted }
         requires few_made { self.old.buffer.made + 1 < 2 ^ 32 }
@@ -167,10 +161,7 @@ impl Lsu {
         ensures place { result ≡ Entry (store_number (line_of wanted.now.address) self.old.buffer) }
         ensures kept { self.new ≡ record self.old { buffer = stored wanted.now.address wanted.now.size wanted.now.value self.old.buffer } }
     {
-        match self
-            .buffer
-            .store(wanted.address, wanted.size, wanted.value)
-        {
+        match self.buffer.store(wanted.address, wanted.size, wanted.value) {
             Ok(number) => Place::Entry(number),
             // not so: the buffer takes a store to the line
             Err(Full) => Place::Absent,

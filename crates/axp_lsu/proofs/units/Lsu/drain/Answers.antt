@@ -1,8 +1,8 @@
-use Rattle.std.proofs.Common.{◌≡◌, ap, ◌∙◌}
+use Rattle.std.proofs.Common.{ap, ◌∙◌}
 use Rattle.std.specs.Prelude.{slice_get}
 use Rattle.axp_access.specs.declared.Outcome.TheVariants as outcome
 use Rattle.axp_wbuf.specs.Drains.{oldest_group}
-use Rattle.axp_lsu.specs.Going.{drain_outcome, drained, turn_in}
+use Rattle.axp_lsu.specs.Going.{drain_outcome, drained}
 use Rattle.axp_lsu.specs.Keeping.{Kept}
 use Rattle.axp_lsu.specs.Views.{kept_of}
 use Rattle.axp_lsu.proofs.Entries.{drained_is, outcome_told}
