@@ -15,9 +15,8 @@ use Rattle.axp_access.specs.Spelling.{IsMoved, IsNamed, IsOutcomeOf, IsSpelled, 
 use Rattle.axp_base.specs.declared.processors.Cpu.{Cpu}
 use Rattle.axp_base.specs.declared.processors.TheConstants.{MAX_CPUS, MAX_BUDGET}
 use Rattle.axp_base.specs.Cpus.{cpu_number}
-use Rattle.axp_cpu.specs.declared.processors.Processor.{Processor}
-use Rattle.axp_cpu.specs.Seats.{Seat, leads, wanted}
-use Rattle.axp_cpu.specs.Soundness.{IsInside}
+use Rattle.axp_cpu.specs.declared.sequencers.Sequencer.{Sequencer}
+use Rattle.axp_cpu.specs.Seats.{Seat, wanted}
 use Rattle.axp_model.specs.PlainTurns.{turns, turns_of_kind}
 use Rattle.axp_model.specs.PlainPlaces.{place_at}
 use Rattle.axp_model.proofs.PlainTurns.{turns-le}
@@ -25,22 +24,23 @@ use Rattle.axp_regs.specs.declared.asks.Kind.{Kind}
 use Rattle.axp_regs.specs.declared.asks.Kind.TheVariants as kind
 use Rattle.axp_machine.specs.declared.machine.Machine.TheInside.{Inside}
 use Rattle.axp_machine.specs.declared.steps.Step.{Step}
-use Rattle.axp_machine.specs.Plains.{after_access}
-use Rattle.axp_machine.specs.Runs.{Seen, IsRunOf, seat_of, step_by, there_after, access_of, value_given, made_access, is_step, outcome_of, with_record}
+use Rattle.axp_machine.specs.Plains.{IsInside, after_access}
+use Rattle.axp_machine.specs.Runs.{Seen, IsRunOf, seat_of, step_by, there_after, access_of, leads_on, value_given, made_access, is_step, outcome_of, with_record}
 use Rattle.axp_machine.specs.Steps.{AreMade, Chooses, IsChosen, IsMade, IsStepOf, Sits, record_of}
 use Rattle.axp_machine.specs.Ties.{Ties, seen, history}
 use Rattle.axp_machine.proofs.MemoryLemmas.{memory_step}
+use Rattle.axp_machine.proofs.RefusalLemmas.{seat_plain}
 use Rattle.axp_machine.proofs.RoomLemmas.{outcome_if, run_fits}
 use Rattle.axp_machine.proofs.SeatLemmas.{Comes, all_sit, comes, seats_step}
 
 -- the processors are at seats, as `next_step` asks
-all_from_each : (P : Processor → Type 0) (ps : List Processor) → ((p : ℕ) (x : Processor) → slice_get ps p ≡ Some x → P x) → All P ps
+all_from_each : (P : Sequencer → Type 0) (ps : List Sequencer) → ((p : ℕ) (x : Sequencer) → slice_get ps p ≡ Some x → P x) → All P ps
 all_from_each P ps each = λ k d below. each k (get_or ps k d) (slice_get-get_or ps k d below)
 
-pub seated : (a : Inside) (ps : List Processor) → Ties a → ps ≡ a.processors.items → All (Sits (length a.memory.bytes)) ps
+pub seated : (a : Inside) (ps : List Sequencer) → Ties a → ps ≡ a.processors.items → All (Sits (length a.memory.bytes)) ps
 seated a ps ties is =
-    subst (λ (qs : List Processor). All (Sits (length a.memory.bytes)) qs) (sym is)
-    (all_from_each (Sits (length a.memory.bytes)) a.processors.items (all_sit a.image a.budget a.processors.items (history a) (length a.memory.bytes) ties.memory.size ties.seats))
+    subst (λ (qs : List Sequencer). All (Sits (length a.memory.bytes)) qs) (sym is)
+    (all_from_each (Sits (length a.memory.bytes)) a.processors.items (all_sit a.image a.budget a.processors.items (history a) (length a.memory.bytes) ties.memory.size ties.seats (seat_plain a.image (length a.processors.items) a.budget (history a) ties.run)))
 
 most_records : (cpus budget : ℕ) → cpus ≤ MAX_CPUS → budget ≤ MAX_BUDGET → cpus * budget ≤ MAX_CPUS * MAX_BUDGET
 most_records cpus budget few least = omega (arith, mul-le-mul_left cpus least)
@@ -49,10 +49,10 @@ pub few_turns : (a : Inside) → Ties a → a.turns < 2 ^ 31
 few_turns a ties = omega (arith, turns-le (history a), run_fits a.image (length a.processors.items) a.budget (history a) ties.run, most_records (length a.processors.items) a.budget ties.cpus ties.budget, ties.turns)
 
 -- what the step that the code chose says of the event
-pub chosen : (a : Inside) (ps : List Processor) (e : Event) (o : Option Step) → is_step e.act ≡ true → Ties a → ps ≡ a.processors.items → Chooses a.memory.bytes a.turns e.cpu (slice_get ps (cpu_number e.cpu)) o
+pub chosen : (a : Inside) (ps : List Sequencer) (e : Event) (o : Option Step) → is_step e.act ≡ true → Ties a → ps ≡ a.processors.items → Chooses a.memory.bytes a.turns e.cpu (slice_get ps (cpu_number e.cpu)) o
     → Comes a.image (length a.processors.items) a.budget (history a) e o
 chosen a ps e o step ties is chooses =
-    let here = subst (λ (qs : List Processor). Chooses a.memory.bytes a.turns e.cpu (slice_get qs (cpu_number e.cpu)) o) is chooses in
+    let here = subst (λ (qs : List Sequencer). Chooses a.memory.bytes a.turns e.cpu (slice_get qs (cpu_number e.cpu)) o) is chooses in
     let now = subst (λ t. Chooses a.memory.bytes t e.cpu (slice_get a.processors.items (cpu_number e.cpu)) o) ties.turns here in
     comes a.image a.memory a.processors.items a.budget (history a) e o step ties.memory ties.seats now
 
@@ -61,7 +61,7 @@ chosen_by a e None size come made = come
 chosen_by a e (Some s) size come made = record { gave = come.0; stands = come.1; below = come.2; made = subst (λ n. IsMade n s.access) size made }
 
 -- the step that the code chose is the event's
-pub is_chosen : (a : Inside) (m : Seen) (ps : List Processor) (e : Event) (o : Option Step) → is_step e.act ≡ true → Ties a → seen a ≡ m → ps ≡ a.processors.items → Chooses a.memory.bytes a.turns e.cpu (slice_get ps (cpu_number e.cpu)) o → AreMade (length a.memory.bytes) o
+pub is_chosen : (a : Inside) (m : Seen) (ps : List Sequencer) (e : Event) (o : Option Step) → is_step e.act ≡ true → Ties a → seen a ≡ m → ps ≡ a.processors.items → Chooses a.memory.bytes a.turns e.cpu (slice_get ps (cpu_number e.cpu)) o → AreMade (length a.memory.bytes) o
     → IsChosen m e o
 is_chosen a m ps e o step ties shown is chooses made = subst (λ (x : Seen). IsChosen x e o) shown (chosen_by a e o ties.memory.size (chosen a ps e o step ties is chooses) made)
 
@@ -119,7 +119,7 @@ step_is_by false cpu t w n a is = cc
 
 step_is : (cpu : Cpu) (t : ℕ) (there : Wanted → ℕ) (s : Seat) (q : Option Wanted) (a : Access) → step_by cpu t there s q ≡ Some a → IsOf cpu t a
 step_is cpu t there s None a is = cc
-step_is cpu t there s (Some w) a is = step_is_by (leads s (value_given w (there w))) cpu t w (there w) a is
+step_is cpu t there s (Some w) a is = step_is_by (leads_on s w (value_given w (there w))) cpu t w (there w) a is
 
 made_is : (o : Option Access) (a : Access) → made_access o ≡ Some (outcome.Access a) → o ≡ Some a
 made_is None a is = cc

@@ -17,8 +17,7 @@ use Rattle.axp_image.specs.Contents.{Contents, Segment}
 use Rattle.axp_model.specs.PlainSources.{memory_byte, writes_byte, has_byte, is_touched, writes_quadword}
 use Rattle.axp_image.specs.declared.limits.TheConstants.{PAGE_BYTES}
 use Rattle.axp_cpu.proofs.PlanLemmas.{size_some}
-use Rattle.axp_machine.specs.Plains.{Plain, after_kind, after_access}
-use Rattle.axp_cpu.specs.Soundness.{IsInside}
+use Rattle.axp_machine.specs.Plains.{IsInside, Plain, after_kind, after_access}
 use Rattle.axp_machine.specs.Ties.{MemoryIs}
 
 -- a record of no write leaves each byte

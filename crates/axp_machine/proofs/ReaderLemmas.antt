@@ -8,7 +8,7 @@ use Rattle.axp_base.specs.Parts.{part}
 use Rattle.axp_base.specs.declared.parts.TheConstants.{QUADWORD_BYTES}
 use Rattle.axp_image.specs.Contents.{Contents, IsValid}
 use Rattle.axp_machine.specs.declared.machine.Machine.TheInside.{Inside}
-use Rattle.axp_cpu.specs.declared.processors.Processor.{Processor}
+use Rattle.axp_cpu.specs.declared.sequencers.Sequencer.{Sequencer}
 use Rattle.axp_cpu.specs.Seats.{first_seat, is_finished}
 use Rattle.axp_cpu.specs.Stands.{Stands}
 use Rattle.axp_machine.specs.Runs.{Seen, started, seat, are_finished, quadword_of}
@@ -19,7 +19,7 @@ use Rattle.axp_model.specs.PlainSources.{memory_byte}
 use Rattle.axp_machine.proofs.MemoryLemmas.{number_there-after}
 
 -- the processor at a place of the list is at its seat
-pub seated_at : (a : Inside) (c i : ℕ) (x : Processor) → Ties a → i ≡ c → c < length a.processors.items → x ≡ get_or a.processors.items i x → Stands x (seat a.image a.budget c (history a))
+pub seated_at : (a : Inside) (c i : ℕ) (x : Sequencer) → Ties a → i ≡ c → c < length a.processors.items → x ≡ get_or a.processors.items i x → Stands x (seat a.image a.budget c (history a))
 seated_at a c i x ties is below at =
     ties.seats c x (slice_get-get_or a.processors.items c x below ∙ ap Some (sym (at ∙ ap (λ j. get_or a.processors.items j x) is)))
 
@@ -27,11 +27,11 @@ pub below_seen : (a : Inside) (m : Seen) (c : ℕ) → seen a ≡ m → c < m.cp
 below_seen a m c shown below = subst (λ (s : Seen). c < s.cpus) (sym shown) below
 
 -- one more processor looked at
-pub finished_more : (a : Inside) (m : Seen) (ps : List Processor) (n : ℕ) (d : Processor) (so_far tested : Bool) → Ties a → seen a ≡ m → ps ≡ a.processors.items → n < length ps
+pub finished_more : (a : Inside) (m : Seen) (ps : List Sequencer) (n : ℕ) (d : Sequencer) (so_far tested : Bool) → Ties a → seen a ≡ m → ps ≡ a.processors.items → n < length ps
     → (Stands (get_or ps n d) (seat a.image a.budget n (history a)) → tested ≡ is_finished (seat a.image a.budget n (history a))) → so_far ≡ are_finished n m
     → so_far && tested ≡ are_finished (n + 1) m
 finished_more a m ps n d so_far tested ties shown is below tests so_far_is =
-    let at : slice_get a.processors.items n ≡ Some (get_or ps n d) = subst (λ (qs : List Processor). slice_get qs n ≡ Some (get_or ps n d)) is (slice_get-get_or ps n d below) in
+    let at : slice_get a.processors.items n ≡ Some (get_or ps n d) = subst (λ (qs : List Sequencer). slice_get qs n ≡ Some (get_or ps n d)) is (slice_get-get_or ps n d below) in
     let done = tests (ties.seats n (get_or ps n d) at) in
     rw (add-one, so_far_is, done, ← shown) refl
 
@@ -42,15 +42,15 @@ reads_quadword a m q ties shown below =
     number_there-after a.image a.memory (history a) (q * QUADWORD_BYTES) QUADWORD_BYTES (omega arith) ties.memory ∙ ap (λ (s : Seen). quadword_of s q) shown
 
 -- what holds of each element of a list holds still where it holds of one more
-pushed : (P : ℕ → Processor → Type 0) (ps : List Processor) (new : Processor) → P (length ps) new → ((p : ℕ) (x : Processor) → slice_get ps p ≡ Some x → P p x)
-    → (p : ℕ) (x : Processor) → slice_get (ps ++ new ∷ []) p ≡ Some x → P p x
+pushed : (P : ℕ → Sequencer → Type 0) (ps : List Sequencer) (new : Sequencer) → P (length ps) new → ((p : ℕ) (x : Sequencer) → slice_get ps p ≡ Some x → P p x)
+    → (p : ℕ) (x : Sequencer) → slice_get (ps ++ new ∷ []) p ≡ Some x → P p x
 pushed P [] new here first zero x at = let same : new ≡ x = cc in subst (P 0) same here
 pushed P [] new here first (suc p) x at = cc
 pushed P (y ∷ ps) new here first zero x at = first 0 x at
 pushed P (y ∷ ps) new here first (suc p) x at = pushed (λ q z. P (suc q) z) ps new here (λ q z e. first (suc q) z e) p x at
 
 -- one more processor started
-pub started_more : (image : Contents) (budget : ℕ) (ps qs : List Processor) (new : Processor) (n : ℕ) → StartsAll image budget n ps → Stands new (first_seat image budget n) → qs ≡ ps ++ new ∷ [] → StartsAll image budget (n + 1) qs
+pub started_more : (image : Contents) (budget : ℕ) (ps qs : List Sequencer) (new : Sequencer) (n : ℕ) → StartsAll image budget n ps → Stands new (first_seat image budget n) → qs ≡ ps ++ new ∷ [] → StartsAll image budget (n + 1) qs
 started_more image budget ps qs new n starts stands pushes = rw pushes (record {
   count = length-append ps (new ∷ []) ∙ omega (arith, starts.count);
   first = pushed (λ p x. Stands x (first_seat image budget p)) ps new (rw starts.count stands) starts.first;

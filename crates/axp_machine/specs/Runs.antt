@@ -1,5 +1,5 @@
 -- What an event gives after any records, and the run of a list of events.
-use Rattle.std.specs.Prelude.{◌≡◌, ℕ, ◌*◌, zero, suc, Bool, true, false, ◌&&◌, nat_lt, ◌==◌, List, [], ◌∷◌, map, Option, Some, None, Result, ok_or, if◌then◌else◌}
+use Rattle.std.specs.Prelude.{◌≡◌, ℕ, ◌*◌, zero, suc, Bool, true, false, not, ◌&&◌, nat_lt, ◌==◌, List, [], ◌∷◌, map, Option, Some, None, Result, ok_or, if◌then◌else◌}
 use Rattle.axp_access.specs.declared.Access.{Access}
 use Rattle.axp_access.specs.declared.Act.{Act}
 use Rattle.axp_access.specs.declared.Act.TheVariants.{Step}
@@ -20,6 +20,7 @@ use Rattle.axp_machine.specs.declared.machine.NotBuilt.{NotBuilt}
 use Rattle.axp_base.specs.declared.parts.TheConstants.{QUADWORD_BYTES}
 use Rattle.axp_cpu.specs.declared.tables.Table.{Table}
 use Rattle.axp_cpu.specs.Seats.{Seat, first_seat, is_finished, leads, stepped, wanted}
+use Rattle.axp_machine.specs.Barriers.{fetches_barrier}
 
 -- A machine as its callers see it; the records are the history, the newest first.
 pub record Seen : Type 0 where
@@ -66,10 +67,14 @@ access_of cpu count w there = record { cpu = cpu; kind = w.kind; address = w.add
 abbrev pub value_given : Wanted → ℕ → ℕ
 value_given w there = given_by w.kind (value_of w.kind w.value there)
 
+-- all is built that the wanted access leads to, if this is its value; a barrier is not
+abbrev pub leads_on : Seat → Wanted → ℕ → Bool
+leads_on s w v = leads s v && not (fetches_barrier w.kind v)
+
 -- the access that a processor at a seat makes: the one that it wants, if all is built that its value leads to
 abbrev pub step_by : Cpu → ℕ → (Wanted → ℕ) → Seat → Option Wanted → Option Access
 step_by cpu count there s None = None
-step_by cpu count there s (Some w) = if leads s (value_given w (there w)) then Some (access_of cpu count w (there w)) else None
+step_by cpu count there s (Some w) = if leads_on s w (value_given w (there w)) then Some (access_of cpu count w (there w)) else None
 
 abbrev pub step_of : Cpu → ℕ → (Wanted → ℕ) → Seat → Option Access
 step_of cpu count there s = step_by cpu count there s (wanted s)

@@ -8,23 +8,24 @@ use Rattle.axp_access.specs.declared.Wanted.{Wanted}
 use Rattle.axp_base.specs.Cpus.{cpu_number}
 use Rattle.axp_base.specs.Parts.{part}
 use Rattle.axp_base.specs.declared.processors.Cpu.{Cpu}
-use Rattle.axp_cpu.specs.declared.processors.Processor.{Processor}
-use Rattle.axp_cpu.specs.Seats.{Seat, first_seat, stepped}
-use Rattle.axp_cpu.specs.Soundness.{IsInside}
+use Rattle.axp_cpu.specs.declared.sequencers.Sequencer.{Sequencer}
+use Rattle.axp_cpu.specs.Seats.{Seat, first_seat, stepped, wanted}
 use Rattle.axp_cpu.specs.Stands.{Stands}
 use Rattle.axp_image.specs.Contents.{Contents}
 use Rattle.axp_machine.specs.declared.steps.Step.{Step}
+use Rattle.axp_machine.specs.Plains.{IsInside, WantsPlain}
 use Rattle.axp_machine.specs.Runs.{Seen, given_by, outcome_of, seat_of, step_of}
 
 -- the number that a memory has where an access is wanted
 abbrev pub number_there : List ℕ → Wanted → ℕ
 number_there bytes w = part bytes w.address w.size
 
--- a processor is at some seat, over a memory of this size
-pub record Sits (size : ℕ) (p : Processor) : Type 0 where
+-- a processor is at some seat, over a memory of this size, and wants no access that it does not serve
+pub record Sits (size : ℕ) (p : Sequencer) : Type 0 where
   pub seat : Seat
   pub stands : Stands p seat
   pub over : seat.size ≡ size
+  pub plain : WantsPlain (wanted seat)
 
 -- an access lies in memory, and its value has its size
 pub record IsMade (size : ℕ) (a : Access) : Type 0 where
@@ -42,7 +43,7 @@ Does cpu count there seat (Some s) =
     (step_of cpu count there seat ≡ Some s.access) × Stands s.processor (stepped seat (given_by s.access.kind s.access.value))
 
 -- the step is that of the processor at a place of the list, if there is one
-abbrev pub Chooses : List ℕ → ℕ → Cpu → Option Processor → Option Step → Type 0
+abbrev pub Chooses : List ℕ → ℕ → Cpu → Option Sequencer → Option Step → Type 0
 Chooses bytes count cpu None None = Unit {0}
 Chooses bytes count cpu None (Some s) = ⊥
 Chooses bytes count cpu (Some p) o = (seat : Seat) → Stands p seat → Does cpu count (number_there bytes) seat o
@@ -65,6 +66,6 @@ abbrev pub record_of : Event → Step → Record
 record_of e s = record { event = e; outcome = outcome.Access s.access }
 
 -- the processors are at their first seats
-pub record StartsAll (image : Contents) (budget cpus : ℕ) (ps : List Processor) : Type 0 where
+pub record StartsAll (image : Contents) (budget cpus : ℕ) (ps : List Sequencer) : Type 0 where
   pub count : length ps ≡ cpus
-  pub first : (p : ℕ) (x : Processor) → slice_get ps p ≡ Some x → Stands x (first_seat image budget p)
+  pub first : (p : ℕ) (x : Sequencer) → slice_get ps p ≡ Some x → Stands x (first_seat image budget p)

@@ -8,7 +8,7 @@ use Rattle.axp_image.specs.Contents.{Contents, IsValid}
 use Rattle.axp_model.specs.PlainTurns.{turns}
 use Rattle.axp_model.specs.PlainSources.{memory_byte, is_touched}
 use Rattle.axp_machine.specs.declared.machine.Machine.TheInside.{Inside}
-use Rattle.axp_cpu.specs.declared.processors.Processor.{Processor}
+use Rattle.axp_cpu.specs.declared.sequencers.Sequencer.{Sequencer}
 use Rattle.axp_cpu.specs.Stands.{Stands}
 use Rattle.axp_machine.specs.Plains.{Plain}
 use Rattle.axp_machine.specs.Runs.{Seen, IsRunOf, seat}
@@ -28,8 +28,8 @@ pub record MemoryIs (image : Contents) (m : Plain) (h : List Record) : Type 0 wh
   pub touched : (q : ℕ) → q < image.size / QUADWORD_BYTES → slice_get m.touched q ≡ Some (is_touched h q)
 
 -- each processor is at its seat
-abbrev pub AreSeated : Contents → ℕ → List Processor → List Record → Type 0
-AreSeated image budget ps h = (p : ℕ) (x : Processor) → slice_get ps p ≡ Some x → Stands x (seat image budget p h)
+abbrev pub AreSeated : Contents → ℕ → List Sequencer → List Record → Type 0
+AreSeated image budget ps h = (p : ℕ) (x : Sequencer) → slice_get ps p ≡ Some x → Stands x (seat image budget p h)
 
 pub record Ties (a : Inside) : Type 0 where
   pub valid : IsValid a.image

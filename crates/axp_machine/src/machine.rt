@@ -1,7 +1,6 @@
 ghost use Rattle.std.specs.Prelude.{◌≡◌, ◌+◌, ◌≤◌, ◌<◌, ◌^◌, length, IfOk};
 ghost use Rattle.axp_base.specs.declared.processors.TheConstants.{MAX_CPUS};
-ghost use Rattle.axp_cpu.specs.Soundness.{IsInside};
-ghost use Rattle.axp_machine.specs.Plains.{after_access};
+ghost use Rattle.axp_machine.specs.Plains.{IsInside, after_access};
 ghost use Rattle.axp_machine.specs.Runs.{is_step};
 ghost use Rattle.axp_machine.specs.Steps.{StartsAll};
 ghost use Rattle.axp_model.specs.PlainTurns.{turns_of_kind};
@@ -10,7 +9,7 @@ use crate::plain_memory::PlainMemory;
 use crate::steps::{Step, next_step};
 use axp_access::{Access, Act, Event, Kind, Outcome, Record};
 use axp_base::{Cpu, MAX_BUDGET, MAX_CPUS, MIN_CPUS, NoMemory, QUADWORD_BYTES};
-use axp_cpu::Processor;
+use axp_cpu::Sequencer;
 use axp_image::Image;
 use axp_regs::REGISTERS;
 use std::alloc::Global;
@@ -25,7 +24,7 @@ pub struct NotBuilt;
 pub struct Machine {
     image: Image,
     memory: PlainMemory,
-    processors: Vec<Processor>,
+    processors: Vec<Sequencer>,
     budget: u32,
     turns: u64,
     records: Vec<Record>,
@@ -120,7 +119,7 @@ impl Machine {
     }
 
     /// The processor of this number.
-    fn processor(&self, cpu: Cpu) -> &Processor
+    fn processor(&self, cpu: Cpu) -> &Sequencer
         requires { cpu_number cpu < self.now.cpus }
         ensures { Stands result.now (seat_of self.now (cpu_number cpu)) }
     {
@@ -178,8 +177,8 @@ impl Machine {
     }
 
     /// Does an event. It is accepted exactly where it is a step, its processor is one of the machine's
-    /// and not finished, and all that the step leads to is built; a refused event leaves the machine
-    /// as it was.
+    /// and not finished, and all that the step leads to is built; a barrier is not. A refused event
+    /// leaves the machine as it was.
     #[tactic(auto, unfolding(crate::specs::Runs::after_event))]
     pub fn event(&mut self, event: Event) -> Result<Outcome, NotBuilt>
         ensures answer { result ≡ answer_of (outcome_of self.old event) }
@@ -235,7 +234,7 @@ fn start_all(
     image: &Image,
     budget: u32,
     cpus: u8,
-) -> Result<Vec<Processor>, NoMemory>
+) -> Result<Vec<Sequencer>, NoMemory>
     requires { cpus ≤ MAX_CPUS }
     ensures { IfOk result (λ ps. StartsAll image.now budget cpus ps.items) }
 {
@@ -244,7 +243,7 @@ fn start_all(
         let Some(cpu) = Cpu::new(n) else {
             unreachable!()
         };
-        processors.push(Processor::start(cpu, image, budget))?;
+        processors.push(Sequencer::start(cpu, image, budget))?;
     }
     Ok(processors)
 }

@@ -3,25 +3,28 @@ ghost use Rattle.std.specs.Prelude.{◌≡◌, ◌*◌, ◌^◌, ◌<◌, All, l
 ghost use Rattle.axp_base.specs.Cpus.{cpu_number};
 ghost use Rattle.axp_cpu.specs.Seats.{Seat};
 ghost use Rattle.axp_cpu.specs.Stands.{IsMakeable, Stands};
+ghost use Rattle.axp_machine.specs.Barriers.{fetches_barrier, is_barrier};
+ghost use Rattle.axp_machine.specs.Plains.{IsPlain};
 ghost use Rattle.axp_machine.specs.Runs.{access_of, given_by};
 ghost use Rattle.axp_machine.specs.Steps.{number_there, AreMade, Chooses, Does, IsMade, Sits};
 
 use crate::plain_memory::PlainMemory;
 use axp_access::{Access, Kind, Place, Wanted};
 use axp_base::Cpu;
-use axp_cpu::Processor;
+use axp_cpu::Sequencer;
+use axp_decode::{Instr, MiscOp, PalOp, decode};
 
 /// A step that a processor may make: its access, and the processor after it.
 #[derive(Clone, Copy, Debug)]
 pub struct Step {
     pub access: Access,
-    pub processor: Processor,
+    pub processor: Sequencer,
 }
 
 /// The step that a processor of the list may make, after so many turns; `None` where it is not one of
 /// them, is finished, or comes to what is not built.
 pub fn next_step(
-    processors: &[Processor],
+    processors: &[Sequencer],
     memory: &PlainMemory,
     turns: u64,
     cpu: Cpu,
@@ -39,7 +42,7 @@ pub fn next_step(
 }
 
 /// The step that one processor may make.
-fn step_of(processor: &Processor, memory: &PlainMemory, turns: u64, cpu: Cpu) -> Option<Step>
+fn step_of(processor: &Sequencer, memory: &PlainMemory, turns: u64, cpu: Cpu) -> Option<Step>
     requires seated { Sits (length memory.now.bytes) processor.now }
     requires turns { turns < 2 ^ 32 }
     ensures does { (s : Seat) → Stands processor.now s → Does cpu turns (number_there memory.now.bytes) s result }
@@ -50,7 +53,11 @@ fn step_of(processor: &Processor, memory: &PlainMemory, turns: u64, cpu: Cpu) ->
         None => return None,
     };
     let access = access_to(cpu, turns, wanted, memory);
-    match processor.advanced(value_of(&access)) {
+    let value = value_of(&access);
+    if fetches_barrier(access.kind, value) {
+        return None;
+    }
+    match processor.advanced(value) {
         Some(processor) => Some(Step { access, processor }),
         None => None,
     }
@@ -59,6 +66,7 @@ fn step_of(processor: &Processor, memory: &PlainMemory, turns: u64, cpu: Cpu) ->
 /// The wanted access, with its value and its place after so many turns.
 fn access_to(cpu: Cpu, turns: u64, wanted: Wanted, memory: &PlainMemory) -> Access
     requires makeable { IsMakeable (length memory.now.bytes) wanted }
+    requires plain { IsPlain wanted.kind }
     requires turns { turns < 2 ^ 32 }
     ensures value { result ≡ access_of cpu turns wanted (number_there memory.now.bytes wanted) }
     ensures made { IsMade (length memory.now.bytes) result }
@@ -86,5 +94,26 @@ fn value_of(access: &Access) -> u64
     match access.kind {
         Kind::Fetch | Kind::Read => access.value,
         _ => 0,
+    }
+}
+
+/// Whether an access of this kind fetched a barrier, if this is its value.
+fn fetches_barrier(kind: Kind, value: u64) -> bool
+    ensures { result ≡ fetches_barrier kind value }
+{
+    match kind {
+        Kind::Fetch => is_barrier(decode((value & 0xFFFF_FFFF) as u32)),
+        _ => false,
+    }
+}
+
+/// Whether an instruction is a barrier.
+fn is_barrier(instr: Instr) -> bool
+    ensures { result ≡ is_barrier instr }
+{
+    match instr {
+        Instr::Misc { op, .. } => matches!(op, MiscOp::MB | MiscOp::WMB),
+        Instr::Pal { op } => matches!(op, PalOp::IMB),
+        _ => false,
     }
 }

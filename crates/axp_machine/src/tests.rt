@@ -254,6 +254,10 @@ fn instructions_end_where_they_should(rt: HostRuntime) -> Result<(), Fail> {
         (0x6BDE_4000, 0, 2, 0x4004, 30, 0xFFFF_FC00_0000_2004),
         // TRAPB; MB
         (0x6000_0000, 0x6000_4000, 1, 0x2004, 0, 0),
+        // TRAPB; WMB
+        (0x6000_0000, 0x6000_4400, 1, 0x2004, 0, 0),
+        // TRAPB; the PAL call imb
+        (0x6000_0000, 0x86, 1, 0x2004, 0, 0),
         // LDA R1, 1(R31); ADDL/V R1, R1, R2
         (0x203F_0001, 0x4021_0802, 2, 0x2008, 2, 2),
         // LDAH R1, -0x8000(R31); ADDL/V R1, R1, R2, which overflows
@@ -276,5 +280,20 @@ fn instructions_end_where_they_should(rt: HostRuntime) -> Result<(), Fail> {
             "{first:08X}"
         );
     }
+    Ok(())
+}
+
+/// JMP R31, (R31): address 0 is outside of the kernel segment, and no page is looked up.
+#[test]
+fn nothing_is_looked_up(rt: HostRuntime) -> Result<(), Fail> {
+    let cpu = Cpu::new(0).ok_or("0 is a processor's number")?;
+    let words = [0x6BFF_0000, 0, 0, 0, 0];
+    let loaded = load_words(rt.alloc(), &words).ok().ok_or("memory")?;
+    let mut machine = loaded.ok_or("the file is an image")?;
+    assert_eq!(rt; events_of(&mut machine, cpu), 1);
+    assert!(rt; cpu.number() < machine.cpus());
+    assert_eq!(rt; machine.pc(cpu), 0);
+    assert_eq!(rt; machine.event(step_of(cpu)), Err(NotBuilt));
+    assert_eq!(rt; machine.steps(cpu), 1);
     Ok(())
 }
