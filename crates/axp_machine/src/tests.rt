@@ -294,6 +294,7 @@ fn nothing_is_looked_up(rt: HostRuntime) -> Result<(), Fail> {
     assert!(rt; cpu.number() < machine.cpus());
     assert_eq!(rt; machine.pc(cpu), 0);
     assert_eq!(rt; machine.event(step_of(cpu)), Err(NotBuilt));
+    assert!(rt; cpu.number() < machine.cpus());
     assert_eq!(rt; machine.steps(cpu), 1);
     Ok(())
 }
