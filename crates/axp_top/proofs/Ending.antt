@@ -2,7 +2,7 @@
 use Rattle.std.proofs.Common.{◌≡◌, ℕ, ◌&&◌, Bool, true, false, cond, List, [], ◌∷◌, length, Option, Some, None, refl, sym, ap, ◌∙◌, subst}
 use Rattle.std.specs.Prelude.{◌==◌, if◌then◌else◌}
 use Rattle.axp_image.specs.Contents.{Contents}
-use Rattle.axp_machine.specs.Runs.{Seen, started, is_complete}
+use Rattle.axp_plain.specs.Runs.{Seen, started, is_complete}
 use Rattle.axp_trace.specs.declared.reading.Header.{Header}
 use Rattle.axp_trace.specs.Reading.{header_of}
 use Rattle.axp_io.proofs.Fronts.{front_none}

@@ -4,8 +4,8 @@ use Rattle.std.specs.Prelude.{IsErrAnd, IfOk, ◌==◌, if◌then◌else◌}
 use Rattle.axp_access.specs.declared.Event.{Event}
 use Rattle.axp_access.specs.declared.Outcome.{Outcome}
 use Rattle.axp_access.specs.declared.Record.{Record}
-use Rattle.axp_machine.specs.declared.machine.NotBuilt.{NotBuilt}
-use Rattle.axp_machine.specs.Runs.{Seen, outcome_of, answer_of, after_event, with_record}
+use Rattle.axp_plain.specs.declared.machine.NotBuilt.{NotBuilt}
+use Rattle.axp_plain.specs.Runs.{Seen, outcome_of, answer_of, after_event, with_record}
 use Rattle.axp_trace.specs.Lines.{with_feed, line_text, trace_header}
 use Rattle.axp_trace.specs.Reading.{event_of}
 use Rattle.axp_top.specs.declared.status.Status.{Status}

@@ -6,7 +6,7 @@ use Rattle.axp_top.specs.declared.printing.Stop.TheVariants as stop
 use Rattle.axp_top.specs.declared.status.Status.{Status}
 use Rattle.axp_top.specs.declared.status.Status.TheVariants as status
 use Rattle.axp_access.specs.declared.Record.{Record}
-use Rattle.axp_machine.specs.Runs.{Seen, with_record}
+use Rattle.axp_plain.specs.Runs.{Seen, with_record}
 use Rattle.axp_top.specs.Replays.{Answer, front_text, replayed}
 use Rattle.axp_top.specs.Texts.{record_text}
 

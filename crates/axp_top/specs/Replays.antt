@@ -4,7 +4,7 @@ use Rattle.std.specs.Option.{option_map_or}
 use Rattle.axp_access.specs.declared.Event.{Event}
 use Rattle.axp_access.specs.declared.Record.{Record}
 use Rattle.axp_image.specs.Contents.{Contents}
-use Rattle.axp_machine.specs.Runs.{Seen, started, outcome_of, with_record, is_complete}
+use Rattle.axp_plain.specs.Runs.{Seen, started, outcome_of, with_record, is_complete}
 use Rattle.axp_trace.specs.declared.reading.Header.{Header}
 use Rattle.axp_trace.specs.Lines.{with_feed}
 use Rattle.axp_trace.specs.Reading.{event_of, header_of}

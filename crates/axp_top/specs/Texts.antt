@@ -4,7 +4,7 @@ use Rattle.axp_access.specs.declared.Record.{Record}
 use Rattle.axp_base.specs.declared.parts.TheConstants.{QUADWORD_BYTES}
 use Rattle.axp_regs.specs.declared.states.TheConstants.{ZERO_REGISTER}
 use Rattle.axp_regs.specs.States.{pc_of, register}
-use Rattle.axp_machine.specs.Runs.{Seen, table_of, steps_of, quadword_of}
+use Rattle.axp_plain.specs.Runs.{Seen, table_of, steps_of, quadword_of}
 use Rattle.axp_model.specs.PlainSources.{is_touched}
 use Rattle.axp_trace.specs.Lines.{with_feed, line_text, trace_header, processor_line, register_line, memory_line, console_line, end_line}
 

@@ -11,7 +11,7 @@ use crate::printing::{Stop, print_line, refuse};
 use crate::tail::print_tail;
 use axp_image::Image;
 use axp_io::Sink;
-use axp_machine::Machine;
+use axp_plain::Machine;
 use axp_trace::{
     LineText, first_line, push_all, push_decimal, read_event, read_header, write_event,
     write_header,
