@@ -1,6 +1,7 @@
 pub mod LineLemmas
 pub mod GoneLemmas
 pub mod LaneLemmas
+pub mod MarkLemmas
 pub mod TidyLemmas
 pub mod StandLemmas
 pub mod ReplyLemmas

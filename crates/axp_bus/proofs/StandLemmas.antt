@@ -1,5 +1,5 @@
 -- A bus stands for its calls, before one more and after it.
-use Rattle.std.proofs.Common.{◌≡◌, ℕ, ◌+◌, ◌<◌, ◌++◌, eqb, Bool, true, false, cond, not, List, [], ◌∷◌, Option, Some, None, length, get_or, refl, ap, ap₂, sym, subst, ◌∙◌, arith}
+use Rattle.std.proofs.Common.{◌≡◌, ℕ, ◌+◌, ◌<◌, ◌++◌, eqb, Bool, true, false, cond, not, ◌||◌, List, [], ◌∷◌, Option, Some, None, length, get_or, refl, ap, ap₂, sym, subst, ◌∙◌, arith}
 use Rattle.axp_base.specs.Cpus.{cpu_number}
 use Rattle.axp_base.specs.declared.lines.Bank.{Bank}
 use Rattle.axp_base.specs.declared.lines.Bank.TheVariants.{Even, Odd, Code}
@@ -12,10 +12,11 @@ use Rattle.axp_line.specs.declared.messages.Reply.{Reply}
 use Rattle.axp_line.specs.declared.messages.Reply.TheVariants as reply
 use Rattle.axp_model.specs.Late.{late_by_other}
 use Rattle.axp_model.specs.Legal.{is_empty}
-use Rattle.axp_model.specs.BusCalls.{BusCall, memory, turns, late, late_by_own, line_written, overwritten, wrote, is_turn, printed_by}
+use Rattle.axp_model.specs.BusCalls.{BusCall, memory, turns, late, late_by_own, line_written, overwritten, reaches_quadword, wrote, is_turn, printed_by}
 use Rattle.axp_model.specs.BusReply.{bus_reply, reply_by}
 use Rattle.axp_bus.specs.Lanes.{IsLane, late_after, lock_after, pending_after}
 use Rattle.axp_bus.specs.Buses.{State, Agrees, NotedAll, front_of}
+use Rattle.axp_bus.specs.Marks.{Marked}
 use Rattle.axp_bus.specs.BusStands.{Stands, call_of}
 use Rattle.axp_bus.specs.declared.lanes.Lane.{Lane}
 
@@ -43,12 +44,16 @@ lanes_after old new image cs cpu q a st noted size p d below =
 pub stands_after : (old new : State) (image : ℕ → ℕ) (cs : List BusCall) (cpu : Cpu) (q : Request) (a : Reply) → Stands old image cs
     → a ≡ bus_reply image cs (cpu_number cpu) q
     → Agrees new.memory (overwritten (wrote q a) (memory image cs))
+    → Marked (wrote q a) old.touched new.touched
     → new.turns ≡ cond (is_turn a) (old.turns + 1) old.turns
     → NotedAll (cpu_number cpu) (old.turns + 1) q a old.lanes new.lanes → length new.lanes ≡ length old.lanes
     → new.printed ≡ old.printed ++ printed_by q
     → Stands new image (call_of cpu q a ∷ cs)
-stands_after old new image cs cpu q a st replied bytes counted noted size printed = record {
+stands_after old new image cs cpu q a st replied bytes marked counted noted size printed = record {
   memory = bytes;
+  touched = λ x below.
+      let here : x < length old.touched = omega (arith, below, marked.size) in
+      marked.each x here ∙ ap (λ b. reaches_quadword x (wrote q a) || b) (st.touched x here);
   turns = counted ∙ ap (λ t. cond (is_turn a) (t + 1) t) st.turns;
   lanes = lanes_after old new image cs cpu q a st noted size;
   printed = printed ∙ ap (λ bytes. bytes ++ printed_by q) st.printed;

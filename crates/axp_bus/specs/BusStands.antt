@@ -7,11 +7,13 @@ use Rattle.axp_model.specs.BusCalls.{BusCall, memory, turns, console}
 use Rattle.axp_model.specs.BusReply.{AreReplied}
 use Rattle.axp_bus.specs.Buses.{State, Agrees}
 use Rattle.axp_bus.specs.Lanes.{IsLane}
+use Rattle.axp_bus.specs.Marks.{AreMarks}
 use Rattle.axp_bus.specs.declared.lanes.Lane.{Lane}
 
 -- the bus is what it is after these calls, the newest first, where memory was the image at first
 pub record Stands (b : State) (image : ℕ → ℕ) (cs : List BusCall) : Type 0 where
   pub memory : Agrees b.memory (memory image cs)
+  pub touched : AreMarks b.touched cs
   pub turns : b.turns ≡ turns cs
   pub lanes : (p : ℕ) (d : Lane) → p < length b.lanes → IsLane (get_or b.lanes p d) p cs
   pub printed : b.printed ≡ console cs

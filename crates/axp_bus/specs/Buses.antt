@@ -1,5 +1,5 @@
 -- What a bus keeps, and what it may be asked.
-use Rattle.std.specs.Prelude.{◌≡◌, ℕ, ◌+◌, ◌*◌, ◌%◌, ◌<◌, ◌≤◌, ◌⊎◌, ◌==◌, List, length, get_or, slice_index}
+use Rattle.std.specs.Prelude.{◌≡◌, ℕ, ◌+◌, ◌*◌, ◌%◌, ◌<◌, ◌≤◌, ◌⊎◌, ◌==◌, Bool, List, length, get_or, slice_index}
 use Rattle.axp_base.specs.Cpus.{cpu_number}
 use Rattle.axp_base.specs.Lines.{line_number}
 use Rattle.axp_base.specs.declared.lines.TheConstants.{LINE_BYTES}
@@ -12,10 +12,11 @@ use Rattle.axp_model.specs.BusReply.{Front}
 use Rattle.axp_bus.specs.Lanes.{Noted, LaneHasRoom}
 use Rattle.axp_bus.specs.declared.lanes.Lane.{Lane}
 
--- a bus is seen as memory, how many turns were made, a lane for each processor, the bytes that went to
--- the console, and for how many turns, and bytes, there is room
+-- a bus is seen as memory, a mark for each of its quadwords, how many turns were made, a lane for each
+-- processor, the bytes that went to the console, and for how many turns, and bytes, there is room
 pub record State : Type 0 where
   pub memory : List ℕ
+  pub touched : List Bool
   pub turns : ℕ
   pub lanes : List Lane
   pub printed : List ℕ

@@ -1,5 +1,6 @@
 pub mod Writes
 pub mod Lanes
+pub mod Marks
 pub mod Buses
 pub mod BusStands
 pub mod BusParts

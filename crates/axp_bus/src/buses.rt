@@ -7,13 +7,14 @@ ghost use Rattle.axp_base.specs.declared.parts.TheConstants.{QUADWORD_BYTES};
 ghost use Rattle.axp_base.specs.declared.processors.TheConstants.{MAX_CPUS, MIN_CPUS};
 ghost use Rattle.axp_image.specs.Contents.{byte_in};
 ghost use Rattle.axp_memory.specs.Bytes.{AreLines};
-ghost use Rattle.axp_model.specs.BusCalls.{BusCall, console, is_turn, late, memory, printed_by, turns};
+ghost use Rattle.axp_model.specs.BusCalls.{BusCall, console, is_touched, is_turn, late, memory, printed_by, turns};
 ghost use Rattle.axp_model.specs.BusReply.{bus_reply};
 ghost use Rattle.axp_model.specs.Legal.{is_empty};
 ghost use Rattle.axp_bus.specs.Buses.{MayAsk};
 ghost use Rattle.axp_bus.specs.BusStands.{Stands, call_of};
 
 use crate::lanes::{Lane, fresh_lanes};
+use crate::marks::mark_down;
 use crate::replies::reply_at;
 use crate::steps::{note_all, print, turns_after, write_down};
 use axp_base::{Bank, Cpu, LINE_BYTES, Line, NoMemory, QUADWORD_BYTES};
@@ -23,11 +24,12 @@ use axp_memory::Ram;
 use std::alloc::Global;
 use std::marker::Model;
 
-/// The bus: memory, what it keeps for each processor, how many turns were made, and what went to the
+/// The bus: memory, which of its quadwords were written, what it keeps for each processor, how many turns were made, and what went to the
 /// console. All room is taken when it is made.
 #[derive(Debug, Drop)]
 pub struct Bus {
     memory: Ram,
+    touched: Vec<bool>,
     turns: u64,
     lanes: Vec<Lane>,
     printed: Vec<u8>,
@@ -58,10 +60,13 @@ impl Bus {
         ensures room { IfOk result (λ b. b.room ≡ room) }
     {
         let memory = Ram::load(alloc, image)?;
+        let quadwords = (memory.size() / QUADWORD_BYTES) as usize;
+        let touched = vec![in alloc; false; quadwords]?;
         let lanes = fresh_lanes(alloc, cpus, room)?;
         let printed = Vec::with_capacity(alloc, room as usize)?;
         Ok(Bus {
             memory,
+            touched,
             turns: 0,
             lanes,
             printed,
@@ -93,6 +98,7 @@ impl Bus {
             self.turns + 1,
         );
         write_down(&mut self.memory, request, reply);
+        mark_down(self.touched.as_mut_slice(), request, reply);
         print(&mut self.printed, request);
         self.turns = turns_after(self.turns, reply);
         reply
@@ -115,6 +121,14 @@ impl Bus {
     {
         let line = self.memory.line(Line::of(address));
         line.get((address % LINE_BYTES) as u8, QUADWORD_BYTES as u8)
+    }
+
+    /// Whether a turn wrote a byte of the aligned quadword of this number.
+    pub fn is_touched(&self, quadword: u64) -> bool
+        requires { quadword * QUADWORD_BYTES < length self.now.memory }
+        ensures { (image : ℕ → ℕ) (calls : List BusCall) → Stands self.now image calls → result ≡ is_touched quadword calls }
+    {
+        self.touched[quadword as usize]
     }
 
     /// The bytes that went to the console.

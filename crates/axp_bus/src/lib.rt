@@ -5,6 +5,7 @@
 mod buses;
 mod lanes;
 mod laws;
+mod marks;
 mod replies;
 mod steps;
 mod writes;

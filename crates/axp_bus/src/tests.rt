@@ -3,7 +3,7 @@ ghost use Rattle.axp_base.specs.declared.lines.TheConstants.{LINE_BYTES};
 ghost use Rattle.axp_bus.specs.Buses.{MayAsk};
 
 use super::*;
-use axp_base::{Bank, Cpu, Line, span};
+use axp_base::{Bank, Cpu, Line, Mask, QUADWORD_BYTES, span};
 use axp_image::read_image;
 use axp_line::{Held, LineData, Reply, Request};
 use std::test::*;
@@ -371,5 +371,56 @@ fn calls_are_answered_in_turn(rt: HostRuntime) -> Result<(), Fail> {
         );
         assert_eq!(rt; bus.late(first, Bank::Odd), false);
     }
+    Ok(())
+}
+
+/// Whether the bus tells of these quadwords, and of no other, that a turn wrote one of their bytes.
+fn touches(bus: &Bus, quadwords: &[u64]) -> bool {
+    for quadword in 0..bus.size() / QUADWORD_BYTES {
+        if bus.is_touched(quadword) != quadwords.contains(&quadword) {
+            return false;
+        }
+    }
+    true
+}
+
+#[test]
+fn written_quadwords_are_touched(rt: HostRuntime) -> Result<(), Fail> {
+    let read = read_image(rt.alloc(), &TWO_SEGMENTS).ok().ok_or("memory")?;
+    let image = read.ok_or("two segments are read")?;
+    let mut bus = Bus::load(rt.alloc(), &image, 2, 16).ok().ok_or("memory")?;
+    assert!(rt; touches(&bus, &[]), "the image's bytes are no turn's");
+
+    // the last byte of the quadword at 0x3FC8, and the upper half of that at 0x3FE8
+    let drain = Request::Drain {
+        line: Line::of(0x3FC0),
+        mask: span(0x3FCF, 1).join(span(0x3FEC, 4)),
+        bytes: LineData::zero(),
+    };
+    let empty = Request::Drain {
+        line: Line::of(0),
+        mask: Mask::default(),
+        bytes: line_with(0, 1, 8, 1),
+    };
+    let conditional = Request::Conditional {
+        address: 0x1004,
+        size: 4,
+        value: 0,
+        armed: true,
+    };
+    let locked = Request::Locked { address: 0x1004 };
+
+    assert!(rt; ask(&mut bus, 1, &drain).is_some());
+    assert!(rt; touches(&bus, &[0x7F9, 0x7FD]));
+
+    let refused = ask(&mut bus, 0, &conditional);
+    assert_eq!(rt; refused, Some(Reply::Refused { turn: 1 }));
+    assert!(rt; ask(&mut bus, 0, &empty).is_some());
+    assert!(rt; touches(&bus, &[0x7F9, 0x7FD]), "neither writes a byte");
+
+    assert!(rt; ask(&mut bus, 0, &locked).is_some());
+    assert!(rt; touches(&bus, &[0x7F9, 0x7FD]), "a read writes none");
+    assert!(rt; ask(&mut bus, 0, &conditional).is_some());
+    assert!(rt; touches(&bus, &[0x200, 0x7F9, 0x7FD]));
     Ok(())
 }
