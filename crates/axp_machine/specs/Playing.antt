@@ -2,6 +2,7 @@
 use Rattle.std.specs.Prelude.{◌≡◌, ℕ, ◌<◌, nat_lt, if◌then◌else◌, Bool, true, false, List, length, Option, Some, None, Result, Ok, Err}
 use Rattle.axp_access.specs.declared.Event.{Event}
 use Rattle.axp_base.specs.Cpus.{cpu_number}
+use Rattle.axp_base.specs.declared.lines.Bank.{Bank}
 use Rattle.axp_base.specs.declared.processors.Cpu.{Cpu}
 use Rattle.axp_bus.specs.Buses.{State, MayAsk}
 use Rattle.axp_bus.specs.BusStands.{Stands}
@@ -10,6 +11,7 @@ use Rattle.axp_cpu.specs.declared.refusals.Refusal.TheVariants.{NotLegal}
 use Rattle.axp_image.specs.Contents.{Contents}
 use Rattle.axp_line.specs.declared.messages.Reply.{Reply}
 use Rattle.axp_line.specs.declared.messages.Reply.TheVariants as reply
+use Rattle.axp_line.specs.declared.messages.Request.TheVariants as request
 use Rattle.axp_lsu.specs.declared.asks.Ask2.{Ask2}
 use Rattle.axp_lsu.specs.declared.asks.Ask2.TheVariants as ask
 use Rattle.axp_model.specs.BusCalls.{BusCall}
@@ -34,6 +36,11 @@ abbrev pub is_nothing : Option Reply → Bool
 is_nothing None = false
 is_nothing (Some reply.Nothing) = true
 is_nothing (Some _) = false
+
+-- the bank of a take
+abbrev pub bank_taken : Ask2 → Option Bank
+bank_taken (ask.Bus (request.Take bank)) = Some bank
+bank_taken _ = None
 
 abbrev pub IsVain : State → Cpu → Ask2 → Bool → Type 0
 IsVain b cpu q result = (image : ℕ → ℕ) (cs : List BusCall) → Stands b image cs → result ≡ is_nothing (reply_for image cs (cpu_number cpu) (Ok q))

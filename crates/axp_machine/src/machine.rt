@@ -4,11 +4,11 @@ ghost use Rattle.axp_base.specs.declared.processors.TheConstants.{MAX_BUDGET, MA
 ghost use Rattle.axp_bus.specs.BusStands.{Stands};
 ghost use Rattle.axp_model.specs.BusCalls.{BusCall};
 ghost use Rattle.axp_world.specs.Worlds.{calls_for, reply_for};
-ghost use Rattle.axp_machine.specs.Playing.{IsVain, MayAnswer};
+ghost use Rattle.axp_machine.specs.Playing.{IsVain, MayAnswer, bank_taken};
 ghost use Rattle.axp_machine.specs.Starts.{StartsAll};
 
 use axp_access::{Act, Event, Outcome, Record};
-use axp_base::{Cpu, MAX_BUDGET, MAX_CPUS, MIN_CPUS, NoMemory, QUADWORD_BYTES};
+use axp_base::{Bank, Cpu, MAX_BUDGET, MAX_CPUS, MIN_CPUS, NoMemory, QUADWORD_BYTES};
 use axp_bus::Bus;
 use axp_cpu::{Processor, Refusal};
 use axp_image::Image;
@@ -47,6 +47,7 @@ impl Machine {
     ghost use Rattle.axp_image.specs.Contents.{IsValid};
     ghost use Rattle.axp_regs.specs.States.{pc_of, register};
     ghost use Rattle.axp_cpu.specs.ActorStands.{IsAt};
+    ghost use Rattle.axp_lsu.specs.Within.{IsAskWithin};
     ghost use Rattle.axp_machine.specs.Playing.{granted_in};
     ghost use Rattle.axp_machine.specs.Runs.{started, answer_of, after_event, with_record, IsRun, is_complete, actor_of, table_of, steps_of, quadword_of};
 
@@ -185,10 +186,11 @@ impl Machine {
     /// What an event asks of the bus, or why it is refused: a take where nothing is late is not legal.
     fn grant(&self, event: Event) -> Result<Ask2, Refusal>
         ensures granted { result ≡ granted_in self.now event }
+        ensures within { IfOk result (IsAskWithin self.now.image.size) }
         ensures answer { IfErr result (λ refusal. answer_of self.now event ≡ Err refusal) }
         ensures run { IsRun self.now }
     {
-        if event.cpu.number() >= self.cpus() {
+        if usize::from(event.cpu.number()) >= self.processors.len() {
             return Err(Refusal::NotLegal);
         }
         match self.processor(event.cpu).request(event.act) {
@@ -205,7 +207,8 @@ impl Machine {
 
     /// Does a granted event, and keeps its record.
     fn make(&mut self, event: Event, ask: Ask2) -> Outcome
-        requires { granted_in self.old event ≡ Ok ask }
+        requires granted { granted_in self.old event ≡ Ok ask }
+        requires within { IsAskWithin self.old.image.size ask }
         ensures answer { answer_of self.old event ≡ Ok result }
         ensures after { self.new ≡ with_record self.old (record { event = event; outcome = result }) }
         ensures run { IsRun self.new }
@@ -222,9 +225,19 @@ fn is_vain(ask: &Ask2, bus: &Bus, cpu: Cpu) -> bool
     requires { cpu_number cpu < length bus.now.lanes }
     ensures { IsVain bus.now cpu ask.now result }
 {
+    match bank_taken(ask) {
+        Some(bank) => !bus.late(cpu, bank),
+        None => false,
+    }
+}
+
+/// The bank of a take.
+fn bank_taken(ask: &Ask2) -> Option<Bank>
+    ensures { result ≡ bank_taken ask.now }
+{
     match ask {
-        Ask2::Bus(Request::Take { bank }) => !bus.late(cpu, *bank),
-        _ => false,
+        Ask2::Bus(Request::Take { bank }) => Some(*bank),
+        _ => None,
     }
 }
 
@@ -250,7 +263,8 @@ fn start_all(
     budget: u32,
     cpus: u8,
 ) -> Result<Vec<Processor>, NoMemory>
-    requires { cpus ≤ MAX_CPUS }
+    requires cpus { cpus ≤ MAX_CPUS }
+    requires budget { budget ≤ MAX_BUDGET }
     ensures { IfOk result (λ ps. StartsAll image.now budget cpus ps.items) }
 {
     let mut processors = Vec::with_capacity(alloc, usize::from(cpus))?;

@@ -1,0 +1,87 @@
+-- A history leaves room: the calls' turns, the console's bytes and the records are few.
+use Rattle.std.proofs.Common.{◌≡◌, ℕ, ◌+◌, ◌*◌, ◌^◌, ◌<◌, ◌≤◌, Bool, true, false, cond, eqb, List, [], ◌∷◌, ◌++◌, length, Option, Some, None, arith, refl, sym, ap, ◌∙◌, subst, ⊎_elim}
+use Rattle.std.proofs.Common.{length-append}
+use Rattle.std.specs.Prelude.{Result, Ok, Err}
+use Rattle.std.proofs.lemmas.Bool.{cases_Bool}
+use Rattle.axp_access.specs.declared.Act.{Act}
+use Rattle.axp_access.specs.declared.Act.TheVariants as act
+use Rattle.axp_access.specs.declared.Record.{Record}
+use Rattle.axp_access.specs.declared.Wanted.{Wanted}
+use Rattle.axp_base.specs.Cpus.{cpu_number}
+use Rattle.axp_base.specs.declared.processors.Cpu.{Cpu}
+use Rattle.axp_base.specs.declared.processors.TheConstants.{MAX_BUDGET, MAX_CPUS}
+use Rattle.axp_cpu.specs.Actors.{Actor, about, advanced, moved_by, seat_after}
+use Rattle.axp_cpu.specs.Plans.{Plan, End, Want, Unbuilt, along}
+use Rattle.axp_cpu.specs.Rows.{group}
+use Rattle.axp_cpu.specs.Seats.{Seat, moved}
+use Rattle.axp_cpu.specs.declared.refusals.Refusal.{Refusal}
+use Rattle.axp_image.specs.Contents.{Contents}
+use Rattle.axp_line.specs.declared.messages.Reply.{Reply}
+use Rattle.axp_line.specs.declared.messages.Request.{Request}
+use Rattle.axp_line.specs.declared.messages.Request.TheVariants as request
+use Rattle.axp_lsu.specs.Going.{value_of}
+use Rattle.axp_lsu.specs.declared.asks.Ask2.{Ask2}
+use Rattle.axp_lsu.specs.declared.asks.Ask2.TheVariants as ask
+use Rattle.axp_model.specs.BusCalls.{BusCall, console, printed_by}
+use Rattle.axp_model.specs.Legal.{is_step}
+use Rattle.axp_world.specs.Lengths.{steps_in}
+use Rattle.axp_world.specs.Worlds.{World, after_event, asked, calls_for, image_bytes, reply_at, world}
+use Rattle.axp_world.proofs.Played.{actor_other, actor_own}
+
+-- a processor's memory has the image's size
+size-moved : (s : Seat) (vs : List ℕ) (p : Plan) → (moved s vs p).size ≡ s.size
+size-moved s vs (End t) = refl
+size-moved s vs (Want w k) = refl
+size-moved s vs Unbuilt = refl
+
+size_by : (o : Option Wanted) (r : Option Reply) (a : Actor) → (moved_by o r a).size ≡ a.seat.size
+size_by None r a = refl
+size_by (Some w) r a = size-moved a.seat (a.seat.values ++ value_of w a.kept r ∷ []) (along (a.seat.values ++ value_of w a.kept r ∷ []) (group a.seat.size a.seat.start))
+
+size_after : (e : Act) (r : Option Reply) (a : Actor) → (seat_after e r a).size ≡ a.seat.size
+size_after act.Step r a = size_by (about a).wanted r a
+size_after act.Fill r a = refl
+size_after (act.Drain k) r a = refl
+size_after (act.Take b) r a = refl
+size_after (act.Drop b line) r a = refl
+size_after act.Poll r a = refl
+size_after act.Tick r a = refl
+
+size_advanced : (a : Actor) (e : Act) (r : Option Reply) → (advanced a e r).seat.size ≡ a.seat.size
+unfolding advanced
+size_advanced a e r = size_after e r a
+
+pub seat_size : (image : Contents) (budget : ℕ) (h : List Record) (p : ℕ) → ((world image budget h).actors p).seat.size ≡ image.size
+seat_size image budget [] p = refl
+seat_size image budget (r ∷ h) p =
+    let w : World = world image budget h in
+    ⊎_elim
+    (λ (own : eqb (cpu_number r.event.cpu) p ≡ true). ap (λ (a : Actor). a.seat.size) (actor_own image w r.event p own) ∙ size_advanced (w.actors p) r.event.act (reply_at image w r.event) ∙ seat_size image budget h p)
+    (λ (other : eqb (cpu_number r.event.cpu) p ≡ false). ap (λ (a : Actor). a.seat.size) (actor_other image w r.event p other) ∙ seat_size image budget h p)
+    (cases_Bool (eqb (cpu_number r.event.cpu) p))
+
+-- no more steps than records
+step_one : (b : Bool) (n k : ℕ) → n ≤ k → cond b (n + 1) n ≤ k + 1
+step_one true n k few = omega (arith, few)
+step_one false n k few = omega (arith, few)
+
+pub steps_few : (h : List Record) → steps_in h ≤ length h
+steps_few [] = omega arith
+steps_few (r ∷ h) = let one = step_one (is_step r.event.act) (steps_in h) (length h) (steps_few h) in omega (arith, one)
+
+-- no more bytes on the console than records
+printed_one : (q : Request) → length (printed_by q) ≤ 1
+printed_one (request.Console byte) = omega arith
+printed_one _ = omega arith
+
+console_by : (image : ℕ → ℕ) (cs : List BusCall) (cpu : Cpu) (a : Result Ask2 Refusal) (n : ℕ) → length (console cs) ≤ n → length (console (calls_for image cs cpu a)) ≤ n + 1
+console_by image cs cpu (Err refusal) n few = omega (arith, few)
+console_by image cs cpu (Ok ask.Private) n few = omega (arith, few)
+console_by image cs cpu (Ok (ask.Bus q)) n few = let sum = length-append (console cs) (printed_by q) in let one = printed_one q in omega (arith, sum, one, few)
+
+pub console_few : (image : Contents) (budget : ℕ) (h : List Record) → length (console (world image budget h).calls) ≤ length h
+unfolding after_event
+console_few image budget [] = omega arith
+console_few image budget (r ∷ h) =
+    let w : World = world image budget h in
+    let one = console_by (image_bytes image) w.calls r.event.cpu (asked w r.event) (length h) (console_few image budget h) in omega (arith, one)

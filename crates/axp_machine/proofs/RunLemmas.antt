@@ -1,0 +1,47 @@
+-- Records and the run of their events.
+use Rattle.std.proofs.Common.{◌≡◌, ℕ, List, [], ◌∷◌, refl, ap, ◌∙◌}
+use Rattle.std.specs.Prelude.{Result, Ok, Err}
+use Rattle.axp_access.specs.declared.Event.{Event}
+use Rattle.axp_access.specs.declared.Outcome.{Outcome}
+use Rattle.axp_access.specs.declared.Record.{Record}
+use Rattle.axp_cpu.specs.declared.refusals.Refusal.{Refusal}
+use Rattle.axp_image.specs.Contents.{Contents, IsValid}
+use Rattle.axp_model.specs.Outcomes as model
+use Rattle.axp_world.specs.Worlds as worlds
+use Rattle.axp_world.specs.Worlds.{IsPlayed, image_bytes, intents, world}
+use Rattle.axp_world.proofs.Joined.{joined}
+use Rattle.axp_machine.specs.Runs.{Seen, IsRun, after_answer, after_event, answer_of, events_of, run, started, with_record}
+
+-- the machine with these records
+abbrev with_records : Contents → ℕ → ℕ → List Record → Seen
+with_records image cpus budget h = record { image = image; cpus = cpus; budget = budget; records = h }
+
+-- an event that gives a record's outcome makes the record
+after_gives : (m : Seen) (r : Record) → answer_of m r.event ≡ Ok r.outcome → after_event m r.event ≡ with_record m r
+unfolding after_event
+after_gives m r gave = ap (after_answer m r.event) gave
+
+runs_again : (image : Contents) (cpus budget : ℕ) (h : List Record) → IsPlayed image cpus budget h → run (started image cpus budget) (events_of h) ≡ with_records image cpus budget h
+unfolding answer_of
+runs_again image cpus budget [] is = refl
+runs_again image cpus budget (r ∷ h) is =
+    ap (λ (m : Seen). after_event m r.event) (runs_again image cpus budget h is.1) ∙ after_gives (with_records image cpus budget h) r is.0
+
+pub run_again : (m : Seen) → IsRun m → run (started m.image m.cpus m.budget) (events_of m.records) ≡ m
+run_again m is = runs_again m.image m.cpus m.budget m.records is
+
+outcome_runs : (m : Seen) (e : Event) (o : Result Outcome Refusal) → answer_of m e ≡ o → IsRun m → IsRun (after_answer m e o)
+unfolding answer_of
+outcome_runs m e (Err refusal) gave is = is
+outcome_runs m e (Ok o) gave is = (gave, is)
+
+event_runs : (m : Seen) (e : Event) → IsRun m → IsRun (after_event m e)
+unfolding after_event
+event_runs m e is = outcome_runs m e (answer_of m e) refl is
+
+pub run_is : (image : Contents) (cpus budget : ℕ) (es : List Event) → IsRun (run (started image cpus budget) es)
+run_is image cpus budget [] = tt
+run_is image cpus budget (e ∷ es) = event_runs (run (started image cpus budget) es) e (run_is image cpus budget es)
+
+pub run_models : (m : Seen) → IsValid m.image → IsRun m → model.IsRun (image_bytes m.image) (intents m.image m.budget) m.records
+run_models m valid is = (joined m.image m.cpus m.budget m.records valid is).run
