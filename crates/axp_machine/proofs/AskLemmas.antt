@@ -1,17 +1,14 @@
 -- What a granted event asks lies in memory, and the bus's answer fits it.
-use Rattle.std.proofs.Common.{◌≡◌, ℕ, ◌+◌, ◌*◌, ◌^◌, ◌<◌, ◌≤◌, ◌&&◌, Bool, true, false, cond, not, List, [], ◌∷◌, length, slice_get, Option, Some, None, arith, refl, sym, ap, ◌∙◌, subst}
+use Rattle.std.proofs.Common.{◌≡◌, ℕ, ◌+◌, ◌^◌, ◌<◌, ◌&&◌, Bool, true, false, cond, List, [], ◌∷◌, length, slice_get, Option, Some, None, arith, refl, subst}
 use Rattle.std.specs.List.{AllByRecursion}
-use Rattle.std.specs.Prelude.{Result, Ok, Err}
+use Rattle.std.specs.Prelude.{Ok}
 use Rattle.axp_access.specs.declared.Act.{Act}
 use Rattle.axp_access.specs.declared.Act.TheVariants as act
 use Rattle.axp_access.specs.declared.Intent.{Intent}
 use Rattle.axp_access.specs.declared.Wanted.{Wanted}
-use Rattle.axp_base.specs.Cpus.{cpu_of}
-use Rattle.axp_base.specs.Lines.{line_number}
 use Rattle.axp_base.specs.declared.lines.Bank.{Bank}
 use Rattle.axp_base.specs.declared.lines.Bank.TheVariants.{Even, Odd, Code}
 use Rattle.axp_base.specs.declared.lines.Line.{Line}
-use Rattle.axp_base.specs.declared.processors.Cpu.{Cpu}
 use Rattle.axp_bus.specs.Buses.{MayAsk, State}
 use Rattle.axp_cpu.specs.Actors.{Actor, about, request_of}
 use Rattle.axp_cpu.specs.Seats.{Seat, wanted}
@@ -21,23 +18,21 @@ use Rattle.axp_cpu.specs.Stands.{Stands}
 use Rattle.axp_cpu.specs.declared.processors.Processor.{Processor}
 use Rattle.axp_cpu.specs.declared.sequencers.Sequencer.{Sequencer}
 use Rattle.axp_cpu.proofs.ActorLemmas.{was_asked, wanted_sound}
-use Rattle.axp_line.specs.declared.messages.Reply.{Reply}
 use Rattle.axp_line.specs.declared.messages.Reply.TheVariants as reply
 use Rattle.axp_line.specs.declared.messages.Request.{Request}
 use Rattle.axp_line.specs.declared.messages.Request.TheVariants as request
-use Rattle.axp_lsu.specs.Asking.{access_ask, act_ask, ask_of, drain_ask, fill_ask, fill_for, ready, signal_to, step_ask, take_ask}
-use Rattle.axp_lsu.specs.Fitting.{Fits2, FitsRequest, IsTurn}
+use Rattle.axp_lsu.specs.Asking.{access_ask, act_ask, ask_of, drain_ask, fill_ask, fill_for, ready, step_ask, take_ask}
+use Rattle.axp_lsu.specs.Fitting.{FitsRequest}
 use Rattle.axp_lsu.specs.Keeping.{Kept}
 use Rattle.axp_lsu.specs.Within.{IsAskWithin, IsRequestWithin}
 use Rattle.axp_lsu.specs.declared.asks.Ask2.{Ask2}
 use Rattle.axp_lsu.specs.declared.asks.Ask2.TheVariants as ask
-use Rattle.axp_model.specs.BusCalls as calls
-use Rattle.axp_model.specs.BusCalls.{BusCall, Written}
+use Rattle.axp_model.specs.BusCalls.{Written}
 use Rattle.axp_model.specs.BusReply.{Front, first_late, late_in, reply_by, tried}
 use Rattle.axp_model.specs.Legal.{may_now}
 use Rattle.axp_wbuf.specs.Drains.{oldest_group}
 use Rattle.axp_wbuf.specs.Pending.{Pending}
-use Rattle.axp_model.specs.Records.{in_bank, line_at, line_of}
+use Rattle.axp_model.specs.Records.{line_at, line_of}
 use Rattle.axp_model.proofs.Fits.{InBank}
 use Rattle.axp_inval.specs.Queues.{AreBefore}
 use Rattle.axp_regs.specs.declared.asks.Kind.{Kind}

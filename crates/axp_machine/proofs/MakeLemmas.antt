@@ -1,5 +1,5 @@
 -- A machine's parts after a granted event.
-use Rattle.std.proofs.Common.{◌≡◌, ◌≢◌, ℕ, zero, suc, ◌+◌, ◌*◌, ◌^◌, ◌<◌, ◌≤◌, Bool, true, false, cond, eqb, List, [], ◌∷◌, ◌++◌, length, reverse, set, slice_get, Option, Some, None, arith, refl, sym, ap, ◌∙◌, subst, ⊎_elim}
+use Rattle.std.proofs.Common.{◌≡◌, ◌≢◌, ℕ, zero, suc, ◌+◌, ◌*◌, ◌^◌, ◌<◌, ◌≤◌, true, false, eqb, List, [], ◌∷◌, ◌++◌, length, reverse, set, slice_get, Option, Some, None, arith, refl, sym, ap, ◌∙◌, subst, ⊎_elim}
 use Rattle.std.proofs.Common.{get_or-set_other}
 use Rattle.std.proofs.Math.ListN.{length-set}
 use Rattle.std.proofs.lemmas.Grind.{get_or-set_at}
@@ -9,7 +9,7 @@ use Rattle.std.proofs.lemmas.Bool.{cases_Bool, eqb-true, eq-eqb}
 use Rattle.std.proofs.lemmas.Nat.{mul-le}
 use Rattle.std.specs.List.{AllByRecursion}
 use Rattle.std.specs.Prelude.{Ok}
-use Rattle.std.specs.Vec.{vec_capacity, vec_len}
+use Rattle.std.specs.Vec.{vec_capacity}
 use Rattle.axp_access.specs.declared.Event.{Event}
 use Rattle.axp_access.specs.declared.Outcome.{Outcome}
 use Rattle.axp_access.specs.declared.Record.{Record}
@@ -17,25 +17,20 @@ use Rattle.axp_base.specs.Cpus.{cpu_number}
 use Rattle.axp_base.specs.declared.lines.Bank.{Bank}
 use Rattle.axp_base.specs.declared.lines.Bank.TheVariants.{Even, Odd, Code}
 use Rattle.axp_base.specs.declared.processors.TheConstants.{MAX_BUDGET, MAX_CPUS}
-use Rattle.axp_bus.specs.Buses.{State}
 use Rattle.axp_bus.specs.BusStands as bus
 use Rattle.axp_bus.proofs.ReplyLemmas.{late_tidy}
 use Rattle.axp_cpu.specs.Actors.{Actor, advanced, outcome_of}
 use Rattle.axp_cpu.specs.ActorStands.{IsAnswered, IsAt}
 use Rattle.axp_cpu.specs.declared.processors.Processor.{Processor}
-use Rattle.axp_image.specs.Contents.{Contents, IsValid}
+use Rattle.axp_image.specs.Contents.{Contents}
 use Rattle.axp_line.specs.declared.messages.Reply.{Reply}
 use Rattle.axp_line.specs.declared.messages.Reply.TheVariants as reply
-use Rattle.axp_line.specs.declared.messages.Request.{Request}
 use Rattle.axp_lsu.specs.Fitting.{Fits2}
 use Rattle.axp_lsu.specs.Within.{IsAskWithin}
 use Rattle.axp_lsu.specs.declared.asks.Ask2.{Ask2}
 use Rattle.axp_lsu.specs.declared.asks.Ask2.TheVariants as ask
-use Rattle.axp_model.specs.BusCalls as calls
-use Rattle.axp_model.specs.BusCalls.{BusCall, console, turns}
-use Rattle.axp_model.specs.BusReply.{bus_reply, front}
+use Rattle.axp_model.specs.BusReply.{front}
 use Rattle.axp_model.proofs.Fits.{InBank, late_in}
-use Rattle.axp_world.specs.Lengths.{steps_in}
 use Rattle.axp_world.specs.declared.lengths.TheConstants.{EVENTS_PER_STEP}
 use Rattle.axp_world.specs.Worlds as worlds
 use Rattle.axp_world.specs.Worlds.{IsPlayed, World, asked, calls_for, image_bytes, reply_at, reply_for, world}
@@ -94,7 +89,7 @@ may_answer a e q p ties is inside at =
     record {
       below = subst (λ n. cpu_number e.cpu < n) (sym ties.lanes) is.below;
       asks = may_ask_for q a.bus (actor_of (seen a) (cpu_number e.cpu)).seat.size (size ∙ sym ties.size)
-      (asked_may p (actor_of (seen a) (cpu_number e.cpu)) e.act q (length a.bus.lanes) at is.asked (subst (λ n. IsAskWithin n q) (sym size) inside));
+          (asked_may p (actor_of (seen a) (cpu_number e.cpu)) e.act q (length a.bus.lanes) at is.asked (subst (λ n. IsAskWithin n q) (sym size) inside));
       turns = room.turns;
       printed = room.printed;
     }
@@ -221,19 +216,21 @@ pub makes_of : (a b : Inside) (e : Event) (q : Ask2) (new : Processor) (r : Opti
     → b.records.items ≡ a.records.items ++ record { event = e; outcome = o } ∷ [] → vec_capacity b.records ≡ vec_capacity a.records → Makes a b e q new × (o ≡ outcome_in (seen a) e)
 makes_of a b e q new r o is image budget processors answered at gives stands size lanes room records capacity =
     let told : r ≡ reply_at a.image (world_of (seen a)) e = answered ∙ ap (reply_for (image_bytes a.image) (world_of (seen a)).calls (cpu_number e.cpu)) (sym is.asked) in
-    let same : o ≡ outcome_in (seen a) e = gives ∙ ap (outcome_of (actor_of (seen a) (cpu_number e.cpu)) e.act) told in
-    (record {
-      image = image;
-      budget = budget;
-      processors = processors;
-      at = subst (λ (x : Option Reply). IsAt new (advanced (actor_of (seen a) (cpu_number e.cpu)) e.act x)) told at;
-      bus = stands;
-      size = size;
-      lanes = lanes;
-      room = room;
-      records = records ∙ ap (λ (x : Outcome). a.records.items ++ record { event = e; outcome = x } ∷ []) same;
-      capacity = capacity;
-    }, same)
+    let same : o ≡ outcome_in (seen a) e = gives ∙ ap (outcome_of (actor_of (seen a) (cpu_number e.cpu)) e.act) told in (
+      record {
+        image = image;
+        budget = budget;
+        processors = processors;
+        at = subst (λ (x : Option Reply). IsAt new (advanced (actor_of (seen a) (cpu_number e.cpu)) e.act x)) told at;
+        bus = stands;
+        size = size;
+        lanes = lanes;
+        room = room;
+        records = records ∙ ap (λ (x : Outcome). a.records.items ++ record { event = e; outcome = x } ∷ []) same;
+        capacity = capacity;
+      },
+      same,
+    )
 
 -- the machine after shows one record more
 pub shows_after : (a b : Inside) (m : Seen) (e : Event) (q : Ask2) (new : Processor) (o : Outcome) → seen a ≡ m → Makes a b e q new × (o ≡ outcome_in (seen a) e) → seen b ≡ with_record m (record { event = e; outcome = o })

@@ -1,18 +1,17 @@
 -- What the machine's readers read, and its parts at the start.
-use Rattle.std.proofs.Common.{◌≡◌, ℕ, zero, suc, ◌+◌, ◌*◌, ◌<◌, ◌≤◌, ◌&&◌, Bool, false, List, reverse, [], ◌∷◌, ◌++◌, length, get_or, slice_get, Some, arith, refl, sym, ap, ◌∙◌, subst, add-one}
+use Rattle.std.proofs.Common.{◌≡◌, ℕ, zero, suc, ◌+◌, ◌*◌, ◌<◌, ◌≤◌, ◌&&◌, Bool, List, reverse, [], ◌∷◌, ◌++◌, length, get_or, slice_get, Some, arith, refl, sym, ap, ◌∙◌, subst, add-one}
 use Rattle.std.proofs.Common.{length-append}
 use Rattle.std.proofs.lemmas.Option.{slice_get-get_or}
 use Rattle.std.specs.Vec.{vec_capacity}
 use Rattle.axp_base.specs.Cpus.{cpu_of}
 use Rattle.axp_base.specs.declared.processors.TheConstants.{MAX_BUDGET, MAX_CPUS, MIN_CPUS}
-use Rattle.axp_bus.specs.Buses.{State}
 use Rattle.axp_bus.specs.BusStands as bus
-use Rattle.axp_cpu.specs.Actors.{Actor, first_actor}
+use Rattle.axp_cpu.specs.Actors.{first_actor}
 use Rattle.axp_cpu.specs.ActorStands.{IsAt}
 use Rattle.axp_cpu.specs.declared.processors.Processor.{Processor}
 use Rattle.axp_image.specs.Contents.{Contents, IsValid}
 use Rattle.axp_machine.specs.declared.machine.Machine.TheInside.{Inside}
-use Rattle.axp_machine.specs.Runs.{Seen, are_done, is_done, started}
+use Rattle.axp_machine.specs.Runs.{Seen, are_done, is_done}
 use Rattle.axp_machine.specs.Starts.{StartsAll}
 use Rattle.axp_machine.specs.Ties.{Ties, history, seen}
 use Rattle.axp_world.specs.declared.lengths.TheConstants.{EVENTS_PER_STEP}

@@ -7,8 +7,7 @@ use Rattle.axp_access.specs.declared.Record.{Record}
 use Rattle.axp_cpu.specs.declared.refusals.Refusal.{Refusal}
 use Rattle.axp_image.specs.Contents.{Contents, IsValid}
 use Rattle.axp_model.specs.Outcomes as model
-use Rattle.axp_world.specs.Worlds as worlds
-use Rattle.axp_world.specs.Worlds.{IsPlayed, image_bytes, intents, world}
+use Rattle.axp_world.specs.Worlds.{IsPlayed, image_bytes, intents}
 use Rattle.axp_world.proofs.Joined.{joined}
 use Rattle.axp_machine.specs.Runs.{Seen, IsRun, after_answer, after_event, answer_of, events_of, run, started, with_record}
 

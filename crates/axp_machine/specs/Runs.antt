@@ -1,5 +1,5 @@
 -- A machine as its callers see it, what an event gives after any records, and the run of a list of events.
-use Rattle.std.specs.Prelude.{◌≡◌, ℕ, zero, suc, ◌*◌, ◌==◌, ◌&&◌, Bool, true, List, [], ◌∷◌, length, map, Result, Ok, Err}
+use Rattle.std.specs.Prelude.{ℕ, zero, suc, ◌*◌, ◌==◌, ◌&&◌, Bool, true, List, [], ◌∷◌, length, map, Result, Ok, Err}
 use Rattle.axp_access.specs.declared.Event.{Event}
 use Rattle.axp_access.specs.declared.Outcome.{Outcome}
 use Rattle.axp_access.specs.declared.Record.{Record}
@@ -10,7 +10,7 @@ use Rattle.axp_cpu.specs.declared.tables.Table.{Table}
 use Rattle.axp_cpu.specs.Actors.{Actor}
 use Rattle.axp_cpu.specs.Seats.{Seat, is_finished}
 use Rattle.axp_image.specs.Contents.{Contents}
-use Rattle.axp_model.specs.BusCalls.{memory}
+use Rattle.axp_model.specs.BusCalls.{is_touched, memory}
 use Rattle.axp_world.specs.Worlds as worlds
 use Rattle.axp_world.specs.Worlds.{World, IsPlayed, image_bytes, world}
 
@@ -88,3 +88,7 @@ steps_of m p = (seat_of m p).steps
 -- the aligned quadword of this number, as memory has it
 abbrev pub quadword_of : Seen → ℕ → ℕ
 quadword_of m q = number_at (memory (image_bytes m.image) (world_of m).calls) (q * QUADWORD_BYTES) QUADWORD_BYTES
+
+-- some turn wrote a byte of it
+abbrev pub touches : Seen → ℕ → Bool
+touches m q = is_touched q (world_of m).calls

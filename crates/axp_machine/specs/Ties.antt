@@ -1,12 +1,12 @@
 -- How the parts of a machine stand for its records.
-use Rattle.std.specs.Prelude.{◌≡◌, ℕ, ◌*◌, ◌<◌, ◌≤◌, List, length, reverse, slice_get, Some}
+use Rattle.std.specs.Prelude.{◌≡◌, ℕ, ◌*◌, ◌≤◌, List, length, reverse, slice_get, Some}
 use Rattle.std.specs.Vec.{vec_capacity}
 use Rattle.axp_access.specs.declared.Record.{Record}
 use Rattle.axp_base.specs.declared.processors.TheConstants.{MAX_BUDGET, MAX_CPUS, MIN_CPUS}
 use Rattle.axp_bus.specs.BusStands as bus
 use Rattle.axp_cpu.specs.ActorStands.{IsAt}
 use Rattle.axp_cpu.specs.declared.processors.Processor.{Processor}
-use Rattle.axp_image.specs.Contents.{Contents, IsValid}
+use Rattle.axp_image.specs.Contents.{IsValid}
 use Rattle.axp_machine.specs.declared.machine.Machine.TheInside.{Inside}
 use Rattle.axp_machine.specs.Runs.{Seen}
 use Rattle.axp_world.specs.declared.lengths.TheConstants.{EVENTS_PER_STEP}

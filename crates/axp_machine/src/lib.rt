@@ -13,3 +13,5 @@ pub use axp_regs::{REGISTERS, ZERO_REGISTER};
 pub use laws::records_are_a_run;
 pub use machine::Machine;
 
+#[cfg(test)]
+mod tests;

@@ -49,7 +49,7 @@ impl Machine {
     ghost use Rattle.axp_cpu.specs.ActorStands.{IsAt};
     ghost use Rattle.axp_lsu.specs.Within.{IsAskWithin};
     ghost use Rattle.axp_machine.specs.Playing.{granted_in};
-    ghost use Rattle.axp_machine.specs.Runs.{started, answer_of, after_event, with_record, IsRun, is_complete, actor_of, table_of, steps_of, quadword_of};
+    ghost use Rattle.axp_machine.specs.Runs.{started, answer_of, after_event, with_record, IsRun, is_complete, actor_of, table_of, steps_of, quadword_of, touches};
 
     /// A machine at the start: `cpus` processors, 2 to 8, each with a budget of steps, 1 to 32,768,
     /// over the image's memory. All room that the records, the late invalidations and the console take
@@ -157,6 +157,14 @@ impl Machine {
         ensures { result ≡ steps_of self.now (cpu_number cpu) }
     {
         self.processor(cpu).steps()
+    }
+
+    /// Whether a turn wrote a byte of the aligned quadword of this number.
+    pub fn is_touched(&self, quadword: u64) -> bool
+        requires { quadword * QUADWORD_BYTES < self.now.image.size }
+        ensures { result ≡ touches self.now quadword }
+    {
+        self.bus.is_touched(quadword)
     }
 
     /// What memory has in the aligned quadword of this number.

@@ -1,4 +1,4 @@
-use Rattle.std.proofs.Common.{◌∙◌, Option, subst, sym, ap}
+use Rattle.std.proofs.Common.{◌∙◌, Option, subst, sym}
 use Rattle.axp_base.specs.declared.processors.Cpu.{Cpu}
 use Rattle.axp_cpu.specs.Actors.{first_actor}
 use Rattle.axp_cpu.specs.ActorStands.{IsAt}

@@ -1,10 +1,10 @@
-use Rattle.std.proofs.Common.{◌≡◌, ◌≤◌, ◌<◌, false, true, arith, sym, ◌∙◌, ap, subst}
-use Rattle.std.specs.Prelude.{Ok, Err}
+use Rattle.std.proofs.Common.{◌≡◌, ◌≤◌, false, true, arith, sym, ◌∙◌, ap, subst}
+use Rattle.std.specs.Prelude.{Err}
 use Rattle.axp_base.specs.Cpus.{cpu_number}
 use Rattle.axp_bus.specs.BusStands.{Stands}
 use Rattle.axp_cpu.specs.declared.refusals.Refusal.TheVariants.{NotLegal}
 use Rattle.axp_lsu.specs.Within.{IsAskWithin}
-use Rattle.axp_world.specs.Worlds.{asked, image_bytes}
+use Rattle.axp_world.specs.Worlds.{image_bytes}
 use Rattle.axp_machine.specs.Playing.{granted_in}
 use Rattle.axp_machine.specs.Runs.{Seen, actor_of, world_of}
 use Rattle.axp_machine.proofs.GrantLemmas.{answers, granted_asked, granted_past, granted_refused}

@@ -1,4 +1,4 @@
-use Rattle.std.proofs.Common.{◌*◌, [], refl, sym, ◌∙◌, subst, ap}
+use Rattle.std.proofs.Common.{◌*◌, [], sym, ◌∙◌, subst, ap}
 use Rattle.axp_bus.specs.BusStands.{Stands}
 use Rattle.axp_image.specs.Contents.{Contents, IsValid}
 use Rattle.axp_machine.specs.declared.machine.Machine.TheInside.{Inside}

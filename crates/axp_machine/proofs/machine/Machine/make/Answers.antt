@@ -1,19 +1,13 @@
-use Rattle.std.proofs.Common.{◌≡◌, ◌∙◌, ◌<◌, ◌++◌, ◌∷◌, [], List, set, arith, refl, sym, ap, subst}
-use Rattle.std.proofs.Math.ListN.{length-set}
+use Rattle.std.proofs.Common.{◌≡◌, ◌∙◌, set, arith, refl, sym, ap, subst}
 use Rattle.std.specs.Prelude.{Ok}
 use Rattle.std.specs.Vec.{with_item}
-use Rattle.axp_access.specs.declared.Outcome.{Outcome}
-use Rattle.axp_access.specs.declared.Record.{Record}
 use Rattle.axp_base.specs.Cpus.{cpu_number}
-use Rattle.axp_cpu.specs.Actors.{Actor, advanced, outcome_of}
 use Rattle.axp_cpu.specs.ActorStands.{IsAt}
-use Rattle.axp_line.specs.declared.messages.Reply.{Reply}
 use Rattle.axp_lsu.specs.Within.{IsAskWithin}
-use Rattle.axp_lsu.specs.declared.asks.Ask2.{Ask2}
-use Rattle.axp_world.specs.Worlds.{image_bytes, reply_at, reply_for}
+use Rattle.axp_world.specs.Worlds.{image_bytes}
 use Rattle.axp_machine.specs.declared.machine.Machine.TheInside.{Inside}
 use Rattle.axp_machine.specs.Playing.{granted_in}
-use Rattle.axp_machine.specs.Runs.{Seen, IsRun, actor_of, answer_of, with_record, world_of}
+use Rattle.axp_machine.specs.Runs.{Seen, actor_of, world_of}
 use Rattle.axp_machine.specs.Ties.{seen}
 use Rattle.axp_machine.proofs.GrantLemmas.{IsGranted, granted_is, outcome_in}
 use Rattle.axp_machine.proofs.MakeLemmas.{Makes, answer_is, can_answer, granted_of, has_room, is_answered, makes_of, shows_after, ties_made}
