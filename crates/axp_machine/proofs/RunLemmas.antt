@@ -1,14 +1,17 @@
 -- Records and the run of their events.
-use Rattle.std.proofs.Common.{◌≡◌, ℕ, List, [], ◌∷◌, refl, ap, ◌∙◌}
+use Rattle.std.proofs.Common.{◌≡◌, ℕ, List, [], ◌∷◌, ◌++◌, refl, ap, ◌∙◌}
 use Rattle.std.specs.Prelude.{Result, Ok, Err}
 use Rattle.axp_access.specs.declared.Event.{Event}
 use Rattle.axp_access.specs.declared.Outcome.{Outcome}
 use Rattle.axp_access.specs.declared.Record.{Record}
 use Rattle.axp_cpu.specs.declared.refusals.Refusal.{Refusal}
 use Rattle.axp_image.specs.Contents.{Contents, IsValid}
+use Rattle.axp_model.specs.OrderLaws.{AreInLine}
 use Rattle.axp_model.specs.Outcomes as model
+use Rattle.axp_model.specs.Outcomes.{Intents}
 use Rattle.axp_world.specs.Worlds.{IsPlayed, image_bytes, intents}
 use Rattle.axp_world.proofs.Joined.{joined}
+use Rattle.axp_world.proofs.Wanting.{intents_in_line}
 use Rattle.axp_machine.specs.Runs.{Seen, IsRun, after_answer, after_event, answer_of, events_of, run, started, with_record}
 
 -- the machine with these records
@@ -44,3 +47,12 @@ run_is image cpus budget (e ∷ es) = event_runs (run (started image cpus budget
 
 pub run_models : (m : Seen) → IsValid m.image → IsRun m → model.IsRun (image_bytes m.image) (intents m.image m.budget) m.records
 run_models m valid is = (joined m.image m.cpus m.budget m.records valid is).run
+
+-- a run after fewer of its events
+pub run_before : (image : Contents) (cpus budget : ℕ) (more h : List Record) → IsPlayed image cpus budget (more ++ h) → IsPlayed image cpus budget h
+run_before image cpus budget [] h is = is
+run_before image cpus budget (r ∷ more) h is = run_before image cpus budget more h is.1
+
+-- what holds of every run of the memory model over accesses that lie in lines holds of the machine's
+pub of_models : (P : List Record → Type 0) → ((image : ℕ → ℕ) (intent : Intents) (h : List Record) → AreInLine intent → model.IsRun image intent h → P h) → (m : Seen) → IsValid m.image → IsRun m → P m.records
+of_models P holds m valid is = holds (image_bytes m.image) (intents m.image m.budget) m.records (intents_in_line m.image m.budget valid) (run_models m valid is)

@@ -1,10 +1,16 @@
 //! Laws of runs, each proved as the contract of a function that does nothing.
-ghost use Rattle.std.specs.Prelude.{ℕ, List, ◌≡◌};
+ghost use Rattle.std.specs.Prelude.{ℕ, List, ◌≡◌, ◌++◌};
 ghost use Rattle.axp_access.specs.declared.Event.{Event};
+ghost use Rattle.axp_access.specs.declared.Record.{Record};
 ghost use Rattle.axp_image.specs.Contents.{Contents, IsValid};
+ghost use Rattle.axp_model.specs.Causality.{IsChain};
+ghost use Rattle.axp_model.specs.LockLaws.{KeepsLocking};
+ghost use Rattle.axp_model.specs.OrderLaws.{AllPairs, IsLocated, KeepsOrder};
 ghost use Rattle.axp_model.specs.Outcomes as model;
+ghost use Rattle.axp_model.specs.Places.{Item, accesses, times};
+ghost use Rattle.axp_model.specs.StorageLaws.{KeepsStorage};
 ghost use Rattle.axp_machine.specs.Runs.{Seen, IsRun, events_of, run, started};
-ghost use Rattle.axp_world.specs.Worlds.{image_bytes, intents};
+ghost use Rattle.axp_world.specs.Worlds.{IsPlayed, image_bytes, intents};
 
 /// A machine's records are the run of their own events: the same events, in the same order, bring a
 /// machine at the start to the same records. Every list of events makes such a run, and over a valid
@@ -13,4 +19,17 @@ pub fn records_are_a_run()
     ensures again { (m : Seen) → IsRun m → run (started m.image m.cpus m.budget) (events_of m.records) ≡ m }
     ensures from_start { (image : Contents) (cpus budget : ℕ) (events : List Event) → IsRun (run (started image cpus budget) events) }
     ensures model { (m : Seen) → IsValid m.image → IsRun m → model.IsRun (image_bytes m.image) (intents m.image m.budget) m.records }
+{}
+
+/// The accesses of every run over a valid image satisfy the constraints of Alpha's shared memory, in the
+/// order of their places, and so at each of its prefixes: the issue constraint in all its cases and the
+/// write barrier (`order`), location (`located`), storage and visibility (`storage`), locking
+/// (`locking`), and no value has itself as a cause (`no_loop`).
+pub fn runs_keep_the_constraints()
+    ensures prefix { (image : Contents) (cpus budget : ℕ) (more h : List Record) → IsPlayed image cpus budget (more ++ h) → IsPlayed image cpus budget h }
+    ensures order { (m : Seen) → IsValid m.image → IsRun m → KeepsOrder m.records }
+    ensures located { (m : Seen) → IsValid m.image → IsRun m → AllPairs (IsLocated (times m.records)) (accesses m.records) }
+    ensures storage { (m : Seen) → IsValid m.image → IsRun m → KeepsStorage (image_bytes m.image) m.records }
+    ensures locking { (m : Seen) → IsValid m.image → IsRun m → KeepsLocking m.records }
+    ensures no_loop { (m : Seen) → IsValid m.image → IsRun m → (u : Item) (via : List Item) → IsChain m.records u via u → ⊥ }
 {}

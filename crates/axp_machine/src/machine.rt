@@ -184,6 +184,7 @@ impl Machine {
         ensures answer { result ≡ answer_of self.old event }
         ensures after { self.new ≡ after_event self.old event }
         ensures run { IsRun self.new }
+        ensures valid { IsValid self.new.image }
     {
         match self.grant(event) {
             Ok(ask) => Ok(self.make(event, ask)),
@@ -197,6 +198,7 @@ impl Machine {
         ensures within { IfOk result (IsAskWithin self.now.image.size) }
         ensures answer { IfErr result (λ refusal. answer_of self.now event ≡ Err refusal) }
         ensures run { IsRun self.now }
+        ensures valid { IsValid self.now.image }
     {
         if usize::from(event.cpu.number()) >= self.processors.len() {
             return Err(Refusal::NotLegal);
@@ -220,6 +222,7 @@ impl Machine {
         ensures answer { answer_of self.old event ≡ Ok result }
         ensures after { self.new ≡ with_record self.old (record { event = event; outcome = result }) }
         ensures run { IsRun self.new }
+        ensures valid { IsValid self.new.image }
     {
         let reply = answer(&mut self.bus, event.cpu, ask);
         let outcome = self.processors[usize::from(event.cpu.number())].advance(event.act, reply);
