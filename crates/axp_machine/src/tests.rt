@@ -1,3 +1,6 @@
+ghost use Rattle.std.specs.Prelude.{◌≤◌};
+ghost use Rattle.axp_base.specs.declared.processors.TheConstants.{MAX_BUDGET};
+
 use super::*;
 use axp_access::{Access, Act, Event, Kind, Outcome, Place};
 use axp_base::{Bank, Cpu, Line, NoMemory, QUADWORD_BYTES};
@@ -5,18 +8,31 @@ use axp_image::read_image;
 use std::alloc::Global;
 use std::test::Fail;
 
-/// Four pages of memory, with one segment of five words at 0x2000, where every processor starts.
-const HEAD: [u8; 56] = [
+/// Four pages of memory, with one segment at 0x2000, where every processor starts; its length follows.
+const HEAD: [u8; 48] = [
     0x41, 0x58, 0x50, 0x49, 1, 0, 1, 0, // magic, version, count
     0, 0x80, 0, 0, 0, 0, 0, 0, // size
     0, 0x20, 0, 0, 0, 0xFC, 0xFF, 0xFF, // entry
     0, 0x40, 0, 0, 0, 0xFC, 0xFF, 0xFF, // stack
     0, 0, 0, 0, 0, 0, 0, 0, // table
-    0, 0x20, 0, 0, 0, 0, 0, 0, 20, 0, 0, 0, 0, 0, 0, 0, // the segment's record
+    0, 0x20, 0, 0, 0, 0, 0, 0, // the segment's address
 ];
 
 /// LDA R1, 1(R31); STQ R1, 0(R30); LDQ R2, 0(R30); BIS R31, R2, R3; halt.
 const STORE_AND_LOAD: [u32; 5] = [0x203F_0001, 0xB43E_0000, 0xA45E_0000, 0x47E2_0403, 0];
+
+/// SLL R16, 5, R1; ADDQ R30, R1, R2; BIS R31, 1, R3; STQ R3, 0(R2); XOR R1, 32, R1;
+/// ADDQ R30, R1, R4; LDQ R5, 0(R4); halt: each processor stores 1 to its own line and loads the other's.
+const STORE_BUFFERING: [u32; 8] = [
+    0x4A00_B721,
+    0x43C1_0402,
+    0x47E0_3403,
+    0xB462_0000,
+    0x4424_1801,
+    0x43C1_0404,
+    0xA4A4_0000,
+    0,
+];
 
 /// The line of the program, and that of the quadword at address 0x4000, where the stack starts.
 const CODE: u64 = 0x2000;
@@ -25,16 +41,20 @@ const STACK: u64 = 0x4000;
 
 const STACK_QUADWORD: u64 = 0x800;
 
-/// Two processors over the program, each with 7 steps; `None` where the file is no image.
-fn load(alloc: Global) -> Result<Option<Machine>, NoMemory> {
+/// Two processors over a program, each with a budget of steps; `None` where the file is no image.
+fn load(alloc: Global, words: &[u32], budget: u32) -> Result<Option<Machine>, NoMemory>
+    requires least { 1 ≤ budget }
+    requires most { budget ≤ MAX_BUDGET }
+{
     let mut file = Vec::from_slice(alloc, &HEAD)?;
-    for word in STORE_AND_LOAD {
+    file.extend_from_slice(&(words.len() as u64).wrapping_mul(4).to_le_bytes())?;
+    for word in words {
         file.extend_from_slice(&word.to_le_bytes())?;
     }
     let Some(image) = read_image(alloc, file.as_slice())? else {
         return Ok(None);
     };
-    Ok(Some(Machine::load(alloc, &image, 2, 7)?))
+    Ok(Some(Machine::load(alloc, &image, 2, budget)?))
 }
 
 /// An access of a processor.
@@ -67,7 +87,7 @@ fn both_processors_read_their_own_store(rt: HostRuntime) -> Result<(), Fail> {
     let a = Cpu::new(0).ok_or("0 is a processor's number")?;
     let b = Cpu::new(1).ok_or("1 is a processor's number")?;
     let none = Cpu::new(2).ok_or("2 is a processor's number")?;
-    let loaded = load(rt.alloc()).ok().ok_or("memory")?;
+    let loaded = load(rt.alloc(), &STORE_AND_LOAD, 7).ok().ok_or("memory")?;
     let mut machine = loaded.ok_or("the file is an image")?;
     let code = Line::of(CODE);
     let stack = Line::of(STACK);
@@ -168,7 +188,7 @@ fn both_processors_read_their_own_store(rt: HostRuntime) -> Result<(), Fail> {
 fn is_complete_once_all_is_written(rt: HostRuntime) -> Result<(), Fail> {
     let a = Cpu::new(0).ok_or("0 is a processor's number")?;
     let b = Cpu::new(1).ok_or("1 is a processor's number")?;
-    let loaded = load(rt.alloc()).ok().ok_or("memory")?;
+    let loaded = load(rt.alloc(), &STORE_AND_LOAD, 7).ok().ok_or("memory")?;
     let mut machine = loaded.ok_or("the file is an image")?;
     for cpu in [a, b] {
         for act in [
@@ -192,5 +212,99 @@ fn is_complete_once_all_is_written(rt: HostRuntime) -> Result<(), Fail> {
     assert!(rt; machine.event(Event { cpu: a, act: drain }).is_ok());
     assert!(rt; machine.complete());
     assert_eq!(rt; machine.events(), 20);
+    Ok(())
+}
+
+#[test]
+fn both_processors_read_what_was_there_before(rt: HostRuntime) -> Result<(), Fail> {
+    let a = Cpu::new(0).ok_or("0 is a processor's number")?;
+    let b = Cpu::new(1).ok_or("1 is a processor's number")?;
+    let loaded = load(rt.alloc(), &STORE_BUFFERING, 10).ok().ok_or("memory")?;
+    let mut machine = loaded.ok_or("the file is an image")?;
+    for (cpu, own, other) in [(a, STACK, STACK + 32), (b, STACK + 32, STACK)] {
+        let filled = Ok(Outcome::Filled {
+            bank: Bank::Code,
+            line: Line::of(CODE),
+            turn: 0,
+        });
+        assert_eq!(rt;
+            machine.event(Event {
+                cpu,
+                act: Act::Fill
+            }),
+            filled
+        );
+        for _ in 0..4 {
+            assert!(rt;
+                machine
+                    .event(Event {
+                        cpu,
+                        act: Act::Step
+                    })
+                    .is_ok()
+            );
+        }
+        let write = access(cpu, Kind::Write, own, 8, 1, Place::Entry(1));
+        assert_eq!(rt;
+            machine.event(Event {
+                cpu,
+                act: Act::Step
+            }),
+            write
+        );
+        for _ in 0..3 {
+            assert!(rt;
+                machine
+                    .event(Event {
+                        cpu,
+                        act: Act::Step
+                    })
+                    .is_ok()
+            );
+        }
+        assert!(rt;
+            machine
+                .event(Event {
+                    cpu,
+                    act: Act::Fill
+                })
+                .is_ok()
+        );
+        let read = access(cpu, Kind::Read, other, 8, 0, Place::At(0));
+        assert_eq!(rt;
+            machine.event(Event {
+                cpu,
+                act: Act::Step
+            }),
+            read
+        );
+        assert!(rt;
+            machine
+                .event(Event {
+                    cpu,
+                    act: Act::Step
+                })
+                .is_ok()
+        );
+    }
+    for (cpu, own, turn) in [(b, STACK + 32, 1), (a, STACK, 2)] {
+        let drained = Ok(Outcome::Drained {
+            entry: 1,
+            line: Line::of(own),
+            turn,
+        });
+        let drain = Act::Drain(0);
+        assert_eq!(rt; machine.event(Event { cpu, act: drain }), drained);
+    }
+    assert!(rt; machine.complete());
+    for cpu in [a, b] {
+        assert!(rt; cpu.number() < machine.cpus());
+        assert!(rt; REGISTERS > 5);
+        assert_eq!(rt; machine.register(cpu, 5), 0);
+    }
+    for quadword in [STACK_QUADWORD, STACK_QUADWORD + 4] {
+        assert!(rt; quadword * QUADWORD_BYTES < machine.memory_size());
+        assert_eq!(rt; machine.quadword(quadword), 1);
+    }
     Ok(())
 }
