@@ -6,12 +6,19 @@ use Rattle.axp_access.specs.declared.Outcome.{Outcome}
 use Rattle.axp_access.specs.declared.Record.{Record}
 use Rattle.axp_cpu.specs.declared.refusals.Refusal.{Refusal}
 use Rattle.axp_image.specs.Contents.{Contents, IsValid}
+use Rattle.axp_model.proofs.Caused.{no_loop}
+use Rattle.axp_model.proofs.Fits.{run_fits}
+use Rattle.axp_model.proofs.Guarded.{keeps_locking}
+use Rattle.axp_model.proofs.Located.{run_located}
+use Rattle.axp_model.proofs.Steps.{keeps_order}
+use Rattle.axp_model.proofs.Storages.{run_storage}
 use Rattle.axp_model.specs.OrderLaws.{AreInLine}
 use Rattle.axp_model.specs.Outcomes as model
 use Rattle.axp_model.specs.Outcomes.{Intents}
 use Rattle.axp_world.specs.Worlds.{IsPlayed, image_bytes, intents}
 use Rattle.axp_world.proofs.Joined.{joined}
 use Rattle.axp_world.proofs.Wanting.{intents_in_line}
+use Rattle.axp_machine.specs.Constraints.{KeepsConstraints}
 use Rattle.axp_machine.specs.Runs.{Seen, IsRun, after_answer, after_event, answer_of, events_of, run, started, with_record}
 
 -- the machine with these records
@@ -53,6 +60,18 @@ pub run_before : (image : Contents) (cpus budget : ℕ) (more h : List Record) �
 run_before image cpus budget [] h is = is
 run_before image cpus budget (r ∷ more) h is = run_before image cpus budget more h is.1
 
--- what holds of every run of the memory model over accesses that lie in lines holds of the machine's
-pub of_models : (P : List Record → Type 0) → ((image : ℕ → ℕ) (intent : Intents) (h : List Record) → AreInLine intent → model.IsRun image intent h → P h) → (m : Seen) → IsValid m.image → IsRun m → P m.records
-of_models P holds m valid is = holds (image_bytes m.image) (intents m.image m.budget) m.records (intents_in_line m.image m.budget valid) (run_models m valid is)
+-- a run keeps the constraints of shared memory
+pub keeps_constraints : (m : Seen) → IsValid m.image → IsRun m → KeepsConstraints m
+keeps_constraints m valid is =
+    let image : ℕ → ℕ = image_bytes m.image in
+    let intent : Intents = intents m.image m.budget in
+    let inside : AreInLine intent = intents_in_line m.image m.budget valid in
+    let run : model.IsRun image intent m.records = run_models m valid is in
+    record {
+      model = run;
+      order = keeps_order image intent m.records inside run;
+      located = run_located image intent m.records inside run;
+      storage = run_storage image intent m.records inside run;
+      locking = keeps_locking m.records (run_fits image intent m.records inside run);
+      no_loop = no_loop image intent m.records inside run;
+    }

@@ -3,12 +3,8 @@ ghost use Rattle.std.specs.Prelude.{ℕ, List, ◌≡◌, ◌++◌};
 ghost use Rattle.axp_access.specs.declared.Event.{Event};
 ghost use Rattle.axp_access.specs.declared.Record.{Record};
 ghost use Rattle.axp_image.specs.Contents.{Contents, IsValid};
-ghost use Rattle.axp_model.specs.Causality.{IsChain};
-ghost use Rattle.axp_model.specs.LockLaws.{KeepsLocking};
-ghost use Rattle.axp_model.specs.OrderLaws.{AllPairs, IsLocated, KeepsOrder};
 ghost use Rattle.axp_model.specs.Outcomes as model;
-ghost use Rattle.axp_model.specs.Places.{Item, accesses, times};
-ghost use Rattle.axp_model.specs.StorageLaws.{KeepsStorage};
+ghost use Rattle.axp_machine.specs.Constraints.{KeepsConstraints};
 ghost use Rattle.axp_machine.specs.Runs.{Seen, IsRun, events_of, run, started};
 ghost use Rattle.axp_world.specs.Worlds.{IsPlayed, image_bytes, intents};
 
@@ -21,15 +17,11 @@ pub fn records_are_a_run()
     ensures model { (m : Seen) → IsValid m.image → IsRun m → model.IsRun (image_bytes m.image) (intents m.image m.budget) m.records }
 {}
 
-/// The accesses of every run over a valid image satisfy the constraints of Alpha's shared memory, in the
-/// order of their places, and so at each of its prefixes: the issue constraint in all its cases and the
-/// write barrier (`order`), location (`located`), storage and visibility (`storage`), locking
-/// (`locking`), and no value has itself as a cause (`no_loop`).
+/// Every run over a valid image keeps the constraints of Alpha's shared memory, in the order of the
+/// printed places: it is a run of the memory model, so its accesses satisfy the issue, location,
+/// visibility, storage and locking constraints and have no causal loop. A run after fewer of its events
+/// is a run, so the same holds at every prefix.
 pub fn runs_keep_the_constraints()
     ensures prefix { (image : Contents) (cpus budget : ℕ) (more h : List Record) → IsPlayed image cpus budget (more ++ h) → IsPlayed image cpus budget h }
-    ensures order { (m : Seen) → IsValid m.image → IsRun m → KeepsOrder m.records }
-    ensures located { (m : Seen) → IsValid m.image → IsRun m → AllPairs (IsLocated (times m.records)) (accesses m.records) }
-    ensures storage { (m : Seen) → IsValid m.image → IsRun m → KeepsStorage (image_bytes m.image) m.records }
-    ensures locking { (m : Seen) → IsValid m.image → IsRun m → KeepsLocking m.records }
-    ensures no_loop { (m : Seen) → IsValid m.image → IsRun m → (u : Item) (via : List Item) → IsChain m.records u via u → ⊥ }
+    ensures constraints { (m : Seen) → IsValid m.image → IsRun m → KeepsConstraints m }
 {}

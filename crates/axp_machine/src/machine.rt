@@ -48,6 +48,7 @@ impl Machine {
     ghost use Rattle.axp_regs.specs.States.{pc_of, register};
     ghost use Rattle.axp_cpu.specs.ActorStands.{IsAt};
     ghost use Rattle.axp_lsu.specs.Within.{IsAskWithin};
+    ghost use Rattle.axp_machine.specs.Constraints.{KeepsConstraints};
     ghost use Rattle.axp_machine.specs.Playing.{granted_in};
     ghost use Rattle.axp_machine.specs.Runs.{started, answer_of, after_event, with_record, IsRun, is_complete, actor_of, table_of, steps_of, quadword_of, touches};
 
@@ -179,12 +180,13 @@ impl Machine {
     /// where its processor is not one of the machine's, or the event is not legal after the records so
     /// far; [`Refusal::NotBuilt`] exactly where it is legal and comes to what is not built. A refused
     /// event leaves the machine as it was.
-    #[tactic(auto, unfolding(crate::specs::Runs::after_event))]
+    /// The records are always a run, so they keep the constraints of shared memory.
+    #[tactic(auto, unfolding(crate::specs::Runs::after_event), using(crate::proofs::RunLemmas::keeps_constraints))]
     pub fn event(&mut self, event: Event) -> Result<Outcome, Refusal>
         ensures answer { result ≡ answer_of self.old event }
         ensures after { self.new ≡ after_event self.old event }
         ensures run { IsRun self.new }
-        ensures valid { IsValid self.new.image }
+        ensures constraints { KeepsConstraints self.new }
     {
         match self.grant(event) {
             Ok(ask) => Ok(self.make(event, ask)),

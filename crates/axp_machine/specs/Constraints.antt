@@ -1,0 +1,25 @@
+-- The constraints of Alpha's shared memory on the accesses of a machine's records, in the order of their
+-- places.
+use Rattle.std.specs.Prelude.{List}
+use Rattle.axp_model.specs.Causality.{IsChain}
+use Rattle.axp_model.specs.LockLaws.{KeepsLocking}
+use Rattle.axp_model.specs.OrderLaws.{AllPairs, IsLocated, KeepsOrder}
+use Rattle.axp_model.specs.Outcomes as model
+use Rattle.axp_model.specs.Places.{Item, accesses, times}
+use Rattle.axp_model.specs.StorageLaws.{KeepsStorage}
+use Rattle.axp_world.specs.Worlds.{image_bytes, intents}
+use Rattle.axp_machine.specs.Runs.{Seen}
+
+pub record KeepsConstraints (m : Seen) : Type 0 where
+  -- each event was legal by the memory model, and has its outcome
+  pub model : model.IsRun (image_bytes m.image) (intents m.image m.budget) m.records
+  -- the issue constraint in all its cases, and the write barrier
+  pub order : KeepsOrder m.records
+  -- location: of two accesses that overlap and of which one is a memory write, one is before the other
+  pub located : AllPairs (IsLocated (times m.records)) (accesses m.records)
+  -- storage and visibility: the source of each byte that is read
+  pub storage : KeepsStorage (image_bytes m.image) m.records
+  -- the constraint on load-locked and store-conditional
+  pub locking : KeepsLocking m.records
+  -- no value has itself as a cause
+  pub no_loop : (u : Item) (via : List Item) → IsChain m.records u via u → ⊥
