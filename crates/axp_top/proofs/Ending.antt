@@ -2,7 +2,9 @@
 use Rattle.std.proofs.Common.{◌≡◌, ℕ, ◌&&◌, Bool, true, false, cond, List, [], ◌∷◌, length, Option, Some, None, refl, sym, ap, ◌∙◌, subst}
 use Rattle.std.specs.Prelude.{◌==◌, if◌then◌else◌}
 use Rattle.axp_image.specs.Contents.{Contents}
-use Rattle.axp_plain.specs.Runs.{Seen, started, is_complete}
+use Rattle.axp_cpu.specs.declared.refusals.Refusal.{Refusal}
+use Rattle.axp_cpu.specs.declared.refusals.Refusal.TheVariants.{NotLegal, NotBuilt}
+use Rattle.axp_machine.specs.Runs.{Seen, started, is_complete}
 use Rattle.axp_trace.specs.declared.reading.Header.{Header}
 use Rattle.axp_trace.specs.Reading.{header_of}
 use Rattle.axp_io.proofs.Fronts.{front_none}
@@ -11,13 +13,15 @@ use Rattle.axp_top.specs.declared.printing.Stop.TheVariants as stop
 use Rattle.axp_top.specs.declared.status.Status.{Status}
 use Rattle.axp_top.specs.declared.status.Status.TheVariants as status
 use Rattle.axp_top.specs.Printing.{Printed, Stopped, Ends, status_of_stop}
-use Rattle.axp_top.specs.Replays.{Answer, answer_of_replay, replayed, answer_of_lines, not_built_at_all}
+use Rattle.axp_top.specs.Replays.{Answer, answer_of_replay, ending_of, replayed, answer_of_lines, not_built_at_all}
 
 -- a status in which the work ends with its text printed
 abbrev IsEnd : Status → Type 0
 IsEnd status.Done = Unit {0}
 IsEnd status.ReadFault = Unit {0}
 IsEnd status.WriteFault = ⊥
+IsEnd (status.NotLegal n) = Unit {0}
+IsEnd (status.Incomplete n) = Unit {0}
 IsEnd status.Memory = ⊥
 IsEnd (status.NotBuilt n) = Unit {0}
 
@@ -25,6 +29,8 @@ ends_as : (b n : Option (List ℕ)) (c c' : ℕ) (t : List ℕ) (s : Status) →
 ends_as b n c c' t status.Done is h = (refl, h.0, h.1)
 ends_as b n c c' t status.ReadFault is h = (refl, h.0, h.1)
 ends_as b n c c' t status.WriteFault is h = absurd is
+ends_as b n c c' t (status.NotLegal k) is h = (refl, h.0, h.1)
+ends_as b n c c' t (status.Incomplete k) is h = (refl, h.0, h.1)
 ends_as b n c c' t status.Memory is h = absurd is
 ends_as b n c c' t (status.NotBuilt k) is h = (refl, h.0, h.1)
 
@@ -32,15 +38,20 @@ pub ends_stopped : (b n : Option (List ℕ)) (c c' : ℕ) (a : Answer) (s : Stop
 ends_stopped b n c c' a stop.WriteFault h = h
 ends_stopped b n c c' a stop.Memory h = h
 
-ending_is : (done : Bool) (k : ℕ) (t u : List ℕ) → IsEnd (let e : Answer = cond done (status.Done, t) (status.NotBuilt k, u) in e.0)
-ending_is true k t u = tt
-ending_is false k t u = tt
+whole_is : (done : Bool) (k : ℕ) (t u : List ℕ) → IsEnd (let e : Answer = cond done (status.Done, t) (status.Incomplete k, u) in e.0)
+whole_is true k t u = tt
+whole_is false k t u = tt
+
+ending_is : (m : Seen) (refused : Option Refusal) → IsEnd (ending_of m refused).0
+ending_is m None = whole_is (is_complete m) _ _ _
+ending_is m (Some NotLegal) = tt
+ending_is m (Some NotBuilt) = tt
 
 -- the run of a list ended
 pub run_ends : (b n : Option (List ℕ)) (c c' : ℕ) (m : Seen) (ls : List (Option (List ℕ))) (s : Status) → s ≡ (answer_of_replay m ls).0 → Printed b n c c' (answer_of_replay m ls).1 → Ends b n c c' (answer_of_replay m ls) s
 run_ends b n c c' m ls s is h =
     subst (λ x. Ends b n c c' (answer_of_replay m ls) x) (sym is)
-    (ends_as b n c c' (answer_of_replay m ls).1 (answer_of_replay m ls).0 (ending_is ((replayed m ls).1 && is_complete (replayed m ls).0) _ _ _) h)
+    (ends_as b n c c' (answer_of_replay m ls).1 (answer_of_replay m ls).0 (ending_is (replayed m ls).0 (replayed m ls).1) h)
 
 -- nothing was printed for want of memory
 pub ends_memory : (b : Option (List ℕ)) (c : ℕ) (a : Answer) → Ends b b c c a status.Memory

@@ -3,3 +3,4 @@ pub mod Replaying
 pub mod Ending
 pub mod Settling
 pub mod Wholes
+pub mod Lawful

@@ -4,7 +4,7 @@ use Rattle.std.specs.Prelude.{IsErrAnd}
 use Rattle.std.proofs.KnownBytes.{Appends-nil, Appends-trans}
 use Rattle.axp_io.specs.Causes.{Rose}
 use Rattle.axp_io.proofs.Fronts.{front_longer, front_after}
-use Rattle.axp_plain.specs.Runs.{Seen, table_of, steps_of}
+use Rattle.axp_machine.specs.Runs.{Seen, table_of, steps_of}
 use Rattle.axp_regs.specs.States.{pc_of}
 use Rattle.axp_regs.specs.declared.states.TheConstants.{ZERO_REGISTER}
 use Rattle.axp_base.specs.declared.parts.TheConstants.{QUADWORD_BYTES}

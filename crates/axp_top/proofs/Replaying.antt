@@ -4,8 +4,9 @@ use Rattle.std.specs.Prelude.{IsErrAnd, IfOk, ◌==◌, if◌then◌else◌}
 use Rattle.axp_access.specs.declared.Event.{Event}
 use Rattle.axp_access.specs.declared.Outcome.{Outcome}
 use Rattle.axp_access.specs.declared.Record.{Record}
-use Rattle.axp_plain.specs.declared.machine.NotBuilt.{NotBuilt}
-use Rattle.axp_plain.specs.Runs.{Seen, outcome_of, answer_of, after_event, with_record}
+use Rattle.axp_cpu.specs.declared.refusals.Refusal.{Refusal}
+use Rattle.axp_cpu.specs.declared.refusals.Refusal.TheVariants.{NotBuilt}
+use Rattle.axp_machine.specs.Runs.{Seen, answer_of, after_event, with_record}
 use Rattle.axp_trace.specs.Lines.{with_feed, line_text, trace_header}
 use Rattle.axp_trace.specs.Reading.{event_of}
 use Rattle.axp_top.specs.declared.status.Status.{Status}
@@ -15,62 +16,52 @@ use Rattle.axp_top.specs.Replays.{event_in, record_of, replayed, front_text, end
 use Rattle.axp_top.specs.Texts.{record_text, records_text, header_text, lines}
 use Rattle.axp_top.proofs.Printings.{printed_none, printed_then, prints_then, stopped_then, stopped_longer}
 
-refused_by : (o : Option Outcome) (f : NotBuilt) → Err f ≡ answer_of o → o ≡ None
-refused_by None f h = refl
-refused_by (Some o) f h = cc
-
-done_by : (o : Option Outcome) (given : Outcome) → Ok given ≡ answer_of o → o ≡ Some given
-done_by None given h = cc
-done_by (Some o) given h = cc
-
-unchanged : (m : Seen) (e : Event) → outcome_of m e ≡ None → after_event m e ≡ m
+unchanged : (m : Seen) (e : Event) (refusal : Refusal) → answer_of m e ≡ Err refusal → after_event m e ≡ m
 unfolding after_event
-unchanged m e none = rw none refl
+unchanged m e refusal is = rw is refl
 
-longer : (m : Seen) (e : Event) (o : Outcome) → outcome_of m e ≡ Some o → after_event m e ≡ with_record m (record { event = e; outcome = o })
+longer : (m : Seen) (e : Event) (o : Outcome) → answer_of m e ≡ Ok o → after_event m e ≡ with_record m (record { event = e; outcome = o })
 unfolding after_event
-longer m e o some = rw some refl
+longer m e o is = rw is refl
 
 -- the event of a line was refused
-pub event_refused : (cpus : ℕ) (m m' : Seen) (line : List ℕ) (e : Event) (f : NotBuilt) (b : Option (List ℕ)) (c : ℕ) → cpus ≡ m.cpus → Some e ≡ event_of cpus line → Err f ≡ answer_of (outcome_of m e) → m' ≡ after_event m e
-    → PrintsEvent b b c c m m' (record_of m (event_of m.cpus line)) (Ok false)
-event_refused cpus m m' line e f b c count is refuses after =
-    let none = refused_by (outcome_of m e) f refuses in
+pub event_refused : (cpus : ℕ) (m m' : Seen) (line : List ℕ) (e : Event) (refusal : Refusal) (b : Option (List ℕ)) (c : ℕ) → cpus ≡ m.cpus → Some e ≡ event_of cpus line → Err refusal ≡ answer_of m e → m' ≡ after_event m e
+    → PrintsEvent b b c c m m' (record_of m (event_of m.cpus line)) (Ok (Some refusal))
+event_refused cpus m m' line e refusal b c count is refuses after =
     let read : event_of m.cpus line ≡ Some e = subst (λ k. event_of k line ≡ Some e) count (sym is) in
-    rw (read, none) (refl, after ∙ unchanged m e none, printed_none b c)
+    rw (read, sym refuses) (refl, after ∙ unchanged m e refusal (sym refuses), printed_none b c)
 
 -- the event of a line was done, and its line printed
-pub event_done : (cpus : ℕ) (m m' : Seen) (line items : List ℕ) (e : Event) (o : Outcome) (b n : Option (List ℕ)) (c c' : ℕ) → cpus ≡ m.cpus → Some e ≡ event_of cpus line → Ok o ≡ answer_of (outcome_of m e) → m' ≡ after_event m e
-    → items ≡ line_text e o → Printed b n c c' (with_feed items) → PrintsEvent b n c c' m m' (record_of m (event_of m.cpus line)) (Ok true)
+pub event_done : (cpus : ℕ) (m m' : Seen) (line items : List ℕ) (e : Event) (o : Outcome) (b n : Option (List ℕ)) (c c' : ℕ) → cpus ≡ m.cpus → Some e ≡ event_of cpus line → Ok o ≡ answer_of m e → m' ≡ after_event m e
+    → items ≡ line_text e o → Printed b n c c' (with_feed items) → PrintsEvent b n c c' m m' (record_of m (event_of m.cpus line)) (Ok None)
 event_done cpus m m' line items e o b n c c' count is gives after text prints =
-    let some = done_by (outcome_of m e) o gives in
     let read : event_of m.cpus line ≡ Some e = subst (λ k. event_of k line ≡ Some e) count (sym is) in
-    rw (read, some) (refl, after ∙ longer m e o some, subst (λ t. Printed b n c c' (with_feed t)) text prints)
+    rw (read, sym gives) (refl, after ∙ longer m e o (sym gives), subst (λ t. Printed b n c c' (with_feed t)) text prints)
 
 -- ---- the front of a list
 
 abbrev Line : Type 0
 Line = Option (List ℕ)
 
-replayed_some : (m : Seen) (l : Line) (ls : List Line) (r : Record) → record_of m (event_in m.cpus l) ≡ Some r → replayed m (l ∷ ls) ≡ replayed (with_record m r) ls
+replayed_some : (m : Seen) (l : Line) (ls : List Line) (r : Record) → record_of m (event_in m.cpus l) ≡ Ok r → replayed m (l ∷ ls) ≡ replayed (with_record m r) ls
 unfolding replayed
 replayed_some m l ls r is = rw is refl
 
-replayed_none : (m : Seen) (l : Line) (ls : List Line) → record_of m (event_in m.cpus l) ≡ None → replayed m (l ∷ ls) ≡ (m, false)
+replayed_none : (m : Seen) (l : Line) (ls : List Line) (f : Refusal) → record_of m (event_in m.cpus l) ≡ Err f → replayed m (l ∷ ls) ≡ (m, Some f)
 unfolding replayed
-replayed_none m l ls is = rw is refl
+replayed_none m l ls f is = rw is refl
 
-replayed_end : (m : Seen) → replayed m [] ≡ (m, true)
+replayed_end : (m : Seen) → replayed m [] ≡ (m, None)
 unfolding replayed
 replayed_end m = refl
 
-front_some : (m : Seen) (l : Line) (ls : List Line) (r : Record) → record_of m (event_in m.cpus l) ≡ Some r → front_text m (l ∷ ls) ≡ record_text r ++ front_text (with_record m r) ls
+front_some : (m : Seen) (l : Line) (ls : List Line) (r : Record) → record_of m (event_in m.cpus l) ≡ Ok r → front_text m (l ∷ ls) ≡ record_text r ++ front_text (with_record m r) ls
 unfolding front_text
 front_some m l ls r is = rw is refl
 
-front_none : (m : Seen) (l : Line) (ls : List Line) → record_of m (event_in m.cpus l) ≡ None → front_text m (l ∷ ls) ≡ []
+front_none : (m : Seen) (l : Line) (ls : List Line) (f : Refusal) → record_of m (event_in m.cpus l) ≡ Err f → front_text m (l ∷ ls) ≡ []
 unfolding front_text
-front_none m l ls is = rw is refl
+front_none m l ls f is = rw is refl
 
 front_end : (m : Seen) → front_text m [] ≡ []
 unfolding front_text
@@ -87,10 +78,10 @@ pub comes_first : (b : Option (List ℕ)) (c : ℕ) (m : Seen) (ls : List Line) 
 comes_first b c m ls = record { done = []; printed = printed_none b c; text = refl; ends = refl }
 
 -- one event more
-pub comes_more : (b n n' : Option (List ℕ)) (c c' c'' : ℕ) (first m m' : Seen) (all ls : List Line) (l : Line) (r : Option Record) → record_of m (event_in m.cpus l) ≡ r → Comes b n c c' first m all (l ∷ ls) → PrintsEvent n n' c' c'' m m' r (Ok true)
+pub comes_more : (b n n' : Option (List ℕ)) (c c' c'' : ℕ) (first m m' : Seen) (all ls : List Line) (l : Line) (r : Result Record Refusal) → record_of m (event_in m.cpus l) ≡ r → Comes b n c c' first m all (l ∷ ls) → PrintsEvent n n' c' c'' m m' r (Ok None)
     → Comes b n' c c'' first m' all ls
-comes_more b n n' c c' c'' first m m' all ls l None is comes does = cc
-comes_more b n n' c c' c'' first m m' all ls l (Some r) is comes does =
+comes_more b n n' c c' c'' first m m' all ls l (Err f) is comes does = cc
+comes_more b n n' c c' c'' first m m' all ls l (Ok r) is comes does =
     let more : Comes b n' c c'' first (with_record m r) all ls = record {
       done = comes.done ++ record_text r;
       printed = printed_then b n n' c c' c'' comes.done (record_text r) comes.printed does.2;
@@ -99,38 +90,44 @@ comes_more b n n' c c' c'' first m m' all ls l (Some r) is comes does =
     } in
     subst (λ (s : Seen). Comes b n' c c'' first s all ls) (sym does.1) more
 
--- the list goes on with what is not built
-pub comes_to_none : (b n n' : Option (List ℕ)) (c c' c'' : ℕ) (first m m' : Seen) (all ls : List Line) (l : Line) (r : Option Record) → record_of m (event_in m.cpus l) ≡ r → Comes b n c c' first m all (l ∷ ls) → PrintsEvent n n' c' c'' m m' r (Ok false)
-    → PrintsEvents b n' c c'' first m' all (Ok false)
-comes_to_none b n n' c c' c'' first m m' all ls l None is comes does = (
-  subst (Printed b n' c c'') (ap (λ t. comes.done ++ t) (sym (front_none m l ls is)) ∙ comes.text) (printed_then b n n' c c' c'' comes.done [] comes.printed does.2),
-  sym comes.ends ∙ replayed_none m l ls is ∙ ap (λ (s : Seen). (s, false)) (sym does.1),
+replayed_as : (m m' : Seen) (x f : Refusal) (e : Seen × Option Refusal) → e ≡ (m, Some x) → m' ≡ m → Some f ≡ Some x → e ≡ (m', Some f)
+replayed_as m m' x f e was same is = rw (same, is) was
+
+-- the list goes on with a line that is refused
+pub comes_to_none : (b n n' : Option (List ℕ)) (c c' c'' : ℕ) (first m m' : Seen) (all ls : List Line) (l : Line) (r : Result Record Refusal) (f : Refusal) → record_of m (event_in m.cpus l) ≡ r → Comes b n c c' first m all (l ∷ ls) → PrintsEvent n n' c' c'' m m' r (Ok (Some f))
+    → PrintsEvents b n' c c'' first m' all (Ok (Some f))
+comes_to_none b n n' c c' c'' first m m' all ls l (Err x) f is comes does = (
+  subst (Printed b n' c c'') (ap (λ t. comes.done ++ t) (sym (front_none m l ls x is)) ∙ comes.text) (printed_then b n n' c c' c'' comes.done [] comes.printed does.2),
+  replayed_as m m' x f (replayed first all) (sym comes.ends ∙ replayed_none m l ls x is) does.1 does.0,
 )
-comes_to_none b n n' c c' c'' first m m' all ls l (Some r) is comes does = cc
+comes_to_none b n n' c c' c'' first m m' all ls l (Ok r) f is comes does = cc
 
 -- the print of an event stopped
-pub comes_to_stop : (b n n' : Option (List ℕ)) (c c' c'' : ℕ) (first m m' : Seen) (all ls : List Line) (l : Line) (r : Option Record) (s : Stop) → record_of m (event_in m.cpus l) ≡ r → Comes b n c c' first m all (l ∷ ls) → PrintsEvent n n' c' c'' m m' r (Err s)
+pub comes_to_stop : (b n n' : Option (List ℕ)) (c c' c'' : ℕ) (first m m' : Seen) (all ls : List Line) (l : Line) (r : Result Record Refusal) (s : Stop) → record_of m (event_in m.cpus l) ≡ r → Comes b n c c' first m all (l ∷ ls) → PrintsEvent n n' c' c'' m m' r (Err s)
     → Stopped b n' c c'' (front_text first all) s
-comes_to_stop b n n' c c' c'' first m m' all ls l None s is comes does = absurd does
-comes_to_stop b n n' c c' c'' first m m' all ls l (Some r) s is comes does =
+comes_to_stop b n n' c c' c'' first m m' all ls l (Err f) s is comes does = absurd does
+comes_to_stop b n n' c c' c'' first m m' all ls l (Ok r) s is comes does =
     subst (λ t. Stopped b n' c c'' t s) (ap (λ t. comes.done ++ t) (sym (front_some m l ls r is)) ∙ comes.text)
     (stopped_then b n n' c c' c'' comes.done (record_text r ++ front_text (with_record m r) ls) s comes.printed
     (stopped_longer n n' c' c'' (record_text r) (front_text (with_record m r) ls) s does))
 
--- the list ends, whole or within a line
-pub comes_to_end : (b n : Option (List ℕ)) (c c' : ℕ) (first m : Seen) (all ls : List Line) (empty : Bool) → ls ≡ cond empty [] (None ∷ []) → Comes b n c c' first m all ls → PrintsEvents b n c c' first m all (Ok empty)
-comes_to_end b n c c' first m all ls true is comes =
+-- the list ends
+pub comes_to_end : (b n : Option (List ℕ)) (c c' : ℕ) (first m : Seen) (all ls : List Line) → ls ≡ [] → Comes b n c c' first m all ls → PrintsEvents b n c c' first m all (Ok None)
+comes_to_end b n c c' first m all ls is comes =
     let here = subst (λ (xs : List Line). Comes b n c c' first m all xs) is comes in
     (subst (Printed b n c c') (sym (append-nil here.done) ∙ ap (λ t. here.done ++ t) (sym (front_end m)) ∙ here.text) here.printed, sym here.ends ∙ replayed_end m)
-comes_to_end b n c c' first m all ls false is comes =
+
+-- the list ends within a line
+pub comes_to_part : (b n : Option (List ℕ)) (c c' : ℕ) (first m : Seen) (all ls : List Line) → ls ≡ None ∷ [] → Comes b n c c' first m all ls → PrintsEvents b n c c' first m all (Ok (Some NotBuilt))
+comes_to_part b n c c' first m all ls is comes =
     let here = subst (λ (xs : List Line). Comes b n c c' first m all xs) is comes in
-    (subst (Printed b n c c') (sym (append-nil here.done) ∙ ap (λ t. here.done ++ t) (sym (front_none m None [] refl)) ∙ here.text) here.printed, sym here.ends ∙ replayed_none m None [] refl)
+    (subst (Printed b n c c') (sym (append-nil here.done) ∙ ap (λ t. here.done ++ t) (sym (front_none m None [] NotBuilt refl)) ∙ here.text) here.printed, sym here.ends ∙ replayed_none m None [] NotBuilt refl)
 
 -- the lines of the machine that the front leads to
-lines_step : (m : Seen) (l : Line) (ls : List Line) (o : Option Record) → ((r : Record) → lines (replayed (with_record m r) ls).0 ≡ lines (with_record m r) ++ front_text (with_record m r) ls) → record_of m (event_in m.cpus l) ≡ o
+lines_step : (m : Seen) (l : Line) (ls : List Line) (o : Result Record Refusal) → ((r : Record) → lines (replayed (with_record m r) ls).0 ≡ lines (with_record m r) ++ front_text (with_record m r) ls) → record_of m (event_in m.cpus l) ≡ o
     → lines (replayed m (l ∷ ls)).0 ≡ lines m ++ front_text m (l ∷ ls)
-lines_step m l ls None others is = rw (replayed_none m l ls is, front_none m l ls is) (sym (append-nil (lines m)))
-lines_step m l ls (Some r) others is = rw (replayed_some m l ls r is, front_some m l ls r is) (others r ∙ simp append_assoc)
+lines_step m l ls (Err f) others is = rw (replayed_none m l ls f is, front_none m l ls f is) (sym (append-nil (lines m)))
+lines_step m l ls (Ok r) others is = rw (replayed_some m l ls r is, front_some m l ls r is) (others r ∙ simp append_assoc)
 
 pub lines_replayed : (m : Seen) (ls : List Line) → lines (replayed m ls).0 ≡ lines m ++ front_text m ls
 lines_replayed m [] = rw (replayed_end m, front_end m) (sym (append-nil (lines m)))
@@ -141,22 +138,30 @@ pub comes_at : (b n : Option (List ℕ)) (c c' : ℕ) (first m : Seen) (all ls l
 comes_at b n c c' first m all ls ls' is comes = subst (λ (xs : List Line). Comes b n c c' first m all xs) is comes
 
 -- the exit of a `?` hands the stop on
-pub exits_events : (b n : Option (List ℕ)) (c c' : ℕ) (m m' : Seen) (ls : List Line) (r : Result Bool Stop) (s : Stop) → IsErrAnd r (λ x. x ≡ s) → Stopped b n c c' (front_text m ls) s → PrintsEvents b n c c' m m' ls r
+pub exits_events : (b n : Option (List ℕ)) (c c' : ℕ) (m m' : Seen) (ls : List Line) (r : Result (Option Refusal) Stop) (s : Stop) → IsErrAnd r (λ x. x ≡ s) → Stopped b n c c' (front_text m ls) s → PrintsEvents b n c c' m m' ls r
 exits_events b n c c' m m' ls (Ok v) s err h = absurd err
 exits_events b n c c' m m' ls (Err x) s err h = subst (Stopped b n c c' (front_text m ls)) (sym err) h
 
 -- a list whose length is tested
-pub end_of_lines : (text : List ℕ) (ls : List Line) (empty : Bool) → empty ≡ (length text == 0) → ls ≡ (if length text == 0 then [] else None ∷ []) → ls ≡ cond empty [] (None ∷ [])
-end_of_lines text ls empty is ends = rw is ends
+pub no_more_lines : (text : List ℕ) (ls : List Line) (empty : Bool) → empty ≡ true → empty ≡ (length text == 0) → ls ≡ (if length text == 0 then [] else None ∷ []) → ls ≡ []
+no_more_lines text ls empty is tested ends = let none : (length text == 0) ≡ true = sym tested ∙ is in rw none at ends
+
+pub part_of_line : (text : List ℕ) (ls : List Line) (empty : Bool) → empty ≡ false → empty ≡ (length text == 0) → ls ≡ (if length text == 0 then [] else None ∷ []) → ls ≡ None ∷ []
+part_of_line text ls empty is tested ends = let some : (length text == 0) ≡ false = sym tested ∙ is in rw some at ends
 
 -- the same by the answer of the step
-pub comes_on : (b n n' : Option (List ℕ)) (c c' c'' : ℕ) (first m m' : Seen) (all ls : List Line) (l : Line) (built : Bool) → built ≡ true → Comes b n c c' first m all (l ∷ ls) → PrintsEvent n n' c' c'' m m' (record_of m (event_in m.cpus l)) (Ok built) → Comes b n' c c'' first m' all ls
-comes_on b n n' c c' c'' first m m' all ls l built is comes does =
-    comes_more b n n' c c' c'' first m m' all ls l (record_of m (event_in m.cpus l)) refl comes (subst (λ x. PrintsEvent n n' c' c'' m m' (record_of m (event_in m.cpus l)) (Ok x)) is does)
+pub comes_on : (b n n' : Option (List ℕ)) (c c' c'' : ℕ) (first m m' : Seen) (all ls : List Line) (l : Line) (o : Option Refusal) → o ≡ None → Comes b n c c' first m all (l ∷ ls) → PrintsEvent n n' c' c'' m m' (record_of m (event_in m.cpus l)) (Ok o) → Comes b n' c c'' first m' all ls
+comes_on b n n' c c' c'' first m m' all ls l o is comes does =
+    comes_more b n n' c c' c'' first m m' all ls l (record_of m (event_in m.cpus l)) refl comes (subst (λ (x : Option Refusal). PrintsEvent n n' c' c'' m m' (record_of m (event_in m.cpus l)) (Ok x)) is does)
 
-pub comes_no_further : (b n n' : Option (List ℕ)) (c c' c'' : ℕ) (first m m' : Seen) (all ls : List Line) (l : Line) (built : Bool) → built ≡ false → Comes b n c c' first m all (l ∷ ls) → PrintsEvent n n' c' c'' m m' (record_of m (event_in m.cpus l)) (Ok built) → PrintsEvents b n' c c'' first m' all (Ok false)
-comes_no_further b n n' c c' c'' first m m' all ls l built is comes does =
-    comes_to_none b n n' c c' c'' first m m' all ls l (record_of m (event_in m.cpus l)) refl comes (subst (λ x. PrintsEvent n n' c' c'' m m' (record_of m (event_in m.cpus l)) (Ok x)) is does)
+pub comes_no_further : (b n n' : Option (List ℕ)) (c c' c'' : ℕ) (first m m' : Seen) (all ls : List Line) (l : Line) (o : Option Refusal) (f : Refusal) → o ≡ Some f → Comes b n c c' first m all (l ∷ ls) → PrintsEvent n n' c' c'' m m' (record_of m (event_in m.cpus l)) (Ok o) → PrintsEvents b n' c c'' first m' all (Ok (Some f))
+comes_no_further b n n' c c' c'' first m m' all ls l o f is comes does =
+    comes_to_none b n n' c c' c'' first m m' all ls l (record_of m (event_in m.cpus l)) f refl comes (subst (λ (x : Option Refusal). PrintsEvent n n' c' c'' m m' (record_of m (event_in m.cpus l)) (Ok x)) is does)
+
+-- an answer that is no refusal
+pub not_refused : (o : Option Refusal) → ((f : Refusal) → o ≡ Some f → ⊥) → o ≡ None
+not_refused None is = refl
+not_refused (Some f) is = absurd (is f refl)
 
 -- the text of a run in its order: the header, the front of the list, and the ending
 run_text : (m : Seen) (ls : List Line) → m.records ≡ [] → (answer_of_replay m ls).1 ≡ header_text m ++ (front_text m ls ++ (ending_of (replayed m ls).0 (replayed m ls).1).1)
@@ -181,13 +186,13 @@ run_stopped_front m ls items cpus budget size b n n' c c' c'' s none is_cpus is_
     (stopped_longer n n' c' c'' (front_text m ls) ((ending_of (replayed m ls).0 (replayed m ls).1).1) s stops))
 
 -- the machine and the answer of the front, as the definition has them
-pub run_prints : (m m' : Seen) (whole : Bool) (ls : List Line) (items : List ℕ) (cpus budget size : ℕ) (b n n' k : Option (List ℕ)) (c c' c'' d : ℕ) (r : Result Status Stop) → m.records ≡ [] → cpus ≡ m.cpus → budget ≡ m.budget → size ≡ m.image.size → items ≡ trace_header cpus budget size
-    → Printed b n c c' (with_feed items) → PrintsEvents n n' c' c'' m m' ls (Ok whole) → Prints n' k c'' d (ending_of m' whole).1 r → Prints b k c d (answer_of_replay m ls).1 r
-run_prints m m' whole ls items cpus budget size b n n' k c c' c'' d r none is_cpus is_budget is_size is first front ending =
-    let end : Prints n' k c'' d (ending_of (replayed m ls).0 (replayed m ls).1).1 r = subst (λ (e : Seen × Bool). Prints n' k c'' d (ending_of e.0 e.1).1 r) (sym front.1) ending in
+pub run_prints : (m m' : Seen) (refused : Option Refusal) (ls : List Line) (items : List ℕ) (cpus budget size : ℕ) (b n n' k : Option (List ℕ)) (c c' c'' d : ℕ) (r : Result Status Stop) → m.records ≡ [] → cpus ≡ m.cpus → budget ≡ m.budget → size ≡ m.image.size → items ≡ trace_header cpus budget size
+    → Printed b n c c' (with_feed items) → PrintsEvents n n' c' c'' m m' ls (Ok refused) → Prints n' k c'' d (ending_of m' refused).1 r → Prints b k c d (answer_of_replay m ls).1 r
+run_prints m m' refused ls items cpus budget size b n n' k c c' c'' d r none is_cpus is_budget is_size is first front ending =
+    let end : Prints n' k c'' d (ending_of (replayed m ls).0 (replayed m ls).1).1 r = subst (λ (e : Seen × Option Refusal). Prints n' k c'' d (ending_of e.0 e.1).1 r) (sym front.1) ending in
     subst (λ t. Prints b k c d t r) (ap (λ t. t ++ (front_text m ls ++ (ending_of (replayed m ls).0 (replayed m ls).1).1)) (header_is m items cpus budget size is_cpus is_budget is_size is) ∙ sym (run_text m ls none))
     (prints_then b n k c c' d (with_feed items) (front_text m ls ++ (ending_of (replayed m ls).0 (replayed m ls).1).1) r first
     (prints_then n n' k c' c'' d (front_text m ls) ((ending_of (replayed m ls).0 (replayed m ls).1).1) r front.0 end))
 
-pub run_status : (m m' : Seen) (whole : Bool) (ls : List Line) (r : Result Status Stop) → replayed m ls ≡ (m', whole) → IfOk r (λ s. s ≡ (ending_of m' whole).0) → IfOk r (λ s. s ≡ (answer_of_replay m ls).0)
-run_status m m' whole ls r is h = subst (λ (e : Seen × Bool). IfOk r (λ s. s ≡ (ending_of e.0 e.1).0)) (sym is) h
+pub run_status : (m m' : Seen) (refused : Option Refusal) (ls : List Line) (r : Result Status Stop) → replayed m ls ≡ (m', refused) → IfOk r (λ s. s ≡ (ending_of m' refused).0) → IfOk r (λ s. s ≡ (answer_of_replay m ls).0)
+run_status m m' refused ls r is h = subst (λ (e : Seen × Option Refusal). IfOk r (λ s. s ≡ (ending_of e.0 e.1).0)) (sym is) h

@@ -1,11 +1,14 @@
 -- From the end of the work to the clauses of the top call.
 use Rattle.std.proofs.Common.{◌≡◌, ℕ, ◌≤◌, ◌<◌, Bool, true, false, cond, List, [], ◌∷◌, ◌++◌, length, Option, Some, None, Result, Ok, Err, IfSome, refl, sym, ap, ◌∙◌, subst, inl, inr, append_assoc, append-nil, arith}
 use Rattle.std.proofs.lemmas.Bool.{lt-ltb, le-ltb}
-use Rattle.axp_image.specs.Contents.{Contents}
+use Rattle.axp_cpu.specs.declared.refusals.Refusal.{Refusal}
+use Rattle.axp_cpu.specs.declared.refusals.Refusal.TheVariants.{NotLegal, NotBuilt}
+use Rattle.axp_image.specs.Contents.{Contents, IsValid}
 use Rattle.axp_io.specs.declared.FetchFault.{FetchFault}
 use Rattle.axp_io.specs.declared.FetchFault.TheVariants as fetch
 use Rattle.axp_io.specs.Causes.{Ask, FetchAsks, Rose}
 use Rattle.axp_io.proofs.Fronts.{front_none}
+use Rattle.axp_machine.specs.Runs.{Seen, is_complete, started}
 use Rattle.axp_trace.specs.declared.reading.Header.{Header}
 use Rattle.axp_trace.specs.Files.{lines_of}
 use Rattle.axp_trace.specs.Reading.{header_of}
@@ -14,9 +17,11 @@ use Rattle.axp_top.specs.declared.status.Status.{Status}
 use Rattle.axp_top.specs.declared.status.Status.TheVariants as status
 use Rattle.axp_image.specs.Grammar as grammar
 use Rattle.axp_image.specs.Grammar.{image_of}
-use Rattle.axp_top.specs.Answers.{SettlesSomeTrace, answer_of_files, answer_of_trace, read_fault_answer, AsksFront, DeskCount, Settles, SinkCount}
+use Rattle.axp_top.specs.Answers.{answer_of_files, answer_of_trace, image_in, read_fault_answer}
+use Rattle.axp_top.specs.Statuses.{SettlesLawfully, SettlesSomeTrace, AsksFront, DeskCount, Settles, SinkCount}
 use Rattle.axp_top.specs.Printing.{Ends}
-use Rattle.axp_top.specs.Replays.{Answer, not_built_at_all, answer_of_lines, answer_of_list}
+use Rattle.axp_top.proofs.Lawful.{trace_lawful}
+use Rattle.axp_top.specs.Replays.{Answer, not_built_at_all, answer_of_lines, answer_of_list, ending_of, replayed}
 
 -- the answer is no read fault
 pub record IsNoReadFault (a : Answer) : Type 0 where
@@ -25,13 +30,20 @@ pub record IsNoReadFault (a : Answer) : Type 0 where
 pub not_built_is : IsNoReadFault not_built_at_all
 not_built_is = record { differs = λ e. cc }
 
-by_done : (done : Bool) (k : ℕ) (t u : List ℕ) → status.ReadFault ≡ (let e : Answer = cond done (status.Done, t) (status.NotBuilt k, u) in e.0) → ⊥
+by_done : (done : Bool) (k : ℕ) (t u : List ℕ) → status.ReadFault ≡ (let e : Answer = cond done (status.Done, t) (status.Incomplete k, u) in e.0) → ⊥
 by_done true k t u e = cc
 by_done false k t u e = cc
 
+by_ending : (m : Seen) (refused : Option Refusal) → status.ReadFault ≡ (ending_of m refused).0 → ⊥
+by_ending m None e = by_done (is_complete m) _ _ _ e
+by_ending m (Some NotLegal) e = cc
+by_ending m (Some NotBuilt) e = cc
+
 list_is : (image : Contents) (h : Option Header) (ls : List (Option (List ℕ))) → IsNoReadFault (answer_of_list image h ls)
 list_is image None ls = not_built_is
-list_is image (Some h) ls = record { differs = λ e. by_done _ _ _ _ e }
+list_is image (Some h) ls =
+    let end : Seen × Option Refusal = replayed (started image h.cpus h.budget) ls in
+    record { differs = λ e. by_ending end.0 end.1 e }
 
 lines_are : (image : Contents) (ls : List (Option (List ℕ))) → IsNoReadFault (answer_of_lines image ls)
 lines_are image [] = not_built_is
@@ -43,6 +55,8 @@ ends_settles b n c c' d d' a status.Done is h = (h.0, h.1)
 ends_settles b n c c' d d' a status.ReadFault is h = absurd (is.differs h.0)
 ends_settles b n c c' d d' a status.WriteFault is h = inl h.0
 ends_settles b n c c' d d' a status.Memory is h = inl h.0
+ends_settles b n c c' d d' a (status.NotLegal k) is h = (h.0, h.1)
+ends_settles b n c c' d d' a (status.Incomplete k) is h = (h.0, h.1)
 ends_settles b n c c' d d' a (status.NotBuilt k) is h = (h.0, h.1)
 
 pub ends_count : (b n : Option (List ℕ)) (c c' : ℕ) (a : Answer) (s : Status) → Ends b n c c' a s → SinkCount c c' s
@@ -50,6 +64,8 @@ ends_count b n c c' a status.Done h = h.2
 ends_count b n c c' a status.ReadFault h = h.2
 ends_count b n c c' a status.WriteFault h = h.1
 ends_count b n c c' a status.Memory h = h.1
+ends_count b n c c' a (status.NotLegal k) h = h.2
+ends_count b n c c' a (status.Incomplete k) h = h.2
 ends_count b n c c' a (status.NotBuilt k) h = h.2
 
 -- a read fault was printed, whatever the answer would be
@@ -58,6 +74,8 @@ fault_settles b n c c' d d' a status.Done rose h = cc
 fault_settles b n c c' d d' a status.ReadFault rose h = h.1
 fault_settles b n c c' d d' a status.WriteFault rose h = inr (h.0, rose)
 fault_settles b n c c' d d' a status.Memory rose h = inr (h.0, rose)
+fault_settles b n c c' d d' a (status.NotLegal k) rose h = cc
+fault_settles b n c c' d d' a (status.Incomplete k) rose h = cc
 fault_settles b n c c' d d' a (status.NotBuilt k) rose h = cc
 
 pub desk_kept : (b n : Option (List ℕ)) (c c' : ℕ) (a : Answer) (s : Status) (d d' : ℕ) → IsNoReadFault a → Ends b n c c' a s → d' ≡ d → DeskCount d d' s
@@ -65,6 +83,8 @@ desk_kept b n c c' a status.Done d d' is h e = e
 desk_kept b n c c' a status.ReadFault d d' is h e = absurd (is.differs h.0)
 desk_kept b n c c' a status.WriteFault d d' is h e = omega arith
 desk_kept b n c c' a status.Memory d d' is h e = omega arith
+desk_kept b n c c' a (status.NotLegal k) d d' is h e = e
+desk_kept b n c c' a (status.Incomplete k) d d' is h e = e
 desk_kept b n c c' a (status.NotBuilt k) d d' is h e = e
 
 pub desk_rose : (b n : Option (List ℕ)) (c c' : ℕ) (s : Status) (d d' : ℕ) → Ends b n c c' read_fault_answer s → Rose d d' → d ≤ d' → DeskCount d d' s
@@ -72,6 +92,8 @@ desk_rose b n c c' status.Done d d' h rose more = cc
 desk_rose b n c c' status.ReadFault d d' h rose more = rose
 desk_rose b n c c' status.WriteFault d d' h rose more = more
 desk_rose b n c c' status.Memory d d' h rose more = more
+desk_rose b n c c' (status.NotLegal k) d d' h rose more = cc
+desk_rose b n c c' (status.Incomplete k) d d' h rose more = cc
 desk_rose b n c c' (status.NotBuilt k) d d' h rose more = cc
 
 -- a fetch more before
@@ -149,11 +171,11 @@ pub some_memory : (b : Option (List ℕ)) (d d' : ℕ) (image : Contents) → Se
 some_memory b d d' image = ([], settles_nothing b d d' not_built_at_all)
 
 abbrev pub SettlesSomeFiles : Option (List ℕ) → Option (List ℕ) → ℕ → ℕ → Status → Type 0
-SettlesSomeFiles b n d d' s = (image trace : List ℕ) × IfSome (answer_of_files (Some image) (Some trace)) (λ a. Settles b n d d' a s)
+SettlesSomeFiles b n d d' s = (image trace : List ℕ) × IfSome (answer_of_files (Some image) (Some trace)) (SettlesLawfully b n d d' (image_in image) s)
 
-pub files_of_image : (b n : Option (List ℕ)) (d d' d'' : ℕ) (bytes : List ℕ) (image : Contents) (s : Status) → length bytes ≤ MAX_IMAGE_BYTES → Some image ≡ image_of bytes → d' ≡ d → SettlesSomeTrace b n d' d'' image s → SettlesSomeFiles b n d d'' s
-files_of_image b n d d' d'' bytes image s short is counted h =
-    (bytes, h.0, rw (le-ltb MAX_IMAGE_BYTES (length bytes) short) (rw (sym is) (settles_before b n d d' d'' (answer_of_trace image h.0) s counted h.1)))
+pub files_of_image : (b n : Option (List ℕ)) (d d' d'' : ℕ) (bytes : List ℕ) (image : Contents) (s : Status) → length bytes ≤ MAX_IMAGE_BYTES → Some image ≡ image_of bytes → IsValid image → d' ≡ d → SettlesSomeTrace b n d' d'' image s → SettlesSomeFiles b n d d'' s
+files_of_image b n d d' d'' bytes image s short is valid counted h =
+    (bytes, h.0, rw (le-ltb MAX_IMAGE_BYTES (length bytes) short) (rw (sym is) (settles_before b n d d' d'' (answer_of_trace image h.0) s counted h.1, trace_lawful image h.0 valid)))
 
 no_image : image_of [] ≡ None
 unfolding image_of grammar.header_of grammar.number_at grammar.piece_at
@@ -161,10 +183,10 @@ no_image = refl
 
 -- the empty list is no image
 pub files_refused : (b n : Option (List ℕ)) (c c' d d' : ℕ) (s : Status) → Ends b n c c' not_built_at_all s → SettlesSomeFiles b n d d' s
-files_refused b n c c' d d' s h = ([], [], rw no_image (ends_settles b n c c' d d' not_built_at_all s not_built_is h))
+files_refused b n c c' d d' s h = ([], [], rw no_image (ends_settles b n c c' d d' not_built_at_all s not_built_is h, refl))
 
 pub files_fault : (b n : Option (List ℕ)) (c c' d d' : ℕ) (s : Status) → Rose d d' → Ends b n c c' read_fault_answer s → SettlesSomeFiles b n d d' s
-files_fault b n c c' d d' s rose h = ([], [], rw no_image (fault_settles b n c c' d d' not_built_at_all s rose h))
+files_fault b n c c' d d' s rose h = ([], [], rw no_image (fault_settles b n c c' d d' not_built_at_all s rose h, refl))
 
 pub files_memory : (b : Option (List ℕ)) (d d' : ℕ) → SettlesSomeFiles b b d d' status.Memory
-files_memory b d d' = ([], [], rw no_image (settles_nothing b d d' not_built_at_all))
+files_memory b d d' = ([], [], rw no_image (settles_nothing b d d' not_built_at_all, refl))

@@ -3,7 +3,7 @@ use Rattle.std.proofs.Common.{◌≡◌, ◌⊎◌, ℕ, ◌<◌, ◌^◌, ◌-�
 use Rattle.axp_io.specs.Causes.{Appends, Rose}
 use Rattle.axp_top.specs.declared.status.Status.{Status}
 use Rattle.axp_top.specs.declared.status.Status.TheVariants as status
-use Rattle.axp_top.specs.Answers.{DeskCount, Settles, SinkCount}
+use Rattle.axp_top.specs.Statuses.{DeskCount, Settles, SinkCount}
 use Rattle.axp_top.specs.Replays.{Answer}
 
 -- a count below its last value does not rise to itself
@@ -15,4 +15,6 @@ whole before now answer d k status.Done hd hk h dc sc = inl h
 whole before now answer d k status.ReadFault hd hk h dc sc = absurd (not_risen d hd dc)
 whole before now answer d k status.WriteFault hd hk h dc sc = absurd (not_risen k hk sc)
 whole before now answer d k status.Memory hd hk h dc sc = inr refl
+whole before now answer d k (status.NotLegal n) hd hk h dc sc = inl h
+whole before now answer d k (status.Incomplete n) hd hk h dc sc = inl h
 whole before now answer d k (status.NotBuilt n) hd hk h dc sc = inl h

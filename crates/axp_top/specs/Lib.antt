@@ -4,3 +4,5 @@ pub mod Texts
 pub mod Replays
 pub mod Answers
 pub mod Printing
+pub mod Lawful
+pub mod Statuses

@@ -1,10 +1,12 @@
 -- What `replay` prints of an event list.
-use Rattle.std.specs.Prelude.{ℕ, ◌+◌, Bool, true, false, ◌&&◌, List, [], ◌∷◌, ◌++◌, length, codes, decimal, Option, Some, None, option_map, if◌then◌else◌}
-use Rattle.std.specs.Option.{option_map_or}
+use Rattle.std.specs.Prelude.{ℕ, ◌+◌, List, [], ◌∷◌, ◌++◌, length, codes, decimal, Option, Some, None, Result, Ok, Err, if◌then◌else◌}
 use Rattle.axp_access.specs.declared.Event.{Event}
+use Rattle.axp_access.specs.declared.Outcome.{Outcome}
 use Rattle.axp_access.specs.declared.Record.{Record}
+use Rattle.axp_cpu.specs.declared.refusals.Refusal.{Refusal}
+use Rattle.axp_cpu.specs.declared.refusals.Refusal.TheVariants.{NotLegal, NotBuilt}
 use Rattle.axp_image.specs.Contents.{Contents}
-use Rattle.axp_plain.specs.Runs.{Seen, started, outcome_of, with_record, is_complete}
+use Rattle.axp_machine.specs.Runs.{Seen, started, answer_of, with_record, is_complete}
 use Rattle.axp_trace.specs.declared.reading.Header.{Header}
 use Rattle.axp_trace.specs.Lines.{with_feed}
 use Rattle.axp_trace.specs.Reading.{event_of, header_of}
@@ -16,45 +18,67 @@ use Rattle.axp_top.specs.Texts.{lines, tail, record_text}
 abbrev pub Answer : Type 0
 Answer = Status × List ℕ
 
+unfoldable pub not_legal_text : ℕ → List ℕ
+not_legal_text n = codes "axp: not legal at event " ++ decimal n
+
+unfoldable pub incomplete_text : ℕ → List ℕ
+incomplete_text n = codes "axp: incomplete after event " ++ decimal n
+
 unfoldable pub not_built_text : ℕ → List ℕ
 not_built_text n = codes "axp: not built at event " ++ decimal n
 
-abbrev pub not_built_line : ℕ → List ℕ
-not_built_line n = with_feed (not_built_text n)
+-- an event is refused
+abbrev pub refused_at : Refusal → ℕ → Answer
+refused_at NotLegal n = (status.NotLegal n, with_feed (not_legal_text n))
+refused_at NotBuilt n = (status.NotBuilt n, with_feed (not_built_text n))
+
+-- the list ends and is not complete
+abbrev pub incomplete_after : ℕ → Answer
+incomplete_after n = (status.Incomplete n, with_feed (incomplete_text n))
 
 -- nothing is printed before the fault line
 abbrev pub not_built_at_all : Answer
-not_built_at_all = (status.NotBuilt 0, not_built_line 0)
+not_built_at_all = refused_at NotBuilt 0
 
 -- the event that a line of an event list is; a last line without line feed is none
 abbrev pub event_in : ℕ → Option (List ℕ) → Option Event
 event_in cpus None = None
 event_in cpus (Some line) = event_of cpus line
 
--- the record that an event leaves; None: the line is no event, or its event is not built
-abbrev pub record_of : Seen → Option Event → Option Record
-record_of m None = None
-record_of m (Some e) = option_map (λ o. record { event = e; outcome = o }) (outcome_of m e)
+abbrev pub recorded : Event → Result Outcome Refusal → Result Record Refusal
+recorded e (Ok o) = Ok (record { event = e; outcome = o })
+recorded e (Err refusal) = Err refusal
 
--- The machine after the longest front of the lines whose events are built, and whether that is all of
--- them.
-unfoldable pub replayed : Seen → List (Option (List ℕ)) → Seen × Bool
-replayed m [] = (m, true)
-replayed m (l ∷ ls) = option_map_or (λ r. replayed (with_record m r) ls) (record_of m (event_in m.cpus l)) (m, false)
+-- the record that a line leaves, or why it is refused: what is no event is not built
+abbrev pub record_of : Seen → Option Event → Result Record Refusal
+record_of m None = Err NotBuilt
+record_of m (Some e) = recorded e (answer_of m e)
+
+-- goes on with the record, or ends with the refusal
+abbrev pub by_record : {T : Type 0} → Result Record Refusal → (Record → T) → (Refusal → T) → T
+by_record (Ok r) goes ends = goes r
+by_record (Err refusal) goes ends = ends refusal
+
+-- the machine after the longest front of the lines whose events are done, and why the next line is
+-- refused; None: these are all lines
+unfoldable pub replayed : Seen → List (Option (List ℕ)) → Seen × Option Refusal
+replayed m [] = (m, None)
+replayed m (l ∷ ls) = by_record (record_of m (event_in m.cpus l)) (λ r. replayed (with_record m r) ls) (λ refusal. (m, Some refusal))
 
 -- the lines of that front
 unfoldable pub front_text : Seen → List (Option (List ℕ)) → List ℕ
 front_text m [] = []
-front_text m (l ∷ ls) = option_map_or (λ r. record_text r ++ front_text (with_record m r) ls) (record_of m (event_in m.cpus l)) []
+front_text m (l ∷ ls) = by_record (record_of m (event_in m.cpus l)) (λ r. record_text r ++ front_text (with_record m r) ls) (λ refusal. [])
 
--- How a run ends: with the tail where all is built and every processor is finished; else with what is
--- not built, whose number is that of its line, or one more than the list has.
-abbrev pub ending_of : Seen → Bool → Answer
-ending_of m whole = if whole && is_complete m then (status.Done, tail m) else (status.NotBuilt (length m.records + 1), not_built_line (length m.records + 1))
+-- How a run ends: with the tail where all lines are done and the machine is complete, or after the last
+-- event where it is not; else at the number of the event that is refused.
+abbrev pub ending_of : Seen → Option Refusal → Answer
+ending_of m None = if is_complete m then (status.Done, tail m) else incomplete_after (length m.records)
+ending_of m (Some refusal) = refused_at refusal (length m.records + 1)
 
 -- the ending behind the header and the lines of the records
-abbrev pub answer_of_run : Seen → Bool → Answer
-answer_of_run m whole = ((ending_of m whole).0, lines m ++ (ending_of m whole).1)
+abbrev pub answer_of_run : Seen → Option Refusal → Answer
+answer_of_run m refused = ((ending_of m refused).0, lines m ++ (ending_of m refused).1)
 
 -- what the lines give after a machine
 abbrev pub answer_of_replay : Seen → List (Option (List ℕ)) → Answer

@@ -4,8 +4,7 @@ use Rattle.axp_access.specs.declared.Record.{Record}
 use Rattle.axp_base.specs.declared.parts.TheConstants.{QUADWORD_BYTES}
 use Rattle.axp_regs.specs.declared.states.TheConstants.{ZERO_REGISTER}
 use Rattle.axp_regs.specs.States.{pc_of, register}
-use Rattle.axp_plain.specs.Runs.{Seen, table_of, steps_of, quadword_of}
-use Rattle.axp_model.specs.PlainSources.{is_touched}
+use Rattle.axp_machine.specs.Runs.{Seen, table_of, steps_of, quadword_of, touches}
 use Rattle.axp_trace.specs.Lines.{with_feed, line_text, trace_header, processor_line, register_line, memory_line, console_line, end_line}
 
 -- the first line
@@ -44,9 +43,9 @@ unfoldable pub processors_text : Seen → ℕ → List ℕ
 processors_text m zero = []
 processors_text m (suc p) = processors_text m p ++ processor_text m p
 
--- an aligned quadword of memory, where a write touched it
+-- an aligned quadword of memory, where a turn touched it
 abbrev pub quadword_text : Seen → ℕ → List ℕ
-quadword_text m q = if is_touched m.records q then with_feed (memory_line (q * QUADWORD_BYTES) (quadword_of m q)) else []
+quadword_text m q = if touches m q then with_feed (memory_line (q * QUADWORD_BYTES) (quadword_of m q)) else []
 
 -- the quadwords below n, in ascending order
 unfoldable pub memory_text : Seen → ℕ → List ℕ

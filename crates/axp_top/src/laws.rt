@@ -3,7 +3,7 @@ ghost use Rattle.std.specs.Prelude.{◌≡◌, ◌⊎◌, ◌<◌, ◌^◌, ◌-
 ghost use Rattle.axp_io.specs.Causes.{Appends};
 ghost use Rattle.axp_top.specs.declared.status.Status.TheVariants as status;
 ghost use Rattle.axp_top.specs.declared.status.Status.{Status};
-ghost use Rattle.axp_top.specs.Answers.{DeskCount, Settles, SinkCount};
+ghost use Rattle.axp_top.specs.Statuses.{DeskCount, Settles, SinkCount};
 ghost use Rattle.axp_top.specs.Replays.{Answer};
 
 /// Where no fault is counted, and neither count stands at its last value, the answer comes with its

@@ -1,26 +1,50 @@
-ghost use Rattle.std.specs.Prelude.{◌≡◌, ◌≤◌, ◌<◌, ◌++◌, [], codes, decimal, IfOk};
+ghost use Rattle.std.specs.Prelude.{◌≡◌, ◌≤◌, ◌<◌, ◌++◌, [], codes, decimal, IfOk, None};
 ghost use Rattle.arrayvec.specs.ArrayVec.{array_vec_len};
 ghost use Rattle.axp_trace.specs.declared.lines.TheConstants.{LINE_ROOM};
 ghost use Rattle.axp_trace.specs.Files.{lines_of};
 ghost use Rattle.axp_trace.specs.Reading.{event_of};
 ghost use Rattle.axp_top.specs.Printing.{Ends, Prints, PrintsEvent, PrintsEvents};
-ghost use Rattle.axp_top.specs.Replays.{answer_of_lines, answer_of_replay, ending_of, not_built_at_all, not_built_text, record_of};
+ghost use Rattle.axp_top.specs.Replays.{answer_of_lines, answer_of_replay, ending_of, incomplete_text, not_built_at_all, not_built_text, not_legal_text, record_of, refused_at};
 
 use crate::Status;
 use crate::printing::{Stop, print_line, refuse};
 use crate::tail::print_tail;
 use axp_image::Image;
 use axp_io::Sink;
-use axp_plain::Machine;
+use axp_machine::{Machine, Refusal};
 use axp_trace::{
     LineText, first_line, push_all, push_decimal, read_event, read_header, write_event,
     write_header,
 };
 use std::alloc::Global;
 
+/// The line of an event that is not legal.
+#[tactic(auto, unfolding(crate::specs::Replays::not_legal_text))]
+fn write_not_legal(event: u32) -> LineText
+    ensures text { result.items ≡ not_legal_text event }
+    ensures short { array_vec_len result < LINE_ROOM }
+{
+    let mut line = LineText::new();
+    push_all(&mut line, b"axp: not legal at event ");
+    push_decimal(&mut line, event);
+    line
+}
+
+/// The line of a list that ends before the machine is complete.
+#[tactic(auto, unfolding(crate::specs::Replays::incomplete_text))]
+fn write_incomplete(event: u32) -> LineText
+    ensures text { result.items ≡ incomplete_text event }
+    ensures short { array_vec_len result < LINE_ROOM }
+{
+    let mut line = LineText::new();
+    push_all(&mut line, b"axp: incomplete after event ");
+    push_decimal(&mut line, event);
+    line
+}
+
 /// The line of a status that says what is not built.
 #[tactic(auto, unfolding(crate::specs::Replays::not_built_text))]
-pub fn write_not_built(event: u32) -> LineText
+fn write_not_built(event: u32) -> LineText
     ensures text { result.items ≡ not_built_text event }
     ensures short { array_vec_len result < LINE_ROOM }
 {
@@ -30,66 +54,107 @@ pub fn write_not_built(event: u32) -> LineText
     line
 }
 
-/// Does the event of a line and prints its line. The answer is whether the line is an event that is
-/// built; else nothing is done or printed.
+/// Does the event of a line and prints its line. The answer is why it is refused, and then nothing is
+/// done or printed; a line that is no event is not built.
 fn print_event<K: Sink>(
     alloc: Global,
     sink: &mut K,
     machine: &mut Machine,
     line: &[u8],
-) -> Result<bool, Stop>
+) -> Result<Option<Refusal>, Stop>
     ensures { PrintsEvent (K.taken sink.old) (K.taken sink.new) (K.faults sink.old) (K.faults sink.new) machine.old machine.new
         (record_of machine.old (event_of machine.old.cpus line.now)) result }
 {
     let Some(event) = read_event(line, machine.cpus()) else {
-        return Ok(false);
+        return Ok(Some(Refusal::NotBuilt));
     };
-    let Ok(outcome) = machine.event(event) else {
-        return Ok(false);
-    };
-    print_line(alloc, sink, write_event(event, outcome))?;
-    Ok(true)
+    match machine.event(event) {
+        Err(refusal) => Ok(Some(refusal)),
+        Ok(outcome) => {
+            print_line(alloc, sink, write_event(event, outcome))?;
+            Ok(None)
+        }
+    }
 }
 
-/// Does the events of a list's lines, up to the first line that is no event or whose event is not
-/// built, and prints a line for each. The answer is whether these are all lines.
+/// Does the events of a list's lines, up to the first line that is refused, and prints a line for each.
+/// The answer is why that line is refused; `None` where these are all lines.
 fn print_events<K: Sink>(
     alloc: Global,
     sink: &mut K,
     machine: &mut Machine,
     events: &[u8],
-) -> Result<bool, Stop>
+) -> Result<Option<Refusal>, Stop>
     ensures { PrintsEvents (K.taken sink.old) (K.taken sink.new) (K.faults sink.old) (K.faults sink.new) machine.old machine.new
         (lines_of events.now) result }
 {
     let mut rest = events;
     while let Some((line, more)) = first_line(rest) {
-        if !print_event(alloc, sink, machine, line)? {
-            return Ok(false);
+        if let Some(refusal) = print_event(alloc, sink, machine, line)? {
+            return Ok(Some(refusal));
         }
         rest = more;
     }
-    Ok(rest.is_empty())
+    if rest.is_empty() {
+        Ok(None)
+    } else {
+        Ok(Some(Refusal::NotBuilt))
+    }
 }
 
-/// Prints how a run ends, by whether all lines of its list were done.
+/// Prints that an event is refused, and ends so.
+fn print_refused<K: Sink>(
+    alloc: Global,
+    sink: &mut K,
+    refusal: Refusal,
+    event: u32,
+) -> Result<Status, Stop>
+    ensures text { Prints (K.taken sink.old) (K.taken sink.new) (K.faults sink.old) (K.faults sink.new)
+        (refused_at refusal event).1 result }
+    ensures status { IfOk result (λ s. s ≡ (refused_at refusal event).0) }
+{
+    match refusal {
+        Refusal::NotLegal => {
+            print_line(alloc, sink, write_not_legal(event))?;
+            Ok(Status::NotLegal { event })
+        }
+        Refusal::NotBuilt => {
+            print_line(alloc, sink, write_not_built(event))?;
+            Ok(Status::NotBuilt { event })
+        }
+    }
+}
+
+/// Prints how a list ends of which all lines were done.
+fn print_whole<K: Sink>(alloc: Global, sink: &mut K, machine: &Machine) -> Result<Status, Stop>
+    ensures text { Prints (K.taken sink.old) (K.taken sink.new) (K.faults sink.old) (K.faults sink.new)
+        (ending_of machine.now None).1 result }
+    ensures status { IfOk result (λ s. s ≡ (ending_of machine.now None).0) }
+{
+    if machine.complete() {
+        print_tail(alloc, sink, machine)?;
+        Ok(Status::Done)
+    } else {
+        let event = machine.events();
+        print_line(alloc, sink, write_incomplete(event))?;
+        Ok(Status::Incomplete { event })
+    }
+}
+
+/// Prints how a run ends, by why a line was refused.
 fn print_ending<K: Sink>(
     alloc: Global,
     sink: &mut K,
     machine: &Machine,
-    whole: bool,
+    refused: Option<Refusal>,
 ) -> Result<Status, Stop>
     ensures text { Prints (K.taken sink.old) (K.taken sink.new) (K.faults sink.old) (K.faults sink.new)
-        (ending_of machine.now whole).1 result }
-    ensures status { IfOk result (λ s. s ≡ (ending_of machine.now whole).0) }
+        (ending_of machine.now refused).1 result }
+    ensures status { IfOk result (λ s. s ≡ (ending_of machine.now refused).0) }
 {
-    if whole & machine.complete() {
-        print_tail(alloc, sink, machine)?;
-        Ok(Status::Done)
-    } else {
-        let event = machine.events() + 1;
-        print_line(alloc, sink, write_not_built(event))?;
-        Ok(Status::NotBuilt { event })
+    match refused {
+        None => print_whole(alloc, sink, machine),
+        Some(refusal) => print_refused(alloc, sink, refusal, machine.events() + 1),
     }
 }
 
@@ -107,8 +172,8 @@ fn print_run<K: Sink>(
 {
     let header = write_header(machine.cpus(), machine.budget(), machine.memory_size());
     print_line(alloc, sink, header)?;
-    let whole = print_events(alloc, sink, machine, events)?;
-    print_ending(alloc, sink, machine, whole)
+    let refused = print_events(alloc, sink, machine, events)?;
+    print_ending(alloc, sink, machine, refused)
 }
 
 /// Refuses what is not built, with nothing printed before.

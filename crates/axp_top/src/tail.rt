@@ -8,7 +8,7 @@ ghost use Rattle.axp_top.specs.Texts.{register_text, registers_text, processor_t
 use crate::printing::{Stop, print_line};
 use axp_base::{Cpu, QUADWORD_BYTES};
 use axp_io::Sink;
-use axp_plain::{Machine, ZERO_REGISTER};
+use axp_machine::{Machine, ZERO_REGISTER};
 use axp_trace::{write_console, write_end, write_memory, write_processor, write_register};
 use std::alloc::Global;
 
@@ -70,7 +70,7 @@ fn print_processor<K: Sink>(
     print_registers(alloc, sink, machine, cpu)
 }
 
-/// Prints an aligned quadword of memory, where a write touched it.
+/// Prints an aligned quadword of memory, where a turn touched it.
 fn print_quadword<K: Sink>(
     alloc: Global,
     sink: &mut K,

@@ -1,6 +1,7 @@
-use Rattle.std.proofs.Common.{◌≡◌, ◌∙◌, Some, sym, subst}
+use Rattle.std.proofs.Common.{◌≡◌, ◌∙◌, IfSome, Option, Some, sym, subst}
+use Rattle.axp_image.specs.Contents.{Contents, IsValid}
 use Rattle.axp_image.specs.Grammar.{image_of}
-use Rattle.axp_top.proofs.Settling.{asks_first, files_of_image, files_refused}
+use Rattle.axp_top.proofs.Settling.{asks_first, files_fault, files_memory, files_of_image, files_refused}
 use Rattle.axp_top.proofs.serve.serve_replay.Goals as goal
 
 pub returns-in-Ok-None-clause-asks : goal.returns-in-Ok-None-clause-asks
@@ -26,4 +27,11 @@ returns-in-Ok-Some-clause-some_files g c =
     files_of_image _ _ _ _ _ c.in-Ok.bytes c.in-Ok-Some.image c.replay_file.result
     c.in-Ok.ensures.most
     (subst (λ x. Some c.in-Ok-Some.image ≡ image_of x) c.as_slice.ensures (sym c.in-Ok-Some.field-0-is ∙ c.in-Ok-Some.ensures.read))
+    (subst (λ (o : Option Contents). IfSome o IsValid) c.in-Ok-Some.field-0-is c.in-Ok-Some.ensures.valid)
     c.in-Ok.ensures.count c.replay_file.ensures.some_file
+
+pub returns-in-Err-Failed-clause-some_files : goal.returns-in-Err-Failed-clause-some_files
+returns-in-Err-Failed-clause-some_files g c = files_fault _ _ _ _ _ _ c.refuse_read_fault.result c.in-Err-Failed.ensures.count c.refuse_read_fault.ensures
+
+pub returns-clause-some_files : goal.returns-clause-some_files
+returns-clause-some_files g c = files_memory _ _ _
