@@ -1,6 +1,8 @@
-use Rattle.std.proofs.Common.{◌≡◌, ◌∙◌, IfSome, Option, Some, sym, subst}
+use Rattle.std.proofs.Common.{◌≡◌, ◌∙◌, Err, IfSome, Option, Some, sym, subst}
 use Rattle.axp_image.specs.Contents.{Contents, IsValid}
 use Rattle.axp_image.specs.Grammar.{image_of}
+use Rattle.axp_io.specs.Causes.{FetchCount}
+use Rattle.axp_io.specs.declared.FetchFault.{FetchFault}
 use Rattle.axp_top.proofs.Settling.{asks_first, files_fault, files_memory, files_of_image, files_refused}
 use Rattle.axp_top.proofs.serve.serve_replay.Goals as goal
 
@@ -31,7 +33,9 @@ returns-in-Ok-Some-clause-some_files g c =
     c.in-Ok.ensures.count c.replay_file.ensures.some_file
 
 pub returns-in-Err-Failed-clause-some_files : goal.returns-in-Err-Failed-clause-some_files
-returns-in-Err-Failed-clause-some_files g c = files_fault _ _ _ _ _ _ c.refuse_read_fault.result c.in-Err-Failed.ensures.count c.refuse_read_fault.ensures
+returns-in-Err-Failed-clause-some_files g c = files_fault _ _ _ _ _ _ c.refuse_read_fault.result
+    (subst (λ (f : FetchFault). FetchCount (g.D.Desk.faults c.args.desk.now) (g.D.Desk.faults c.fetch.new.self) (Err f)) c.in-Err-Failed.field-0-is c.in-Err-Failed.ensures.count)
+    c.refuse_read_fault.ensures
 
 pub returns-clause-some_files : goal.returns-clause-some_files
 returns-clause-some_files g c = files_memory _ _ _
