@@ -1,5 +1,5 @@
 -- A processor is its sequencer and what it keeps: both go on together.
-use Rattle.std.proofs.Common.{◌≡◌, ℕ, ◌+◌, ◌/◌, ◌<◌, ◌≤◌, Bool, true, false, cond, leb, List, [], ◌∷◌, ◌++◌, Option, Some, None, refl, sym, ap, ◌∙◌, subst, arith}
+use Rattle.std.proofs.Common.{◌≡◌, ℕ, ◌+◌, ◌*◌, ◌/◌, ◌^◌, ◌<◌, ◌≤◌, Bool, true, false, cond, leb, List, [], ◌∷◌, ◌++◌, Option, Some, None, refl, sym, ap, ◌∙◌, subst, arith}
 use Rattle.std.proofs.lemmas.Bool.{cond_both, leb-false, or_parts}
 use Rattle.std.specs.Prelude.{slice_get, IfSome, Ok, is_some}
 use Rattle.axp_access.specs.declared.Act.{Act}
@@ -12,7 +12,7 @@ use Rattle.axp_image.specs.Contents.{Contents}
 use Rattle.axp_line.specs.declared.messages.Reply.{Reply}
 use Rattle.axp_line.specs.declared.messages.Reply.TheVariants as reply
 use Rattle.axp_lsu.specs.Asking.{ask_of}
-use Rattle.axp_lsu.specs.Fitting.{Fits2, IsWantedInSome}
+use Rattle.axp_lsu.specs.Fitting.{Fits2, FitsSize, IsWantedInSome, WantsFitting}
 use Rattle.axp_lsu.specs.Going.{value_by, value_of}
 use Rattle.axp_lsu.specs.Going as going
 use Rattle.axp_lsu.specs.Keeping.{Kept, none_kept, with_copies}
@@ -60,6 +60,19 @@ wanted_by size kind.Poll w sound = tt
 pub wanted_within : (size : ℕ) (o : Option Wanted) → IfSome o (IsMakeable size) → IsWantedWithin size o
 wanted_within size None can = tt
 wanted_within size (Some w) can = wanted_by size w.kind w can.inside
+
+-- and its value fits its size
+small_fits : (k : Kind) (size value : ℕ) → value < 2 ^ (8 * size) → FitsSize k size value
+small_fits kind.Fetch size value small = small
+small_fits kind.Read size value small = small
+small_fits kind.Write size value small = small
+small_fits kind.Locked size value small = small
+small_fits kind.Conditional size value small = small
+small_fits _ size value small = tt
+
+pub wanted_fits : (size : ℕ) (o : Option Wanted) → IfSome o (IsMakeable size) → WantsFitting o
+wanted_fits size None can = tt
+wanted_fits size (Some w) can = small_fits w.kind w.size w.value can.small
 
 -- a processor that wants an access is not finished, and the access is the plan's
 wanted_parts : (s : Seat) (w : Wanted) (finished : Bool) → is_finished s ≡ finished → cond finished None (seats.wanted_by (plan_now s)) ≡ Some w → (finished ≡ false) × (seats.wanted_by (plan_now s) ≡ Some w)

@@ -1,6 +1,7 @@
 ghost use Rattle.std.specs.Prelude.{◌≡◌, ◌==◌, ◌≤◌, IfOk, length};
 ghost use Rattle.axp_access.specs.declared.Act.TheVariants.{Step};
 ghost use Rattle.axp_base.specs.declared.processors.TheConstants.{MAX_BUDGET};
+ghost use Rattle.axp_lsu.specs.Fitting.{ShowsFitting};
 ghost use Rattle.axp_lsu.specs.Within.{IsAskWithin};
 ghost use Rattle.axp_cpu.specs.Actors.{Actor, about, advanced, first_actor, is_built, moved_by, outcome_of, request_of, seat_after, step_built};
 ghost use Rattle.axp_cpu.specs.ActorStands.{IsAnswered, IsAt, IsMovable, IsSeated, IsSeatedWith};
@@ -128,6 +129,7 @@ impl Processor {
     pub fn advance(&mut self, act: Act, reply: Option<Reply>) -> Outcome
         requires { IsAnswered self.old act reply }
         ensures outcome { (a : Actor) → IsAt self.old a → result ≡ outcome_of a act reply }
+        ensures fits { ShowsFitting result }
         ensures at { (a : Actor) → IsAt self.old a → IsAt self.new (advanced a act reply) }
     {
         let intent = self.sequencer.intent();

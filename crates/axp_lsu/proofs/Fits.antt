@@ -20,7 +20,7 @@ pub none_fits : (r : Option Reply) → Fits2 None r → ⊥
 none_fits None h = h
 none_fits (Some r) h = h
 
-fits_if : (b : Bool) (o : Option Ask2) (r : Option Reply) → Fits2 (cond b o None) r → Fits2 o r
+pub fits_if : (b : Bool) (o : Option Ask2) (r : Option Reply) → Fits2 (cond b o None) r → Fits2 o r
 fits_if true o r h = h
 fits_if false o r h = absurd (none_fits r h)
 

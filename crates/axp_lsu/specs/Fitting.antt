@@ -1,10 +1,14 @@
 -- Which answers fit what was asked, and conditions under which all of it fits its numbers.
-use Rattle.std.specs.Prelude.{◌≡◌, ℕ, ◌^◌, ◌<◌, ◌≤◌, true, Option, Some, None}
+use Rattle.std.specs.Prelude.{◌≡◌, ℕ, ◌*◌, ◌^◌, ◌<◌, ◌≤◌, true, Option, Some, None}
 use Rattle.axp_base.specs.Lines.{line_number}
 use Rattle.axp_line.specs.declared.messages.Reply.{Reply}
 use Rattle.axp_line.specs.declared.messages.Reply.TheVariants as reply
 use Rattle.axp_line.specs.declared.messages.Request.{Request}
 use Rattle.axp_line.specs.declared.messages.Request.TheVariants as request
+use Rattle.axp_regs.specs.declared.asks.Kind.{Kind}
+use Rattle.axp_regs.specs.declared.asks.Kind.TheVariants as kind
+use Rattle.axp_access.specs.declared.Outcome.{Outcome}
+use Rattle.axp_access.specs.declared.Outcome.TheVariants as outcome
 use Rattle.axp_access.specs.declared.Wanted.{Wanted}
 use Rattle.axp_model.specs.Records.{in_bank}
 use Rattle.axp_lsu.specs.declared.asks.Ask2.{Ask2}
@@ -49,3 +53,21 @@ pub record IsWithinSome (u : Kept) : Type 0 where
 pub record IsWantedInSome (w : Option Wanted) : Type 0 where
   pub size : ℕ
   pub within : IsWantedWithin size w
+
+-- the value of an access to memory fits its size
+abbrev pub FitsSize : Kind → ℕ → ℕ → Type 0
+FitsSize kind.Fetch size value = value < 2 ^ (8 * size)
+FitsSize kind.Read size value = value < 2 ^ (8 * size)
+FitsSize kind.Write size value = value < 2 ^ (8 * size)
+FitsSize kind.Locked size value = value < 2 ^ (8 * size)
+FitsSize kind.Conditional size value = value < 2 ^ (8 * size)
+FitsSize _ size value = Unit {0}
+
+-- so does what is wanted of one, and what is shown of one
+abbrev pub WantsFitting : Option Wanted → Type 0
+WantsFitting None = Unit {0}
+WantsFitting (Some w) = FitsSize w.kind w.size w.value
+
+abbrev pub ShowsFitting : Outcome → Type 0
+ShowsFitting (outcome.Access a) = FitsSize a.kind a.size a.value
+ShowsFitting _ = Unit {0}

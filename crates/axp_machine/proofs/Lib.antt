@@ -5,3 +5,5 @@ pub mod RoomLemmas
 pub mod ReaderLemmas
 pub mod MakeLemmas
 pub mod VainLemmas
+pub mod LateLemmas
+pub mod SpellingLemmas

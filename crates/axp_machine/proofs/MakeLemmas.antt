@@ -10,40 +10,49 @@ use Rattle.std.proofs.lemmas.Nat.{mul-le}
 use Rattle.std.specs.List.{AllByRecursion}
 use Rattle.std.specs.Prelude.{Ok}
 use Rattle.std.specs.Vec.{vec_capacity}
+use Rattle.axp_access.specs.Spelling.{Spells}
 use Rattle.axp_access.specs.declared.Event.{Event}
 use Rattle.axp_access.specs.declared.Outcome.{Outcome}
 use Rattle.axp_access.specs.declared.Record.{Record}
 use Rattle.axp_base.specs.Cpus.{cpu_number}
 use Rattle.axp_base.specs.declared.lines.Bank.{Bank}
 use Rattle.axp_base.specs.declared.lines.Bank.TheVariants.{Even, Odd, Code}
+use Rattle.axp_base.specs.declared.processors.Cpu.{Cpu}
 use Rattle.axp_base.specs.declared.processors.TheConstants.{MAX_BUDGET, MAX_CPUS}
 use Rattle.axp_bus.specs.BusStands as bus
 use Rattle.axp_bus.proofs.ReplyLemmas.{late_tidy}
-use Rattle.axp_cpu.specs.Actors.{Actor, advanced, outcome_of}
+use Rattle.axp_cpu.specs.Actors.{Actor, about, advanced, outcome_of}
 use Rattle.axp_cpu.specs.ActorStands.{IsAnswered, IsAt}
 use Rattle.axp_cpu.specs.declared.processors.Processor.{Processor}
+use Rattle.axp_cpu.proofs.ActorLemmas.{was_asked}
 use Rattle.axp_image.specs.Contents.{Contents}
 use Rattle.axp_line.specs.declared.messages.Reply.{Reply}
 use Rattle.axp_line.specs.declared.messages.Reply.TheVariants as reply
-use Rattle.axp_lsu.specs.Fitting.{Fits2}
+use Rattle.axp_lsu.specs.Asking.{ask_of}
+use Rattle.axp_lsu.specs.Fitting.{Fits2, ShowsFitting}
 use Rattle.axp_lsu.specs.Within.{IsAskWithin}
 use Rattle.axp_lsu.specs.declared.asks.Ask2.{Ask2}
 use Rattle.axp_lsu.specs.declared.asks.Ask2.TheVariants as ask
+use Rattle.axp_model.specs.BusCalls.{BusCall}
 use Rattle.axp_model.specs.BusReply.{front}
 use Rattle.axp_model.proofs.Fits.{InBank, late_in}
+use Rattle.axp_wbuf.specs.Pending.{IsTidy}
 use Rattle.axp_world.specs.declared.lengths.TheConstants.{EVENTS_PER_STEP}
 use Rattle.axp_world.specs.Worlds as worlds
 use Rattle.axp_world.specs.Worlds.{IsPlayed, World, asked, calls_for, image_bytes, reply_at, reply_for, world}
 use Rattle.axp_world.proofs.Counted.{played_is_short, turns_are_few}
 use Rattle.axp_world.proofs.Joined.{joined}
 use Rattle.axp_world.proofs.Played.{actor_other, actor_own}
+use Rattle.axp_world.proofs.Runs.{actor_cpu}
 use Rattle.axp_machine.specs.declared.machine.Machine.TheInside.{Inside}
 use Rattle.axp_machine.specs.Playing.{MayAnswer, granted_in}
 use Rattle.axp_machine.specs.Runs.{Seen, actor_of, answer_of, with_record, world_of}
-use Rattle.axp_machine.specs.Ties.{AreSeated, Ties, history, seen}
+use Rattle.axp_machine.specs.Ties.{AreAskedWithin, AreSeated, Ties, history, seen}
 use Rattle.axp_machine.proofs.AskLemmas.{IsLateWell, asked_may, may_ask_for, reply_fits}
 use Rattle.axp_machine.proofs.GrantLemmas.{IsGranted, granted_is, outcome_in}
+use Rattle.axp_machine.proofs.LateLemmas.{IsToldWithin, told_within}
 use Rattle.axp_machine.proofs.RoomLemmas.{console_few, seat_size, steps_few}
+use Rattle.axp_machine.proofs.SpellingLemmas.{spells}
 
 -- the record that a granted event makes
 abbrev pub made : Seen → Event → Record
@@ -121,14 +130,30 @@ by_ask a p ask.Private ties few something = tt
 by_ask a p (ask.Bus q) ties few something =
     reply_fits q (front (image_bytes a.image) (world_of (seen a)).calls p) (subst (λ n. n + 1 < 2 ^ 32) ties.bus.turns few) (late_well a p ties) (λ none. something (ap (λ (r : Reply). Some r) none))
 
+answer_fits : (a : Inside) (e : Event) (q : Ask2) (r : Option Reply) → Ties a → IsGranted (seen a) e q → r ≡ reply_for (image_bytes a.image) (world_of (seen a)).calls (cpu_number e.cpu) (Ok q) → Fits2 (Some q) r
+answer_fits a e q r ties is answer = subst (λ (x : Option Reply). Fits2 (Some q) x) (sym answer) (by_ask a (cpu_number e.cpu) q ties (has_room a e q ties is).few is.something)
+
 pub is_answered : (a : Inside) (e : Event) (q : Ask2) (p : Processor) (r : Option Reply) → Ties a → IsGranted (seen a) e q → IsAt p (actor_of (seen a) (cpu_number e.cpu)) → r ≡ reply_for (image_bytes a.image) (world_of (seen a)).calls (cpu_number e.cpu) (Ok q) → IsAnswered p e.act r
 is_answered a e q p r ties is at answer = record {
   actor = actor_of (seen a) (cpu_number e.cpu);
   at = at;
   ask = q;
   asked = is.asked;
-  fits = subst (λ (x : Option Reply). Fits2 (Some q) x) (sym answer) (by_ask a (cpu_number e.cpu) q ties (has_room a e q ties is).few is.something);
+  fits = answer_fits a e q r ties is answer;
 }
+
+-- what its processor gives is spelled
+pub is_spelled : (a : Inside) (e : Event) (q : Ask2) (p : Processor) (r : Option Reply) (o : Outcome) → Ties a → IsGranted (seen a) e q → IsAt p (actor_of (seen a) (cpu_number e.cpu)) → r ≡ reply_for (image_bytes a.image) (world_of (seen a)).calls (cpu_number e.cpu) (Ok q)
+    → o ≡ outcome_of (actor_of (seen a) (cpu_number e.cpu)) e.act r → ShowsFitting o → Spells e o
+is_spelled a e q p r o ties is at answer gives fits =
+    let x : Actor = actor_of (seen a) (cpu_number e.cpu) in
+    let size = seat_size a.image a.budget (history a) (cpu_number e.cpu) in
+    let calls : List BusCall = (world_of (seen a)).calls in
+    let told : IsToldWithin x.seat.size r = rw (size, answer) (told_within a.image.size (image_bytes a.image) calls (cpu_number e.cpu) q ties.asked) in
+    let tidy : IsTidy x.kept.buffer = ((joined a.image (length a.processors.items) a.budget (history a) ties.valid ties.run).buffers (cpu_number e.cpu)).alike.tidy in
+    let asked : ask_of e.act (about x) x.kept ≡ Some q = (was_asked x e.act q is.asked).0 in
+    subst (λ (z : Outcome). Spells e z) (sym gives)
+    (spells p x e r at (actor_cpu a.image a.budget (history a) e.cpu) tidy (subst (λ (z : Option Ask2). Fits2 z r) (sym asked) (answer_fits a e q r ties is answer)) told (subst (λ (z : Outcome). ShowsFitting z) gives fits))
 
 -- what a list has after one of its elements was set
 slice_get-set_here : {A : Type 0} (xs : List A) (c : ℕ) (new y : A) → slice_get (set xs c new) c ≡ Some y → new ≡ y
@@ -183,14 +208,19 @@ history_made a b e q new makes = ap reverse makes.records ∙ reverse-append a.r
 count_made : (a b : Inside) (e : Event) (q : Ask2) (new : Processor) → Makes a b e q new → length b.processors.items ≡ length a.processors.items
 count_made a b e q new makes = ap (λ (ps : List Processor). length ps) makes.processors ∙ length-set a.processors.items (cpu_number e.cpu) new
 
-pub ties_made : (a b : Inside) (e : Event) (q : Ask2) (new : Processor) → Ties a → IsGranted (seen a) e q → Makes a b e q new → Ties b
-ties_made a b e q new ties is makes =
+asked_made : (size : ℕ) (image : ℕ → ℕ) (cs : List BusCall) (cpu : Cpu) (q : Ask2) → IsAskWithin size q → AreAskedWithin size cs → AreAskedWithin size (calls_for image cs cpu (Ok q))
+asked_made size image cs cpu ask.Private inside before = before
+asked_made size image cs cpu (ask.Bus q) inside before = (inside, before)
+
+pub ties_made : (a b : Inside) (e : Event) (q : Ask2) (new : Processor) → Ties a → IsGranted (seen a) e q → IsAskWithin a.image.size q → Makes a b e q new → Ties b
+ties_made a b e q new ties is inside makes =
     let past = history_made a b e q new makes in
     let count = count_made a b e q new makes in
     record {
       valid = rw makes.image ties.valid;
       seats = rw (makes.image, makes.budget, past, makes.processors) (seats_step a.image a.budget a.processors.items (history a) (made (seen a) e) new makes.at ties.seats);
       bus = rw (makes.image, makes.budget, past) (subst (λ cs. bus.Stands b.bus (image_bytes a.image) cs) (sym (calls_made a.image (world_of (seen a)) e q is.asked)) makes.bus);
+      asked = rw (makes.image, makes.budget, past) (subst (AreAskedWithin a.image.size) (sym (calls_made a.image (world_of (seen a)) e q is.asked)) (asked_made a.image.size (image_bytes a.image) (world_of (seen a)).calls e.cpu q inside ties.asked));
       size = makes.size ∙ ties.size ∙ ap (λ (i : Contents). i.size) (sym makes.image);
       lanes = makes.lanes ∙ ties.lanes ∙ sym count;
       run = rw (makes.image, makes.budget, past) (subst (λ n. IsPlayed a.image n a.budget (made (seen a) e ∷ history a)) (sym count) (played a e q ties is));

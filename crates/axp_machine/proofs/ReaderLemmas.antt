@@ -59,6 +59,7 @@ ties_start a cpus valid starts stands size lanes none least most some few room b
       valid = valid;
       seats = rw empty starts.each;
       bus = rw empty stands;
+      asked = rw empty tt;
       size = size;
       lanes = lanes ∙ sym starts.count;
       run = rw empty tt;

@@ -1,5 +1,6 @@
 -- How the parts of a machine stand for its records.
 use Rattle.std.specs.Prelude.{◌≡◌, ℕ, ◌*◌, ◌≤◌, List, length, reverse, slice_get, Some}
+use Rattle.std.specs.List.{AllByRecursion}
 use Rattle.std.specs.Vec.{vec_capacity}
 use Rattle.axp_access.specs.declared.Record.{Record}
 use Rattle.axp_base.specs.declared.processors.TheConstants.{MAX_BUDGET, MAX_CPUS, MIN_CPUS}
@@ -7,8 +8,10 @@ use Rattle.axp_bus.specs.BusStands as bus
 use Rattle.axp_cpu.specs.ActorStands.{IsAt}
 use Rattle.axp_cpu.specs.declared.processors.Processor.{Processor}
 use Rattle.axp_image.specs.Contents.{IsValid}
+use Rattle.axp_lsu.specs.Within.{IsRequestWithin}
 use Rattle.axp_machine.specs.declared.machine.Machine.TheInside.{Inside}
 use Rattle.axp_machine.specs.Runs.{Seen}
+use Rattle.axp_model.specs.BusCalls.{BusCall}
 use Rattle.axp_world.specs.declared.lengths.TheConstants.{EVENTS_PER_STEP}
 use Rattle.axp_world.specs.Worlds.{World, IsPlayed, image_bytes, world}
 
@@ -23,10 +26,15 @@ seen a = record { image = a.image; cpus = length a.processors.items; budget = a.
 abbrev pub AreSeated : World → List Processor → Type 0
 AreSeated w ps = (p : ℕ) (x : Processor) → slice_get ps p ≡ Some x → IsAt x (w.actors p)
 
+-- what each call asked lies in memory
+abbrev pub AreAskedWithin : ℕ → List BusCall → Type 0
+AreAskedWithin size cs = AllByRecursion (λ (c : BusCall). IsRequestWithin size c.ask) cs
+
 pub record Ties (a : Inside) : Type 0 where
   pub valid : IsValid a.image
   pub seats : AreSeated (world a.image a.budget (history a)) a.processors.items
   pub bus : bus.Stands a.bus (image_bytes a.image) (world a.image a.budget (history a)).calls
+  pub asked : AreAskedWithin a.image.size (world a.image a.budget (history a)).calls
   pub size : length a.bus.memory ≡ a.image.size
   pub lanes : length a.bus.lanes ≡ length a.processors.items
   pub run : IsPlayed a.image (length a.processors.items) a.budget (history a)

@@ -43,6 +43,7 @@ impl Model for Machine {
 
 impl Machine {
     ghost use Rattle.std.specs.Prelude.{◌≡◌, ◌*◌, ◌^◌, ◌<◌, ◌≤◌, length, IfOk, IfErr, Ok, Err};
+    ghost use Rattle.axp_access.specs.Spelling.{Spells};
     ghost use Rattle.axp_base.specs.Cpus.{cpu_number};
     ghost use Rattle.axp_image.specs.Contents.{IsValid};
     ghost use Rattle.axp_regs.specs.States.{pc_of, register};
@@ -180,13 +181,15 @@ impl Machine {
     /// where its processor is not one of the machine's, or the event is not legal after the records so
     /// far; [`Refusal::NotBuilt`] exactly where it is legal and comes to what is not built. A refused
     /// event leaves the machine as it was.
-    /// The records are always a run, so they keep the constraints of shared memory.
+    /// The records are always a run, so they keep the constraints of shared memory, and one line of a
+    /// trace spells each of them.
     #[tactic(auto, unfolding(crate::specs::Runs::after_event), using(crate::proofs::RunLemmas::keeps_constraints))]
     pub fn event(&mut self, event: Event) -> Result<Outcome, Refusal>
         ensures answer { result ≡ answer_of self.old event }
         ensures after { self.new ≡ after_event self.old event }
         ensures run { IsRun self.new }
         ensures constraints { KeepsConstraints self.new }
+        ensures spelled { IfOk result (Spells event) }
     {
         match self.grant(event) {
             Ok(ask) => Ok(self.make(event, ask)),
@@ -225,6 +228,7 @@ impl Machine {
         ensures after { self.new ≡ with_record self.old (record { event = event; outcome = result }) }
         ensures run { IsRun self.new }
         ensures valid { IsValid self.new.image }
+        ensures spelled { Spells event result }
     {
         let reply = answer(&mut self.bus, event.cpu, ask);
         let outcome = self.processors[usize::from(event.cpu.number())].advance(event.act, reply);

@@ -9,7 +9,7 @@ ghost use Rattle.axp_model.specs.Outcomes.{bank_for};
 ghost use Rattle.axp_model.specs.Records.{line_of, line_at};
 ghost use Rattle.axp_wbuf.specs.Pending.{takes, stored, store_number};
 ghost use Rattle.axp_lsu.specs.Asking.{act_ask, ask_of, ready};
-ghost use Rattle.axp_lsu.specs.Fitting.{Fits2, IsWantedInSome};
+ghost use Rattle.axp_lsu.specs.Fitting.{Fits2, IsWantedInSome, ShowsFitting, WantsFitting};
 ghost use Rattle.axp_lsu.specs.Going.{accessed, advanced, brought, delivered, drain_outcome, drained, fenced, filled, fill_outcome, kept_after, outcome_by, outcome_of, place_by, poll_outcome, rewritten, stamp_or_none, step_outcome, stepped, success_by, take_outcome, turn_in};
 ghost use Rattle.axp_lsu.specs.Keeping.{copies_of, data_copies, nothing, with_copies, with_drop};
 ghost use Rattle.axp_lsu.specs.Within.{IsKeptWithin, IsWantedWithin};
@@ -30,6 +30,7 @@ impl Lsu {
         requires wanted { IsWantedInSome intent.now.wanted }
         requires few_made { self.old.buffer.made + 1 < 2 ^ 32 }
         ensures outcome { result ≡ outcome_of act cpu intent.now self.old reply }
+        ensures fits { WantsFitting intent.now.wanted → ShowsFitting result }
         ensures kept { self.new ≡ advanced act intent.now reply self.old }
         ensures within { (size : ℕ) → IsKeptWithin size self.old → IsWantedWithin size intent.now.wanted → IsKeptWithin size self.new }
         ensures one_more { self.new.buffer.made ≤ self.old.buffer.made + 1 }
@@ -43,6 +44,7 @@ impl Lsu {
         requires wanted { IsWantedInSome intent.now.wanted }
         requires few_made { self.old.buffer.made + 1 < 2 ^ 32 }
         ensures outcome { result ≡ outcome_of act cpu intent.now self.old reply }
+        ensures fits { WantsFitting intent.now.wanted → ShowsFitting result }
         ensures kept { self.new ≡ advanced act intent.now reply self.old }
     {
         match act {
@@ -71,6 +73,7 @@ impl Lsu {
         requires wanted { IsWantedInSome intent.now.wanted }
         requires few_made { self.old.buffer.made + 1 < 2 ^ 32 }
         ensures outcome { result ≡ step_outcome cpu intent.now.wanted self.old reply }
+        ensures fits { WantsFitting intent.now.wanted → ShowsFitting result }
         ensures kept { self.new ≡ record (stepped intent.now.wanted reply self.old) { since = nothing } }
     {
         let outcome = match &intent.wanted {
@@ -87,6 +90,7 @@ impl Lsu {
         requires wanted { IsWantedInSome (Some wanted.now) }
         requires few_made { self.old.buffer.made + 1 < 2 ^ 32 }
         ensures outcome { result ≡ step_outcome cpu (Some wanted.now) self.old reply }
+        ensures fits { WantsFitting (Some wanted.now) → ShowsFitting result }
         ensures kept { self.new ≡ accessed wanted.now.kind wanted.now reply self.old }
     {
         let value = self.shown(wanted, reply);

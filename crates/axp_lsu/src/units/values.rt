@@ -1,9 +1,9 @@
-ghost use Rattle.std.specs.Prelude.{◌≡◌, ◌%◌, Some};
+ghost use Rattle.std.specs.Prelude.{◌≡◌, ◌*◌, ◌%◌, ◌^◌, ◌<◌, Some};
 ghost use Rattle.axp_base.specs.Masks.{IsSize};
 ghost use Rattle.axp_base.specs.Parts.{part};
 ghost use Rattle.axp_base.specs.declared.lines.TheConstants.{LINE_BYTES};
 ghost use Rattle.axp_line.specs.Lines.{bytes_of_line};
-ghost use Rattle.axp_lsu.specs.Fitting.{IsWantedInSome};
+ghost use Rattle.axp_lsu.specs.Fitting.{FitsSize, IsWantedInSome};
 ghost use Rattle.axp_lsu.specs.Going.{fetched_value, is_stored, locked_value, read_value, shown_by, value_of};
 
 use super::Lsu;
@@ -37,7 +37,8 @@ impl Lsu {
     /// What is shown as an access's value: what it found, or what was wanted of it.
     pub(super) fn shown(&self, wanted: &Wanted, reply: Option<Reply>) -> u64
         requires { IsWantedInSome (Some wanted.now) }
-        ensures { result ≡ shown_by wanted.now.kind wanted.now self.now reply }
+        ensures value { result ≡ shown_by wanted.now.kind wanted.now self.now reply }
+        ensures fits { FitsSize wanted.now.kind wanted.now.size wanted.now.value → FitsSize wanted.now.kind wanted.now.size result }
     {
         match wanted.kind {
             Kind::Fetch => self.fetched(wanted),
@@ -51,7 +52,8 @@ impl Lsu {
     fn fetched(&self, wanted: &Wanted) -> u64
         requires sized { IsSize wanted.now.size }
         requires aligned { wanted.now.address % wanted.now.size ≡ 0 }
-        ensures { result ≡ fetched_value wanted.now self.now }
+        ensures value { result ≡ fetched_value wanted.now self.now }
+        ensures small { result < 2 ^ (8 * wanted.now.size) }
     {
         match self.code.get(Line::of(wanted.address)) {
             None => 0,
@@ -63,7 +65,8 @@ impl Lsu {
     fn read(&self, wanted: &Wanted) -> u64
         requires sized { IsSize wanted.now.size }
         requires aligned { wanted.now.address % wanted.now.size ≡ 0 }
-        ensures { result ≡ read_value wanted.now self.now }
+        ensures value { result ≡ read_value wanted.now self.now }
+        ensures small { result < 2 ^ (8 * wanted.now.size) }
     {
         let line = Line::of(wanted.address);
         match self.data(line).get(line) {
@@ -81,7 +84,8 @@ impl Lsu {
 fn locked(wanted: &Wanted, reply: Option<Reply>) -> u64
     requires sized { IsSize wanted.now.size }
     requires aligned { wanted.now.address % wanted.now.size ≡ 0 }
-    ensures { result ≡ locked_value wanted.now reply }
+    ensures value { result ≡ locked_value wanted.now reply }
+    ensures small { result < 2 ^ (8 * wanted.now.size) }
 {
     match reply {
         Some(Reply::Line { bytes, .. }) => part_of(&bytes, wanted),
@@ -103,7 +107,8 @@ pub(super) fn is_stored(reply: Option<Reply>) -> bool
 fn part_of(bytes: &LineData, wanted: &Wanted) -> u64
     requires sized { IsSize wanted.now.size }
     requires aligned { wanted.now.address % wanted.now.size ≡ 0 }
-    ensures { result ≡ part (bytes_of_line bytes.now) (wanted.now.address % LINE_BYTES) wanted.now.size }
+    ensures value { result ≡ part (bytes_of_line bytes.now) (wanted.now.address % LINE_BYTES) wanted.now.size }
+    ensures small { result < 2 ^ (8 * wanted.now.size) }
 {
     bytes.get((wanted.address % LINE_BYTES) as u8, wanted.size)
 }

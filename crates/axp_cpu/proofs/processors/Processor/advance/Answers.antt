@@ -1,5 +1,5 @@
 use Rattle.std.proofs.Common.{refl, ap}
-use Rattle.axp_cpu.proofs.ActorLemmas.{at_after, fits_is, kept_within, wanted_within, was_asked}
+use Rattle.axp_cpu.proofs.ActorLemmas.{at_after, fits_is, kept_within, wanted_fits, wanted_within, was_asked}
 use Rattle.axp_cpu.proofs.processors.Processor.advance.Goals as goal
 
 pub moved-sequencer-requires : goal.moved-sequencer-requires
@@ -18,6 +18,10 @@ advance-outcome-requires-clause-wanted c = record {
   size = c.requires.actor.seat.size;
   within = wanted_within c.requires.actor.seat.size c.intent-intent.result.wanted (c.intent-intent.ensures.makeable c.requires.actor.seat c.requires.at.seat);
 }
+
+pub returns-clause-fits : goal.returns-clause-fits
+returns-clause-fits c =
+    c.advance-outcome.ensures.fits (wanted_fits c.requires.actor.seat.size c.intent-intent.result.wanted (c.intent-intent.ensures.makeable c.requires.actor.seat c.requires.at.seat))
 
 pub returns-clause-at : goal.returns-clause-at
 returns-clause-at c = λ a at.

@@ -10,7 +10,7 @@ use Rattle.axp_machine.specs.Playing.{granted_in}
 use Rattle.axp_machine.specs.Runs.{Seen, actor_of, world_of}
 use Rattle.axp_machine.specs.Ties.{seen}
 use Rattle.axp_machine.proofs.GrantLemmas.{IsGranted, granted_is, outcome_in}
-use Rattle.axp_machine.proofs.MakeLemmas.{Makes, answer_is, can_answer, granted_of, has_room, is_answered, makes_of, shows_after, ties_made}
+use Rattle.axp_machine.proofs.MakeLemmas.{Makes, answer_is, can_answer, granted_of, has_room, is_answered, is_spelled, makes_of, shows_after, ties_made}
 use Rattle.axp_machine.proofs.ReaderLemmas.{seated_at}
 use Rattle.axp_machine.proofs.machine.Machine.make.Goals as goal
 
@@ -48,26 +48,34 @@ now_inside c = record { image = c.self.inside.image; processors = with_item c.se
 given : (c : goal.After-push_reserved) → IsGranted (seen c.self.inside) c.args.event c.args.ask
 given c = granted_of c.self.inside c.args.self.now c.args.event c.args.ask c.self.view_is c.requires.granted
 
+sits : (c : goal.After-push_reserved) → IsAt c.index_mut.result.now (actor_of (seen c.self.inside) (cpu_number c.args.event.cpu))
+sits c = seated_at c.self.inside (cpu_number c.args.event.cpu) c.from.result c.index_mut.result.now c.self.invariant (c.from.ensures ∙ c.number.ensures.value) (given c).below c.index_mut.ensures.value
+
 makes : (c : goal.After-push_reserved) → Makes c.self.inside (now_inside c) c.args.event c.args.ask c.advance-outcome.new.self × (c.advance-outcome.result ≡ outcome_in (seen c.self.inside) c.args.event)
 makes c =
-    let at : IsAt c.index_mut.result.now (actor_of (seen c.self.inside) (cpu_number c.args.event.cpu)) =
-    seated_at c.self.inside (cpu_number c.args.event.cpu) c.from.result c.index_mut.result.now c.self.invariant (c.from.ensures ∙ c.number.ensures.value) (given c).below c.index_mut.ensures.value in
     makes_of c.self.inside (now_inside c) c.args.event c.args.ask c.advance-outcome.new.self c.answer-reply.result c.advance-outcome.result (given c) refl refl
     (ap (λ i. set c.self.inside.processors.items i c.advance-outcome.new.self) (c.from.ensures ∙ c.number.ensures.value))
     (c.answer-reply.ensures.reply (image_bytes c.self.inside.image) (world_of (seen c.self.inside)).calls c.self.invariant.bus)
-    (c.advance-outcome.ensures.at (actor_of (seen c.self.inside) (cpu_number c.args.event.cpu)) at)
-    (c.advance-outcome.ensures.outcome (actor_of (seen c.self.inside) (cpu_number c.args.event.cpu)) at)
+    (c.advance-outcome.ensures.at (actor_of (seen c.self.inside) (cpu_number c.args.event.cpu)) (sits c))
+    (c.advance-outcome.ensures.outcome (actor_of (seen c.self.inside) (cpu_number c.args.event.cpu)) (sits c))
     (c.answer-reply.ensures.stands (image_bytes c.self.inside.image) (world_of (seen c.self.inside)).calls c.self.invariant.bus)
     c.answer-reply.ensures.size c.answer-reply.ensures.cpus c.answer-reply.ensures.room c.push_reserved.ensures.items c.push_reserved.ensures.capacity
 
 pub invariant_of-self : goal.invariant_of-self
-invariant_of-self c = ties_made c.self.inside (now_inside c) c.args.event c.args.ask c.advance-outcome.new.self c.self.invariant (given c) (makes c).0
+invariant_of-self c =
+    ties_made c.self.inside (now_inside c) c.args.event c.args.ask c.advance-outcome.new.self c.self.invariant (given c) (subst (λ (m : Seen). IsAskWithin m.image.size c.args.ask) (sym c.self.view_is) c.requires.within) (makes c).0
 
 pub returns-clause-answer : goal.returns-clause-answer
 returns-clause-answer c = answer_is c.self.inside c.args.self.now c.args.event c.args.ask c.advance-outcome.result c.self.view_is (given c) (makes c).1
 
 pub returns-clause-after : goal.returns-clause-after
 returns-clause-after c = shows_after c.self.inside (now_inside c) c.args.self.now c.args.event c.args.ask c.advance-outcome.new.self c.advance-outcome.result c.self.view_is (makes c)
+
+pub returns-clause-spelled : goal.returns-clause-spelled
+returns-clause-spelled c =
+    is_spelled c.self.inside c.args.event c.args.ask c.index_mut.result.now c.answer-reply.result c.advance-outcome.result c.self.invariant (given c) (sits c)
+    (c.answer-reply.ensures.reply (image_bytes c.self.inside.image) (world_of (seen c.self.inside)).calls c.self.invariant.bus)
+    (c.advance-outcome.ensures.outcome (actor_of (seen c.self.inside) (cpu_number c.args.event.cpu)) (sits c)) c.advance-outcome.ensures.fits
 
 pub returns-clause-run : goal.returns-clause-run
 returns-clause-run c = (invariant_of-self c).run
