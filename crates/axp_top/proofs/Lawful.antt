@@ -1,7 +1,6 @@
 -- The answer to an event list shows a run that keeps the constraints of shared memory.
-use Rattle.std.proofs.Common.{◌≡◌, ℕ, Bool, true, false, cond, List, [], ◌∷◌, length, Option, Some, None, Ok, Err, Result, IfSome, refl, sym, ◌∙◌, subst, inl, inr}
+use Rattle.std.proofs.Common.{◌≡◌, ℕ, Bool, true, false, cond, List, [], ◌∷◌, length, Option, Some, None, Ok, Err, Result, IfSome, refl, sym, subst, inl, inr}
 use Rattle.std.specs.Prelude.{nat_lt}
-use Rattle.std.proofs.lemmas.Bool.{cases_Bool}
 use Rattle.axp_access.specs.declared.Event.{Event}
 use Rattle.axp_access.specs.declared.Outcome.{Outcome}
 use Rattle.axp_access.specs.declared.Record.{Record}
@@ -13,11 +12,11 @@ use Rattle.axp_machine.specs.Runs.{Seen, IsRun, answer_of, started, with_record}
 use Rattle.axp_machine.proofs.RunLemmas.{keeps_constraints}
 use Rattle.axp_trace.specs.declared.reading.Header.{Header}
 use Rattle.axp_trace.specs.Files.{lines_of}
-use Rattle.axp_trace.specs.Reading.{event_of, header_of}
+use Rattle.axp_trace.specs.Reading.{header_of}
 use Rattle.axp_top.specs.declared.limits.TheConstants.{MAX_IMAGE_BYTES, MAX_TRACE_BYTES}
 use Rattle.axp_top.specs.Answers as answers
 use Rattle.axp_top.specs.Answers.{answer_of_files, answer_of_image, answer_of_trace, image_in}
-use Rattle.axp_top.specs.Lawful.{IsLawful, ShowsRun, TellsBytes, image_of_file, image_told}
+use Rattle.axp_top.specs.Lawful.{IsLawful, TellsBytes, image_of_file, image_told}
 use Rattle.axp_top.specs.Replays.{Answer, answer_of_lines, answer_of_list, ending_of, event_in, not_built_at_all, record_of, recorded, replayed}
 use Rattle.axp_top.specs.Words.{Order, Replay}
 

@@ -676,7 +676,13 @@ fn full_buffer_refused(rt: HostRuntime) -> Result<(), Fail> {
 fn holds(alloc: Global, worked: &Worked) -> Result<bool, Fail> {
     let image = image(alloc, worked)?;
     let events = events(alloc, worked)?;
-    prints(alloc, image.as_slice(), events.as_slice(), worked.text, worked.status)
+    prints(
+        alloc,
+        image.as_slice(),
+        events.as_slice(),
+        worked.text,
+        worked.status,
+    )
 }
 
 /// The image file: four pages of memory, the program at 0x2000, where every processor starts, the stack's
