@@ -32,6 +32,3 @@ pub mod Polled
 pub mod Caused
 pub mod ExamplesComputed
 pub mod ExamplesAreRuns
-pub mod PlainSources
-pub mod PlainTurns
-pub mod PlainTouched

@@ -21,7 +21,3 @@ pub mod PollLaws
 pub mod Causality
 pub mod BusCalls
 pub mod BusReply
-pub mod PlainTurns
-pub mod PlainPlaces
-pub mod PlainSources
-pub mod PlainLaws

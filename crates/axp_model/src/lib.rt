@@ -8,7 +8,6 @@ mod examples;
 mod late;
 mod locks;
 mod order;
-mod plain;
 mod polls;
 mod storage;
 
@@ -26,9 +25,6 @@ pub use locks::{locking, undisturbed_in_words};
 pub use order::{
     before_is_a_strict_order, counts_grow, order_is_kept, overlapping_accesses_are_ordered,
     places_are_bounded, runs_begin_with_runs,
-};
-pub use plain::{
-    bytes_of_memory, numbers_of_memory, source_of_a_byte, touched_quadwords, turns_of_a_history,
 };
 pub use polls::poll_rule;
 pub use storage::{
