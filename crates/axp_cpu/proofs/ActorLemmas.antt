@@ -35,6 +35,7 @@ use Rattle.axp_cpu.specs.Seats.{Seat, first_seat, intent_of, is_finished, leads,
 use Rattle.axp_cpu.specs.Seats as seats
 use Rattle.axp_cpu.specs.Stands.{GoesOn, Going, Stands}
 use Rattle.axp_cpu.specs.Soundness.{IsSound}
+use Rattle.axp_cpu.proofs.AnswerLemmas.{leads_same}
 use Rattle.axp_cpu.proofs.SeatLemmas.{seat_sound}
 use Rattle.axp_access.specs.declared.Wanted.{Wanted}
 use Rattle.axp_lsu.specs.Within.{IsWantedBy, IsWantedWithin}
@@ -48,8 +49,8 @@ wanted_by : (size : ℕ) (k : Kind) (w : Wanted) → IsSoundAs size k w → IsWa
 wanted_by size kind.Fetch w sound = sound.inside
 wanted_by size kind.Read w sound = sound
 wanted_by size kind.Write w sound = sound
-wanted_by size kind.Locked w sound = absurd sound
-wanted_by size kind.Conditional w sound = absurd sound
+wanted_by size kind.Locked w sound = sound
+wanted_by size kind.Conditional w sound = sound
 wanted_by size kind.Barrier w sound = tt
 wanted_by size kind.WriteBarrier w sound = tt
 wanted_by size kind.CodeBarrier w sound = tt
@@ -90,24 +91,6 @@ plan_sound size Unbuilt w e sound = cc
 pub wanted_sound : (q : Sequencer) (s : Seat) (w : Wanted) → Stands q s → wanted s ≡ Some w → IsSoundAs s.size w.kind w
 wanted_sound q s w stands e = plan_sound s.size (plan_now s) w (wanted_parts s w (is_finished s) refl e).1 (seat_sound q s stands)
 
--- the value of an access of the table does not hang on the bus's answer
-value_same : (size : ℕ) (k : Kind) (w : Wanted) (u : Kept) (r : Option Reply) → IsSoundAs size k w → value_by k w u r ≡ value_by k w u None
-value_same size kind.Fetch w u r sound = refl
-value_same size kind.Read w u r sound = refl
-value_same size kind.Write w u r sound = refl
-value_same size kind.Locked w u r sound = absurd sound
-value_same size kind.Conditional w u r sound = absurd sound
-value_same size kind.Barrier w u r sound = refl
-value_same size kind.WriteBarrier w u r sound = refl
-value_same size kind.CodeBarrier w u r sound = refl
-value_same size kind.Signal w u r sound = refl
-value_same size kind.Console w u r sound = refl
-value_same size kind.Poll w u r sound = refl
-
-pub value_is : (size : ℕ) (w : Wanted) (u : Kept) (r : Option Reply) → IsSoundAs size w.kind w → value_of w u r ≡ value_of w u None
-unfolding value_of
-value_is size w u r sound = value_same size w.kind w u r sound
-
 -- a wanted access lies in the memory of the processor's seat
 pub wanted_in_some : (p : Processor) (o : Option Wanted) → IsSeatedWith p o → (w : Wanted) → o ≡ Some w → IsWantedInSome (Some w)
 wanted_in_some p o seated w is = record {
@@ -131,10 +114,9 @@ pub never_stops : (p : Processor) (o : Option Wanted) (w : Wanted) (r : Option R
 never_stops p o w r v can is value stops =
     let a : Actor = can.actor in
     let wants : (about a).wanted ≡ Some w = sym can.wants ∙ is in
-    let sound : IsSoundAs a.seat.size w.kind w = wanted_sound p.sequencer a.seat w can.at.seat wants in
-    let same : v ≡ value_of w a.kept None = value ∙ ap (λ u. value_of w u r) can.at.kept ∙ value_is a.seat.size w a.kept r sound in
+    let same : v ≡ value_of w a.kept r = value ∙ ap (λ u. value_of w u r) can.at.kept in
     let built : leads a.seat (value_of w a.kept None) ≡ true = ap (λ x. step_built x a) (sym wants) ∙ can.built in
-    let never : false ≡ true = sym (stops a.seat can.at.seat) ∙ ap (leads a.seat) same ∙ built in cc
+    let never : false ≡ true = sym (stops a.seat can.at.seat) ∙ ap (leads a.seat) same ∙ leads_same a.seat w a.kept r wants ∙ built in cc
 
 -- what was asked for is legal and built
 asked_parts : (o : Option Ask2) (b : Bool) (q : Ask2) → asked_by o b ≡ Ok q → (o ≡ Some q) × (b ≡ true)

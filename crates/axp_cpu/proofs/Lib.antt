@@ -1,4 +1,5 @@
 pub mod PlanLemmas
 pub mod SeatLemmas
 pub mod RefusalLemmas
+pub mod AnswerLemmas
 pub mod ActorLemmas

@@ -1,5 +1,5 @@
 -- Every plan of the instruction table is sound.
-use Rattle.std.proofs.Common.{◌≡◌, ℕ, ◌+◌, ◌*◌, ◌/◌, ◌%◌, ◌^◌, ◌<◌, ◌≤◌, ◌&&◌, Bool, true, false, cond, eqb, ltb, List, [], ◌∷◌, arith, rules, refl, inl, inr}
+use Rattle.std.proofs.Common.{◌≡◌, ◌⊎◌, ℕ, ◌+◌, ◌*◌, ◌/◌, ◌%◌, ◌^◌, ◌<◌, ◌≤◌, ◌&&◌, Bool, true, false, cond, eqb, ltb, List, [], ◌∷◌, arith, rules, refl, inl, inr}
 use Rattle.std.proofs.lemmas.Bool.{ltb-true, eqb-true}
 use Rattle.axp_access.specs.declared.Wanted.{Wanted}
 use Rattle.axp_base.specs.Masks.{IsSize}
@@ -28,14 +28,14 @@ use Rattle.axp_integer.specs.Rows as integer
 use Rattle.axp_lsu.specs.Within.{IsInMemory}
 use Rattle.axp_regs.specs.States.{register, pc_of, ptbr_of}
 use Rattle.axp_regs.specs.declared.asks.Kind.{Kind}
-use Rattle.axp_regs.specs.declared.asks.Kind.TheVariants.{Fetch, Read, Write, Barrier, WriteBarrier, CodeBarrier}
+use Rattle.axp_regs.specs.declared.asks.Kind.TheVariants.{Fetch, Read, Write, Locked, Conditional, Barrier, WriteBarrier, CodeBarrier}
 use Rattle.axp_regs.specs.declared.states.TheConstants.{ZERO_REGISTER}
 use Rattle.axp_cpu.specs.declared.tables.Table.{Table}
 use Rattle.axp_cpu.specs.Addresses.{in_kseg, physical, reached, aligned, is_canonical, first_entry, looked_up}
 use Rattle.axp_cpu.specs.Plans.{Plan, End, Want, Unbuilt, given, along}
-use Rattle.axp_cpu.specs.Rows.{group, fetched, fenced, row, memory_row, branch_row, branch_goal, operate_row, misc_row, pal_row, ended, wrote, loaded, stored, as_read, as_longword, address_of, quadword_at, operand}
+use Rattle.axp_cpu.specs.Rows.{group, fetched, fenced, row, memory_row, branch_row, branch_goal, operate_row, misc_row, pal_row, ended, wrote, load_locked, loaded, store_conditional, stored, as_read, as_longword, address_of, quadword_at, operand}
 use Rattle.axp_cpu.specs.Soundness.{IsSound, IsSoundAs}
-use Rattle.axp_cpu.specs.Tables.{counted, next_pc}
+use Rattle.axp_cpu.specs.Tables.{counted, flagged, next_pc}
 
 -- the end of an aligned part of whole pages lies in them
 part_within : (n a size : ℕ) → IsSize n → a % n ≡ 0 → a < size → size % PAGE_BYTES ≡ 0 → a + n ≤ size
@@ -62,6 +62,8 @@ abbrev IsPlain : Kind → Type 0
 IsPlain Fetch = Unit {0}
 IsPlain Read = Unit {0}
 IsPlain Write = Unit {0}
+IsPlain Locked = Unit {0}
+IsPlain Conditional = Unit {0}
 IsPlain _ = ⊥
 
 -- its kind and size
@@ -69,9 +71,10 @@ record Asks (kind : Kind) (n : ℕ) : Type 0 where
   plain : IsPlain kind
   sized : IsSize n
   fetched : kind ≡ Fetch → n ≡ INSTRUCTION_BYTES
+  conditional : kind ≡ Conditional → (n ≡ 4) ⊎ (n ≡ 8)
 
 asks_fetch : Asks Fetch INSTRUCTION_BYTES
-asks_fetch = record { plain = tt; sized = inr (inr (inl refl)); fetched = λ _. refl }
+asks_fetch = record { plain = tt; sized = inr (inr (inl refl)); fetched = λ _. refl; conditional = λ is. cc }
 
 sized : (what : Size) → IsSize (bytes_of what)
 sized Byte = inl refl
@@ -80,16 +83,24 @@ sized Long = inr (inr (inl refl))
 sized Quad = inr (inr (inr refl))
 
 asks_read : (what : Size) → Asks Read (bytes_of what)
-asks_read what = record { plain = tt; sized = sized what; fetched = λ is. cc }
+asks_read what = record { plain = tt; sized = sized what; fetched = λ is. cc; conditional = λ is. cc }
 
 asks_write : (what : Size) → Asks Write (bytes_of what)
-asks_write what = record { plain = tt; sized = sized what; fetched = λ is. cc }
+asks_write what = record { plain = tt; sized = sized what; fetched = λ is. cc; conditional = λ is. cc }
+
+asks_locked : (what : Size) → Asks Locked (bytes_of what)
+asks_locked what = record { plain = tt; sized = sized what; fetched = λ is. cc; conditional = λ is. cc }
+
+asks_conditional : (what : Size) → (bytes_of what ≡ 4) ⊎ (bytes_of what ≡ 8) → Asks Conditional (bytes_of what)
+asks_conditional what long = record { plain = tt; sized = sized what; fetched = λ is. cc; conditional = λ _. long }
 
 -- an access that lies in memory is sound
 sound_as : (size : ℕ) (kind : Kind) (w : Wanted) → Asks kind w.size → IsInMemory size w → IsSoundAs size kind w
 sound_as size Fetch w asks inside = record { inside = inside; bytes = asks.fetched refl }
 sound_as size Read w asks inside = inside
 sound_as size Write w asks inside = inside
+sound_as size Locked w asks inside = inside
+sound_as size Conditional w asks inside = record { within = inside; sized = asks.conditional refl }
 sound_as size _ w asks inside = absurd asks.plain
 
 reached_by : (tested : Bool) (size : ℕ) (w : Wanted) (k : ℕ → Plan) → (tested ≡ true → IsSoundAs size w.kind w) → ((x : ℕ) → IsSound size (k x)) → IsSound size (cond tested (Want w k) Unbuilt)
@@ -148,6 +159,13 @@ stored_sound : (size : ℕ) (t : Table) (what : Size) (a address : ℕ) → size
 stored_sound size t what a address pages h =
     aligned_sound size Write address (bytes_of what) (low_datum what (register t.state a)) (λ _. ended t) pages (asks_write what) (λ v. next_aligned t h)
 
+load_locked_sound : (size : ℕ) (what : Size) (address : ℕ) (k : ℕ → Plan) → ((v : ℕ) → IsSound size (k v)) → size % PAGE_BYTES ≡ 0 → IsSound size (load_locked size what address k)
+load_locked_sound size what address k follows pages = aligned_sound size Locked address (bytes_of what) 0 k pages (asks_locked what) follows
+
+store_conditional_sound : (size : ℕ) (t : Table) (what : Size) (a address : ℕ) → (bytes_of what ≡ 4) ⊎ (bytes_of what ≡ 8) → size % PAGE_BYTES ≡ 0 → IsAligned t → IsSound size (store_conditional size t what a address)
+store_conditional_sound size t what a address long pages h =
+    aligned_sound size Conditional address (bytes_of what) (low_datum what (register t.state a)) (as_read (flagged t false) a) pages (asks_conditional what long) (λ v. next_aligned t h)
+
 memory_sound : (size : ℕ) (t : Table) (op : MemOp) (a base disp : ℕ) → size % PAGE_BYTES ≡ 0 → IsAligned t → IsSound size (memory_row size t op a base disp)
 memory_sound size t memory.LDA a base disp pages h = next_aligned t h
 memory_sound size t memory.LDAH a base disp pages h = next_aligned t h
@@ -156,15 +174,15 @@ memory_sound size t memory.LDWU a base disp pages h = loaded_sound size t Word a
 memory_sound size t memory.LDL a base disp pages h = loaded_sound size t Long a (address_of base disp) (as_longword t a) (λ v. next_aligned t h) pages h
 memory_sound size t memory.LDQ a base disp pages h = loaded_sound size t Quad a (address_of base disp) (as_read t a) (λ v. next_aligned t h) pages h
 memory_sound size t memory.LDQ_U a base disp pages h = loaded_sound size t Quad a (quadword_at (address_of base disp)) (as_read t a) (λ v. next_aligned t h) pages h
-memory_sound size t memory.LDL_L a base disp pages h = tt
-memory_sound size t memory.LDQ_L a base disp pages h = tt
+memory_sound size t memory.LDL_L a base disp pages h = load_locked_sound size Long (address_of base disp) (as_longword (flagged t true) a) (λ v. next_aligned t h) pages
+memory_sound size t memory.LDQ_L a base disp pages h = load_locked_sound size Quad (address_of base disp) (as_read (flagged t true) a) (λ v. next_aligned t h) pages
 memory_sound size t memory.STB a base disp pages h = stored_sound size t Byte a (address_of base disp) pages h
 memory_sound size t memory.STW a base disp pages h = stored_sound size t Word a (address_of base disp) pages h
 memory_sound size t memory.STL a base disp pages h = stored_sound size t Long a (address_of base disp) pages h
 memory_sound size t memory.STQ a base disp pages h = stored_sound size t Quad a (address_of base disp) pages h
 memory_sound size t memory.STQ_U a base disp pages h = stored_sound size t Quad a (quadword_at (address_of base disp)) pages h
-memory_sound size t memory.STL_C a base disp pages h = tt
-memory_sound size t memory.STQ_C a base disp pages h = tt
+memory_sound size t memory.STL_C a base disp pages h = store_conditional_sound size t Long a (address_of base disp) (inl refl) pages h
+memory_sound size t memory.STQ_C a base disp pages h = store_conditional_sound size t Quad a (address_of base disp) (inr refl) pages h
 
 branch_sound : (size : ℕ) (t : Table) (op : BranchOp) (a disp : ℕ) → IsAligned t → IsSound size (branch_row t op a disp)
 branch_sound size t branch.BR a disp h = goal_aligned t branch.BR a disp h

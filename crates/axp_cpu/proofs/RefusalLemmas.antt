@@ -19,13 +19,14 @@ use Rattle.axp_image.specs.declared.limits.TheConstants.{INSTRUCTION_BYTES}
 use Rattle.axp_integer.specs.Rows as integer
 use Rattle.axp_regs.specs.States.{register, pc_of, ptbr_of}
 use Rattle.axp_regs.specs.declared.asks.Kind.{Kind}
-use Rattle.axp_regs.specs.declared.asks.Kind.TheVariants.{Fetch, Read, Write}
+use Rattle.axp_regs.specs.declared.asks.Kind.TheVariants.{Fetch, Read, Write, Locked, Conditional}
 use Rattle.axp_regs.specs.declared.states.TheConstants.{ZERO_REGISTER}
 use Rattle.axp_cpu.specs.declared.tables.Table.{Table}
 use Rattle.axp_cpu.specs.Addresses.{aligned, first_entry, in_kseg, is_canonical, looked_up, reached}
 use Rattle.axp_cpu.specs.Plans.{Plan, Want, Unbuilt, given, is_built}
+use Rattle.axp_cpu.specs.Tables.{flagged}
 use Rattle.axp_cpu.specs.Refusals.{is_reached, is_accessible, load_refused, store_refused, memory_refused, pal_refused, is_refused, is_begun}
-use Rattle.axp_cpu.specs.Rows.{group, fetched, row, memory_row, branch_row, operate_row, misc_row, pal_row, ended, wrote, loaded, stored, as_read, as_longword, address_of, quadword_at, operand}
+use Rattle.axp_cpu.specs.Rows.{group, fetched, row, memory_row, branch_row, operate_row, misc_row, pal_row, ended, wrote, load_locked, loaded, store_conditional, stored, as_read, as_longword, address_of, quadword_at, operand}
 
 wants_if : (tested : Bool) (w : Wanted) (k : ℕ → Plan) → is_built (cond tested (Want w k) Unbuilt) ≡ tested
 wants_if true w k = refl
@@ -56,6 +57,13 @@ loaded_built size t what a address k =
 stored_built : (size : ℕ) (t : Table) (what : Size) (a address : ℕ) → is_built (stored size t what a address) ≡ not (store_refused size what address)
 stored_built size t what a address = aligned_built size Write what address (low_datum what (register t.state a)) (λ _. ended t) ∙ twice (is_accessible size what address)
 
+load_locked_built : (size : ℕ) (what : Size) (address : ℕ) (k : ℕ → Plan) → is_built (load_locked size what address k) ≡ not (store_refused size what address)
+load_locked_built size what address k = aligned_built size Locked what address 0 k ∙ twice (is_accessible size what address)
+
+store_conditional_built : (size : ℕ) (t : Table) (what : Size) (a address : ℕ) → is_built (store_conditional size t what a address) ≡ not (store_refused size what address)
+store_conditional_built size t what a address =
+    aligned_built size Conditional what address (low_datum what (register t.state a)) (as_read (flagged t false) a) ∙ twice (is_accessible size what address)
+
 memory_built : (size : ℕ) (t : Table) (op : MemOp) (a base disp : ℕ) → is_built (memory_row size t op a base disp) ≡ not (memory_refused size op a (address_of base disp))
 memory_built size t memory.LDA a base disp = refl
 memory_built size t memory.LDAH a base disp = refl
@@ -64,15 +72,15 @@ memory_built size t memory.LDWU a base disp = loaded_built size t Word a (addres
 memory_built size t memory.LDL a base disp = loaded_built size t Long a (address_of base disp) (as_longword t a)
 memory_built size t memory.LDQ a base disp = loaded_built size t Quad a (address_of base disp) (as_read t a)
 memory_built size t memory.LDQ_U a base disp = loaded_built size t Quad a (quadword_at (address_of base disp)) (as_read t a)
-memory_built size t memory.LDL_L a base disp = refl
-memory_built size t memory.LDQ_L a base disp = refl
+memory_built size t memory.LDL_L a base disp = load_locked_built size Long (address_of base disp) (as_longword (flagged t true) a)
+memory_built size t memory.LDQ_L a base disp = load_locked_built size Quad (address_of base disp) (as_read (flagged t true) a)
 memory_built size t memory.STB a base disp = stored_built size t Byte a (address_of base disp)
 memory_built size t memory.STW a base disp = stored_built size t Word a (address_of base disp)
 memory_built size t memory.STL a base disp = stored_built size t Long a (address_of base disp)
 memory_built size t memory.STQ a base disp = stored_built size t Quad a (address_of base disp)
 memory_built size t memory.STQ_U a base disp = stored_built size t Quad a (quadword_at (address_of base disp))
-memory_built size t memory.STL_C a base disp = refl
-memory_built size t memory.STQ_C a base disp = refl
+memory_built size t memory.STL_C a base disp = store_conditional_built size t Long a (address_of base disp)
+memory_built size t memory.STQ_C a base disp = store_conditional_built size t Quad a (address_of base disp)
 
 branch_built : (t : Table) (op : BranchOp) (a disp : ℕ) → is_built (branch_row t op a disp) ≡ true
 branch_built t op a disp = search rules

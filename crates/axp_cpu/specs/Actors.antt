@@ -31,7 +31,9 @@ first_actor image budget cpu = record { cpu = cpu; seat = first_seat image budge
 abbrev pub about : Actor → Intent
 about a = intent_of a.seat
 
--- all is built that a Step leads to: it makes an access, and what follows the access's value is built
+-- all is built that a Step leads to: it makes an access, and what follows the access's value is built. This
+-- is tested before the bus is asked; where the bus tells the value, the group ends with it, so that its
+-- answer changes nothing here
 abbrev pub step_built : Option Wanted → Actor → Bool
 step_built None a = false
 step_built (Some w) a = leads a.seat (going.value_of w a.kept None)

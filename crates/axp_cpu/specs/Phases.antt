@@ -1,5 +1,5 @@
 -- What a phase of the code still has to do, as a plan.
-use Rattle.std.specs.Prelude.{ℕ, ◌*◌, ◌<◌, ◌^◌}
+use Rattle.std.specs.Prelude.{ℕ, ◌*◌, ◌<◌, ◌^◌, true, false}
 use Rattle.axp_access.specs.declared.Wanted.{Wanted}
 use Rattle.axp_regs.specs.declared.states.TheConstants.{REGISTERS}
 use Rattle.axp_cpu.specs.declared.phases.Phase.{Phase}
@@ -9,12 +9,16 @@ use Rattle.axp_cpu.specs.declared.phases.Then.TheVariants as next
 use Rattle.axp_cpu.specs.declared.tables.Table.{Table}
 use Rattle.axp_cpu.specs.Plans.{Plan, End, Want, Unbuilt}
 use Rattle.axp_cpu.specs.Rows.{as_longword, as_read, ended, fetched}
+use Rattle.axp_cpu.specs.Tables.{flagged}
 
 -- what follows an access, by the value that it gave
 abbrev pub after : ℕ → Table → Then → ℕ → Plan
 after size t next.Instruct v = fetched size t v
 after size t (next.Load a) v = as_read t a v
 after size t (next.LoadLong a) v = as_longword t a v
+after size t (next.LoadLocked a) v = as_read (flagged t true) a v
+after size t (next.LoadLockedLong a) v = as_longword (flagged t true) a v
+after size t (next.Conclude a) v = as_read (flagged t false) a v
 after size t next.Finish v = ended t
 after size t next.Translate v = Unbuilt
 
@@ -28,6 +32,9 @@ abbrev pub FollowFits : Then → Type 0
 FollowFits next.Instruct = Unit {0}
 FollowFits (next.Load a) = a < REGISTERS
 FollowFits (next.LoadLong a) = a < REGISTERS
+FollowFits (next.LoadLocked a) = a < REGISTERS
+FollowFits (next.LoadLockedLong a) = a < REGISTERS
+FollowFits (next.Conclude a) = a < REGISTERS
 FollowFits next.Finish = Unit {0}
 FollowFits next.Translate = Unit {0}
 

@@ -24,7 +24,8 @@ is_reached size address = in_kseg address && nat_lt (physical address) size
 abbrev pub is_accessible : ℕ → Size → ℕ → Bool
 is_accessible size what address = (address % bytes_of what == 0) && is_reached size address
 
--- a load whose address is not accessible, but for one into R31, which has none; a store likewise
+-- a load whose address is not accessible, but for one into R31, which has none; a store, load-locked or
+-- store-conditional whose address is not accessible, also of R31
 abbrev pub load_refused : ℕ → Size → ℕ → ℕ → Bool
 load_refused size what a address = not (a == ZERO_REGISTER) && not (is_accessible size what address)
 
@@ -39,24 +40,23 @@ memory_refused size LDWU a address = load_refused size Word a address
 memory_refused size LDL a address = load_refused size Long a address
 memory_refused size LDQ a address = load_refused size Quad a address
 memory_refused size LDQ_U a address = load_refused size Quad a (quadword_at address)
-memory_refused size LDL_L a address = true
-memory_refused size LDQ_L a address = true
+memory_refused size LDL_L a address = store_refused size Long address
+memory_refused size LDQ_L a address = store_refused size Quad address
 memory_refused size STB a address = store_refused size Byte address
 memory_refused size STW a address = store_refused size Word address
 memory_refused size STL a address = store_refused size Long address
 memory_refused size STQ a address = store_refused size Quad address
 memory_refused size STQ_U a address = store_refused size Quad (quadword_at address)
-memory_refused size STL_C a address = true
-memory_refused size STQ_C a address = true
+memory_refused size STL_C a address = store_refused size Long address
+memory_refused size STQ_C a address = store_refused size Quad address
 
 abbrev pub pal_refused : PalOp → Bool
 pal_refused HALT = false
 pal_refused IMB = false
 pal_refused _ = true
 
--- the instruction is not built: load-locked and store-conditional, a load or store of an address that is
--- not accessible, a /V form that overflows, a PAL call other than halt and imb, and every word that is
--- floating or reserved
+-- the instruction is not built: an access of an address that is not accessible, a /V form that overflows,
+-- a PAL call other than halt and imb, and every word that is floating or reserved
 abbrev pub is_refused : ℕ → Table → Instr → Bool
 is_refused size t (Memory op a b disp) = memory_refused size op a (address_of (register t.state b) disp)
 is_refused size t (Branch op a disp) = false

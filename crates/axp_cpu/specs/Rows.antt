@@ -1,7 +1,7 @@
 -- The instruction table: the group of accesses that an instruction is, from the table state at its
 -- start. Registers and program counter change at the group's end alone, the count of fetched
 -- instructions with the fetch. What is not built comes to Unbuilt.
-use Rattle.std.specs.Prelude.{ℕ, ◌+◌, ◌*◌, ◌/◌, ◌%◌, ◌^◌, ◌==◌, Some, if◌then◌else◌}
+use Rattle.std.specs.Prelude.{ℕ, ◌+◌, ◌*◌, ◌/◌, ◌%◌, ◌^◌, ◌==◌, true, false, Some, if◌then◌else◌}
 use Rattle.axp_base.specs.Numbers.{add, mul, sign_extended}
 use Rattle.axp_base.specs.Sizes.{bytes_of, low_datum}
 use Rattle.axp_base.specs.declared.sizes.Size.{Size}
@@ -28,12 +28,12 @@ use Rattle.axp_image.specs.declared.limits.TheConstants.{INSTRUCTION_BYTES}
 use Rattle.axp_integer.specs.Rows as integer
 use Rattle.axp_regs.specs.States.{register, pc_of, ptbr_of, fetched_of, offset_of}
 use Rattle.axp_regs.specs.declared.asks.Kind.{Kind}
-use Rattle.axp_regs.specs.declared.asks.Kind.TheVariants.{Fetch, Read, Write, Barrier, WriteBarrier, CodeBarrier}
+use Rattle.axp_regs.specs.declared.asks.Kind.TheVariants.{Fetch, Read, Write, Locked, Conditional, Barrier, WriteBarrier, CodeBarrier}
 use Rattle.axp_regs.specs.declared.states.TheConstants.{ZERO_REGISTER}
 use Rattle.axp_cpu.specs.declared.tables.Table.{Table}
 use Rattle.axp_cpu.specs.Addresses.{aligned, in_kseg, looked_up, reached}
 use Rattle.axp_cpu.specs.Plans.{Plan, End, Want, Unbuilt}
-use Rattle.axp_cpu.specs.Tables.{next_pc, at_pc, with_value, counted}
+use Rattle.axp_cpu.specs.Tables.{next_pc, at_pc, with_value, flagged, counted}
 
 -- the instruction ends
 abbrev pub ended : Table → Plan
@@ -74,6 +74,15 @@ as_longword t a v = wrote t a (sign_extended 32 v)
 abbrev pub stored : ℕ → Table → Size → ℕ → ℕ → Plan
 stored size t what a address = aligned size Write address (bytes_of what) (low_datum what (register t.state a)) (λ _. ended t)
 
+-- a load-locked: also into R31 it makes its access; its end sets the lock flag
+abbrev pub load_locked : ℕ → Size → ℕ → (ℕ → Plan) → Plan
+load_locked size what address k = aligned size Locked address (bytes_of what) 0 k
+
+-- a store-conditional of the low datum of Ra: Ra becomes 1 where it stored, else 0, and the lock flag is
+-- cleared
+abbrev pub store_conditional : ℕ → Table → Size → ℕ → ℕ → Plan
+store_conditional size t what a address = aligned size Conditional address (bytes_of what) (low_datum what (register t.state a)) (as_read (flagged t false) a)
+
 -- the quadword that has the byte at an address
 abbrev pub quadword_at : ℕ → ℕ
 quadword_at address = address / 8 * 8
@@ -95,15 +104,15 @@ memory_row size t LDWU a base disp = loaded size t Word a (address_of base disp)
 memory_row size t LDL a base disp = loaded size t Long a (address_of base disp) (as_longword t a)
 memory_row size t LDQ a base disp = loaded size t Quad a (address_of base disp) (as_read t a)
 memory_row size t LDQ_U a base disp = loaded size t Quad a (quadword_at (address_of base disp)) (as_read t a)
-memory_row size t LDL_L a base disp = Unbuilt
-memory_row size t LDQ_L a base disp = Unbuilt
+memory_row size t LDL_L a base disp = load_locked size Long (address_of base disp) (as_longword (flagged t true) a)
+memory_row size t LDQ_L a base disp = load_locked size Quad (address_of base disp) (as_read (flagged t true) a)
 memory_row size t STB a base disp = stored size t Byte a (address_of base disp)
 memory_row size t STW a base disp = stored size t Word a (address_of base disp)
 memory_row size t STL a base disp = stored size t Long a (address_of base disp)
 memory_row size t STQ a base disp = stored size t Quad a (address_of base disp)
 memory_row size t STQ_U a base disp = stored size t Quad a (quadword_at (address_of base disp))
-memory_row size t STL_C a base disp = Unbuilt
-memory_row size t STQ_C a base disp = Unbuilt
+memory_row size t STL_C a base disp = store_conditional size t Long a (address_of base disp)
+memory_row size t STQ_C a base disp = store_conditional size t Quad a (address_of base disp)
 
 -- where a branch goes on, and whether it links
 abbrev pub branch_goal : Table → BranchOp → ℕ → ℕ → ℕ

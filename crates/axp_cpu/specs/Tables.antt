@@ -1,8 +1,8 @@
 -- What a group of accesses makes of the table state.
-use Rattle.std.specs.Prelude.{ℕ, ◌+◌, ◌%◌, ◌^◌}
+use Rattle.std.specs.Prelude.{ℕ, ◌+◌, ◌%◌, ◌^◌, Bool}
 use Rattle.axp_base.specs.Numbers.{add}
 use Rattle.axp_image.specs.declared.limits.TheConstants.{INSTRUCTION_BYTES}
-use Rattle.axp_regs.specs.States.{pc_of, with_pc, with_register, fetched_of, with_fetched}
+use Rattle.axp_regs.specs.States.{pc_of, with_pc, with_register, with_locked, fetched_of, with_fetched}
 use Rattle.axp_regs.specs.declared.states.State.{State}
 use Rattle.axp_cpu.specs.declared.tables.Table.{Table}
 
@@ -17,6 +17,10 @@ at_pc t pc = record t { state = with_pc t.state pc }
 -- with a register written
 abbrev pub with_value : Table → ℕ → ℕ → Table
 with_value t n v = record t { state = with_register t.state n v }
+
+-- with the lock flag set or cleared
+abbrev pub flagged : Table → Bool → Table
+flagged t armed = record t { state = with_locked t.state armed }
 
 -- what changes with a group's end alone: all but the count of fetched instructions
 abbrev pub uncounted : State → State

@@ -1,11 +1,17 @@
 //! Laws of the instruction table, each proved as the contract of a function that does nothing.
-ghost use Rattle.std.specs.Prelude.{ℕ, false, not, ◌≡◌};
+ghost use Rattle.std.specs.Prelude.{ℕ, false, not, ◌≡◌, Option, Some, None};
+ghost use Rattle.axp_access.specs.declared.Wanted.{Wanted};
 ghost use Rattle.axp_cpu.specs.declared.tables.Table.{Table};
+ghost use Rattle.axp_cpu.specs.Actors.{Actor, about};
 ghost use Rattle.axp_cpu.specs.Addresses.{looked_up};
 ghost use Rattle.axp_cpu.specs.Plans.{given, is_built};
 ghost use Rattle.axp_cpu.specs.Refusals.{is_begun, is_refused};
 ghost use Rattle.axp_cpu.specs.Rows.{group, row};
+ghost use Rattle.axp_cpu.specs.Seats.{leads};
+ghost use Rattle.axp_cpu.specs.Soundness.{AnswersEnd};
 ghost use Rattle.axp_decode.specs.declared.instructions.Instr.{Instr};
+ghost use Rattle.axp_line.specs.declared.messages.Reply.{Reply};
+ghost use Rattle.axp_lsu.specs.Going.{value_of};
 
 /// What is not built: a group that can begin with no access, since its instruction's address is in the
 /// kernel segment and not in memory, or its page cannot be looked up; what a look-up leads to; and exactly
@@ -14,4 +20,12 @@ pub fn what_is_not_built()
     ensures fetch { (size : ℕ) (t : Table) → is_built (group size t) ≡ is_begun size t }
     ensures look_up { (size v table address : ℕ) → is_built (given v (looked_up size table address)) ≡ false }
     ensures instruction { (size : ℕ) (t : Table) (i : Instr) → is_built (row size t i) ≡ not (is_refused size t i) }
+{}
+
+/// Where the bus tells the value of an access, the group ends with it, whatever the value. So whether all
+/// is built that a step leads to can be tested before the bus is asked: its answer changes nothing.
+pub fn answered_values_end_groups()
+    ensures ends { (size : ℕ) (t : Table) → AnswersEnd (group size t) }
+    ensures built { (a : Actor) (w : Wanted) (r : Option Reply) → (about a).wanted ≡ Some w
+        → leads a.seat (value_of w a.kept r) ≡ leads a.seat (value_of w a.kept None) }
 {}

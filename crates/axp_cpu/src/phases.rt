@@ -30,6 +30,12 @@ pub enum Then {
     Load { a: u8 },
     /// Writes the longword to a register, sign-extended.
     LoadLong { a: u8 },
+    /// Writes it to a register, and sets the lock flag.
+    LoadLocked { a: u8 },
+    /// Writes the longword to a register, sign-extended, and sets the lock flag.
+    LoadLockedLong { a: u8 },
+    /// Writes to a register whether it stored, and clears the lock flag.
+    Conclude { a: u8 },
     /// Ends.
     Finish,
     /// Translates the instruction's address, which is not built.
@@ -116,6 +122,9 @@ pub fn resume(size: u64, table: &mut Table, then: Then, value: u64) -> Phase
         }
         Then::Load { a } => write(table, a, value),
         Then::LoadLong { a } => write(table, a, sext(value, 32)),
+        Then::LoadLocked { a } => write(&table.flagged(true), a, value),
+        Then::LoadLockedLong { a } => write(&table.flagged(true), a, sext(value, 32)),
+        Then::Conclude { a } => write(&table.flagged(false), a, value),
         Then::Finish => end(table),
         Then::Translate => Phase::NotBuilt,
     }
@@ -172,7 +181,7 @@ pub fn end(table: &Table) -> Phase
 /// Writes a register and goes on at an address.
 pub fn write_and_go(table: &Table, n: u8, value: u64, pc: u64) -> Phase
     requires { n < REGISTERS }
-    ensures plan { (size : ℕ) → plan_of size table.now result ≡ wrote_at table.now n value pc }
+    ensures plan { (size : ℕ) (t : Table) → plan_of size t result ≡ wrote_at table.now n value pc }
     ensures fits { PhaseFits result }
 {
     let mut state = table.state;
@@ -184,7 +193,7 @@ pub fn write_and_go(table: &Table, n: u8, value: u64, pc: u64) -> Phase
 /// Writes a register and ends.
 pub fn write(table: &Table, n: u8, value: u64) -> Phase
     requires { n < REGISTERS }
-    ensures plan { (size : ℕ) → plan_of size table.now result ≡ wrote table.now n value }
+    ensures plan { (size : ℕ) (t : Table) → plan_of size t result ≡ wrote table.now n value }
     ensures fits { PhaseFits result }
 {
     write_and_go(table, n, value, table.next_pc())

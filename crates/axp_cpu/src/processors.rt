@@ -110,7 +110,8 @@ impl Processor {
         }
     }
 
-    /// Whether the wanted access is made, and all is built that its value leads to.
+    /// Whether the wanted access is made, and all is built that its value leads to. The bus is not asked
+    /// yet: where it tells the value, the group ends with it, so that its answer changes nothing here.
     fn leads_on(&self, wanted: Option<Wanted>) -> bool
         requires { IsSeatedWith self.now wanted }
         ensures { (a : Actor) → IsAt self.now a → result ≡ step_built (about a).wanted a }

@@ -2,7 +2,7 @@
 ghost use Rattle.std.specs.Prelude.{◌≡◌, ◌<◌, ℕ};
 ghost use Rattle.axp_cpu.specs.declared.tables.Table.{Table};
 ghost use Rattle.axp_cpu.specs.Phases.{after, plan_of, FollowFits, PhaseFits};
-ghost use Rattle.axp_cpu.specs.Rows.{address_of, branch_goal, branch_row, cycle_counter, fenced, high_address_of, jump_row, loaded, memory_row, misc_row, operand, operate_row, pal_row, quadword_at, row, stored};
+ghost use Rattle.axp_cpu.specs.Rows.{address_of, branch_goal, branch_row, cycle_counter, fenced, high_address_of, jump_row, load_locked, loaded, memory_row, misc_row, operand, operate_row, pal_row, quadword_at, row, store_conditional, stored};
 ghost use Rattle.axp_decode.specs.Format.{FieldsFit, OperandFits};
 ghost use Rattle.axp_regs.specs.declared.states.TheConstants.{REGISTERS};
 
@@ -63,7 +63,10 @@ fn access(size: u64, table: &Table, op: MemOp, a: u8, base: u64, disp: u16) -> P
         MemOp::STL => store(size, table, Size::Long, a, address),
         MemOp::STQ => store(size, table, Size::Quad, a, address),
         MemOp::STQ_U => store(size, table, Size::Quad, a, quadword(address)),
-        MemOp::LDL_L | MemOp::LDQ_L | MemOp::STL_C | MemOp::STQ_C => Phase::NotBuilt,
+        MemOp::LDL_L => load_locked(size, table, Size::Long, address, Then::LoadLockedLong { a }),
+        MemOp::LDQ_L => load_locked(size, table, Size::Quad, address, Then::LoadLocked { a }),
+        MemOp::STL_C => store_conditional(size, table, Size::Long, a, address),
+        MemOp::STQ_C => store_conditional(size, table, Size::Quad, a, address),
     }
 }
 
@@ -119,6 +122,36 @@ fn store(size: u64, table: &Table, what: Size, a: u8, address: u64) -> Phase
         value: what.low(table.state.get(a)),
     };
     align(size, table, write, Then::Finish)
+}
+
+/// A load-locked, and what follows with its value; into R31 too it makes its access.
+fn load_locked(size: u64, table: &Table, what: Size, address: u64, then: Then) -> Phase
+    requires { FollowFits then }
+    ensures plan { plan_of size table.now result ≡ load_locked size what address (after size table.now then) }
+    ensures fits { PhaseFits result }
+{
+    let read = Wanted {
+        kind: Kind::Locked,
+        address,
+        size: what.bytes(),
+        value: 0,
+    };
+    align(size, table, read, then)
+}
+
+/// A store-conditional of the low datum of Ra, which tells Ra whether it stored.
+fn store_conditional(size: u64, table: &Table, what: Size, a: u8, address: u64) -> Phase
+    requires { a < REGISTERS }
+    ensures plan { plan_of size table.now result ≡ store_conditional size table.now what a address }
+    ensures fits { PhaseFits result }
+{
+    let write = Wanted {
+        kind: Kind::Conditional,
+        address,
+        size: what.bytes(),
+        value: what.low(table.state.get(a)),
+    };
+    align(size, table, write, Then::Conclude { a })
 }
 
 /// The branch format.

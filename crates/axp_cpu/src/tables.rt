@@ -1,5 +1,5 @@
 ghost use Rattle.std.specs.Prelude.{◌≡◌};
-ghost use Rattle.axp_cpu.specs.Tables.{counted, next_pc};
+ghost use Rattle.axp_cpu.specs.Tables.{counted, flagged, next_pc};
 
 use axp_image::INSTRUCTION_BYTES;
 use axp_regs::State;
@@ -19,6 +19,15 @@ impl Table {
         ensures { result ≡ next_pc self.now }
     {
         self.state.pc().wrapping_add(INSTRUCTION_BYTES as u64)
+    }
+
+    /// It with the lock flag set or cleared.
+    pub fn flagged(&self, armed: bool) -> Table
+        ensures { result ≡ flagged self.now armed }
+    {
+        let mut state = self.state;
+        state.set_locked(armed);
+        Table { state, ..*self }
     }
 
     /// Counts the instruction that was fetched.

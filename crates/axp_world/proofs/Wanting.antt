@@ -82,6 +82,8 @@ kind_in_line : (k : Kind) (size : ℕ) (w : Wanted) → size ≤ MAX_MEMORY → 
 kind_in_line kind.Fetch size w most sound = memory_in_line size w most sound.inside
 kind_in_line kind.Read size w most sound = memory_in_line size w most sound
 kind_in_line kind.Write size w most sound = memory_in_line size w most sound
+kind_in_line kind.Locked size w most sound = memory_in_line size w most sound
+kind_in_line kind.Conditional size w most sound = memory_in_line size w most sound.within
 kind_in_line kind.Barrier size w most sound = bare_in_line w.address w.size sound.address sound.size
 kind_in_line kind.WriteBarrier size w most sound = bare_in_line w.address w.size sound.address sound.size
 kind_in_line kind.CodeBarrier size w most sound = bare_in_line w.address w.size sound.address sound.size
