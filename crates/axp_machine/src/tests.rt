@@ -1,6 +1,8 @@
 ghost use Rattle.std.specs.Prelude.{◌≤◌};
 ghost use Rattle.axp_base.specs.declared.processors.TheConstants.{MAX_BUDGET};
 
+mod locks;
+
 use super::*;
 use axp_access::{Access, Act, Event, Kind, Outcome, Place};
 use axp_base::{Bank, Cpu, Line, NoMemory, QUADWORD_BYTES};
