@@ -79,8 +79,8 @@ sound_wants : (size : ℕ) (k : Kind) (w : Wanted) → IsSoundAs size k w → Is
 sound_wants size kind.Fetch w is = is
 sound_wants size kind.Read w is = is
 sound_wants size kind.Write w is = is
-sound_wants size kind.Locked w is = absurd is
-sound_wants size kind.Conditional w is = absurd is
+sound_wants size kind.Locked w is = is
+sound_wants size kind.Conditional w is = is
 sound_wants size kind.Barrier w is = is
 sound_wants size kind.WriteBarrier w is = is
 sound_wants size kind.CodeBarrier w is = is
