@@ -3,6 +3,8 @@ use axp_io::{ListSink, TableDesk};
 use std::alloc::Global;
 use std::test::Fail;
 
+mod locks;
+mod shared_memory;
 mod worked;
 
 /// One page of memory that is all zero, so that each processor's first instruction halts.
