@@ -38,9 +38,9 @@ pub record IsEntry (n : ℕ) : Type 0 where
   pub least : 1 ≤ n
   pub most : n ≤ MAX_BUDGET
 
--- a plain write stands in an entry of its write buffer; over one plain memory it is a turn of its own
+-- a plain write stands in an entry of its write buffer
 abbrev pub IsBuffered : Place → Type 0
-IsBuffered (At turn) = IsTurn turn
+IsBuffered (At turn) = ⊥
 IsBuffered (Entry n) = IsEntry n
 IsBuffered Absent = ⊥
 

@@ -15,7 +15,7 @@ placed : (p : Place) (turn : ℕ) → IsPlaced p → p ≡ At turn → turn < 2 
 placed p turn h e = subst IsPlaced e h
 
 buffered : (p : Place) (turn : ℕ) → IsBuffered p → p ≡ At turn → turn < 2 ^ 32
-buffered p turn h e = subst IsBuffered e h
+buffered p turn h e = absurd (subst IsBuffered e h)
 
 short_turn : (k : Kind) (a : Access) (turn : ℕ) → IsSpelledAs k a → a.place ≡ At turn → turn < 2 ^ 32
 short_turn kind.Fetch a turn h e = placed a.place turn h.1.1 e
