@@ -1,20 +1,24 @@
 -- Records and the run of their events.
-use Rattle.std.proofs.Common.{◌≡◌, ℕ, List, [], ◌∷◌, ◌++◌, refl, ap, ◌∙◌}
+use Rattle.std.proofs.Common.{◌≡◌, ◌↔◌, ℕ, true, List, [], ◌∷◌, ◌++◌, refl, ap, sym, subst, ◌∙◌}
 use Rattle.std.specs.Prelude.{Result, Ok, Err}
 use Rattle.axp_access.specs.declared.Event.{Event}
 use Rattle.axp_access.specs.declared.Outcome.{Outcome}
 use Rattle.axp_access.specs.declared.Record.{Record}
 use Rattle.axp_cpu.specs.declared.refusals.Refusal.{Refusal}
 use Rattle.axp_image.specs.Contents.{Contents, IsValid}
+use Rattle.axp_image.proofs.Places.{byte_small}
 use Rattle.axp_model.proofs.Caused.{no_loop}
 use Rattle.axp_model.proofs.Fits.{run_fits}
 use Rattle.axp_model.proofs.Guarded.{keeps_locking}
-use Rattle.axp_model.proofs.Located.{run_located}
+use Rattle.axp_model.proofs.Located.{run_located, run_prefix}
+use Rattle.axp_model.proofs.Polled.{entered_exactly, pending_exactly}
+use Rattle.axp_model.proofs.RunSources.{run_bytes}
 use Rattle.axp_model.proofs.Steps.{keeps_order}
 use Rattle.axp_model.proofs.Storages.{run_storage}
 use Rattle.axp_model.specs.OrderLaws.{AreInLine}
 use Rattle.axp_model.specs.Outcomes as model
 use Rattle.axp_model.specs.Outcomes.{Intents}
+use Rattle.axp_model.specs.PollLaws.{IsAwaited, KeepsPolls, poll_item, polled}
 use Rattle.axp_world.specs.Worlds.{IsPlayed, image_bytes, intents}
 use Rattle.axp_world.proofs.Joined.{joined}
 use Rattle.axp_world.proofs.Wanting.{intents_in_line}
@@ -60,6 +64,14 @@ pub run_before : (image : Contents) (cpus budget : ℕ) (more h : List Record) �
 run_before image cpus budget [] h is = is
 run_before image cpus budget (r ∷ more) h is = run_before image cpus budget more h is.1
 
+keeps_polls : (image : ℕ → ℕ) (intent : Intents) (k : List Record) → AreInLine intent → model.IsRun image intent k → KeepsPolls intent k
+keeps_polls image intent k inside is later e pending entered turn h at =
+    let split : model.IsRun image intent (later ++ polled e pending entered turn ∷ h) = subst (model.IsRun image intent) at is in
+    record {
+      shown = subst (λ (x : List Record). (pending ≡ true) ↔ IsAwaited x (poll_item e pending turn h)) (sym at) (pending_exactly image intent later e pending entered turn h inside split);
+      taken = entered_exactly image intent e pending entered turn h (run_prefix image intent later (polled e pending entered turn ∷ h) split);
+    }
+
 -- a run keeps the constraints of shared memory
 pub keeps_constraints : (m : Seen) → IsValid m.image → IsRun m → KeepsConstraints m
 keeps_constraints m valid is =
@@ -72,6 +84,8 @@ keeps_constraints m valid is =
       order = keeps_order image intent m.records inside run;
       located = run_located image intent m.records inside run;
       storage = run_storage image intent m.records inside run;
+      bytes = run_bytes image intent m.records (λ at. byte_small m.image.size 0 m.image.segments at valid.placed) inside run;
       locking = keeps_locking m.records (run_fits image intent m.records inside run);
       no_loop = no_loop image intent m.records inside run;
+      polls = keeps_polls image intent m.records inside run;
     }

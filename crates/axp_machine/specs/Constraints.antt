@@ -6,7 +6,8 @@ use Rattle.axp_model.specs.LockLaws.{KeepsLocking}
 use Rattle.axp_model.specs.OrderLaws.{AllPairs, IsLocated, KeepsOrder}
 use Rattle.axp_model.specs.Outcomes as model
 use Rattle.axp_model.specs.Places.{Item, accesses, times}
-use Rattle.axp_model.specs.StorageLaws.{KeepsStorage}
+use Rattle.axp_model.specs.PollLaws.{KeepsPolls}
+use Rattle.axp_model.specs.StorageLaws.{KeepsEachByte, KeepsStorage}
 use Rattle.axp_world.specs.Worlds.{image_bytes, intents}
 use Rattle.axp_machine.specs.Runs.{Seen}
 
@@ -17,9 +18,12 @@ pub record KeepsConstraints (m : Seen) : Type 0 where
   pub order : KeepsOrder m.records
   -- location: of two accesses that overlap and of which one is a memory write, one is before the other
   pub located : AllPairs (IsLocated (times m.records)) (accesses m.records)
-  -- storage and visibility: the source of each byte that is read
+  -- storage and visibility: what is read is made of the bytes of its sources, and each byte is its source's
   pub storage : KeepsStorage (image_bytes m.image) m.records
+  pub bytes : KeepsEachByte (image_bytes m.image) m.records
   -- the constraint on load-locked and store-conditional
   pub locking : KeepsLocking m.records
   -- no value has itself as a cause
   pub no_loop : (u : Item) (via : List Item) → IsChain m.records u via u → ⊥
+  -- interrupts between processors: what each Poll shows, and when it enters
+  pub polls : KeepsPolls (intents m.image m.budget) m.records

@@ -6,7 +6,6 @@ use Rattle.axp_model.specs.Records.{is_memory_write, has_byte}
 use Rattle.axp_model.specs.Places.{Item, cpu_of, accesses, Times, times, Spot, spot}
 use Rattle.axp_model.specs.Before.{latest}
 use Rattle.axp_model.specs.Sources.{byte_of_source}
-use Rattle.axp_model.specs.Sources.{byte_of_source}
 
 -- at a number that is not above n
 abbrev pub is_by : ℕ → Spot → Bool

@@ -1,5 +1,6 @@
 -- What the Polls of a run show.
-use Rattle.std.specs.Prelude.{◌≡◌, ℕ, ◌==◌, Bool, true, ◌&&◌, ◌||◌, if◌then◌else◌, Contains, List, [], ◌∷◌, Option, Some, None}
+use Rattle.std.specs.Prelude.{◌≡◌, ◌↔◌, ℕ, ◌==◌, Bool, true, ◌&&◌, ◌||◌, if◌then◌else◌, Contains, List, [], ◌∷◌, ◌++◌, Option, Some, None}
+use Rattle.axp_base.specs.Cpus.{cpu_number}
 use Rattle.axp_regs.specs.declared.asks.Kind.TheVariants as kind
 use Rattle.axp_access.specs.declared.Access.{Access}
 use Rattle.axp_access.specs.declared.Event.{Event}
@@ -9,6 +10,7 @@ use Rattle.axp_access.specs.declared.Record.{Record}
 use Rattle.axp_model.specs.Records.{by, is_signal, is_poll, enters, access_in}
 use Rattle.axp_model.specs.Places.{Item, cpu_of, next_item, accesses, times}
 use Rattle.axp_model.specs.Before.{before}
+use Rattle.axp_model.specs.Outcomes.{Intents}
 
 -- a record that shows a Poll
 abbrev pub polled : Event → Bool → Bool → ℕ → Record
@@ -47,3 +49,14 @@ pub record IsAwaited (h : List Record) (v : Item) : Type 0 where
   pub sent : signals_to (cpu_of v) signal ≡ true
   pub first : before (times h) signal v ≡ true
   pub alone : (w : Item) → Contains (entered_polls (cpu_of v) h) w → before (times h) signal w ≡ true → before (times h) w v ≡ true → ⊥
+
+-- a Poll that came after the records h, in the history k, shows a signal exactly where one is awaited, and
+-- enters exactly where it shows one and its processor takes interrupts
+pub record IsPollKept (intent : Intents) (k : List Record) (e : Event) (pending entered : Bool) (turn : ℕ) (h : List Record) : Type 0 where
+  pub shown : (pending ≡ true) ↔ IsAwaited k (poll_item e pending turn h)
+  pub taken : entered ≡ (pending && (intent (cpu_number e.cpu) h).low)
+
+-- so it is with each Poll of a history
+abbrev pub KeepsPolls : Intents → List Record → Type 0
+KeepsPolls intent k = (later : List Record) (e : Event) (pending entered : Bool) (turn : ℕ) (h : List Record)
+    → k ≡ later ++ polled e pending entered turn ∷ h → IsPollKept intent k e pending entered turn h

@@ -14,8 +14,8 @@ ghost use Rattle.axp_model.specs.Records.{is_write_barrier};
 ghost use Rattle.axp_model.specs.Turns.{drained, turns};
 
 /// In every run an entry of a processor's write buffer waits exactly where it was made and no drain has
-/// named it. There is one that waits of each number, with one line and one age, and one of each line and
-/// age.
+/// named it. At most one that waits has a number, and it has one line and one age; at most one has a line
+/// and an age.
 pub fn entries_that_wait()
     ensures waits { (image : ℕ → ℕ) (intent : Intents) (h : List Record) → AreInLine intent → IsRun image intent h → (p n : ℕ)
         → (has_number n (buffer p h).waiting ≡ true) ↔ IsUndrained h p n }

@@ -1,3 +1,4 @@
+//! Late invalidations and the copies that they reach.
 ghost use Rattle.std.specs.Prelude.{◌≡◌, ◌≤◌, ◌&&◌, true, ℕ, ◌∷◌, [], List, length};
 ghost use Rattle.axp_base.specs.declared.lines.Bank.{Bank};
 ghost use Rattle.axp_bank.specs.declared.copies.TheConstants.{BANK_COPIES};

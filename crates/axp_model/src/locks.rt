@@ -1,3 +1,4 @@
+//! Locks, and the constraint on store-conditionals that succeed.
 ghost use Rattle.std.specs.Prelude.{IsTrue, ◌↔◌, ℕ, List};
 ghost use Rattle.axp_lockreg.specs.Blocks.{is_allowed};
 ghost use Rattle.axp_access.specs.declared.Record.{Record};

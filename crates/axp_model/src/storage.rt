@@ -42,8 +42,8 @@ pub fn memory_of_past_turns_stays()
         → memory_after (more ++ h) n at ≡ memory_after h n at }
 {}
 
-/// A copy that a processor holds has the bytes that memory had after its stamp; where a plain read of
-/// the line stands, memory has the same bytes still.
+/// Of a line that a processor holds, memory has the same bytes after the line's stamp, when its copy
+/// was brought in or written, and where a plain read of the line stands.
 pub fn held_copies_are_memory()
     ensures { (image : ℕ → ℕ) (intent : Intents) (h : List Record) (p at : ℕ) → AreInLine intent → IsRun image intent h → held p (line_of at) h ≡ true
         → memory_after h (read_place p (line_of at) h) at ≡ memory_after h (stamp p (line_of at) h) at }

@@ -17,7 +17,7 @@ use Rattle.axp_top.specs.declared.limits.TheConstants.{MAX_IMAGE_BYTES, MAX_TRAC
 use Rattle.axp_top.specs.Answers as answers
 use Rattle.axp_top.specs.Answers.{answer_of_files, answer_of_image, answer_of_trace, image_in}
 use Rattle.axp_top.specs.Lawful.{IsLawful, TellsBytes, image_of_file, image_told}
-use Rattle.axp_top.specs.Replays.{Answer, answer_of_lines, answer_of_list, ending_of, event_in, not_built_at_all, record_of, recorded, replayed}
+use Rattle.axp_top.specs.Replays.{Answer, answer_of_lines, answer_of_list, event_in, not_built_at_all, record_of, recorded, replayed}
 use Rattle.axp_top.specs.Words.{Order, Replay}
 
 abbrev Line : Type 0
@@ -56,7 +56,7 @@ list_lawful image (Some h) ls valid =
     let on : RunsOn image end.0 = runs_on image (started image h.cpus h.budget) ls (record { run = tt; over = refl }) in
     inr (record {
       machine = end.0;
-      ending = (ending_of end.0 end.1).1;
+      refused = end.1;
       shown = refl;
       over = on.over;
       run = on.run;

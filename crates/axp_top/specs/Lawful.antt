@@ -1,19 +1,19 @@
 -- What is printed of an event list shows a run that keeps the constraints of shared memory.
-use Rattle.std.specs.Prelude.{◌≡◌, ◌⊎◌, ℕ, List, ◌++◌, Option, Some, None, IfSome}
+use Rattle.std.specs.Prelude.{◌≡◌, ◌⊎◌, ℕ, List, Option, Some, None, IfSome}
+use Rattle.axp_cpu.specs.declared.refusals.Refusal.{Refusal}
 use Rattle.axp_image.specs.Contents.{AreBytes, Contents}
 use Rattle.axp_machine.specs.Constraints.{KeepsConstraints}
 use Rattle.axp_machine.specs.Runs.{Seen, IsRun}
 use Rattle.axp_top.specs.Answers.{image_in}
-use Rattle.axp_top.specs.Replays.{Answer, not_built_at_all}
-use Rattle.axp_top.specs.Texts.{lines}
+use Rattle.axp_top.specs.Replays.{Answer, answer_of_run, not_built_at_all}
 use Rattle.axp_top.specs.Words.{Order, Replay}
 
--- a text is the header and the records of a machine's run over an image, and an ending; the records keep
--- the constraints of shared memory
-pub record ShowsRun (image : Contents) (text : List ℕ) : Type 0 where
+-- an answer is the header and all records of a machine's run over an image, and how the run ended, which
+-- shows no event: the tail, or the line of a refusal; the records keep the constraints of shared memory
+pub record ShowsRun (image : Contents) (answer : Answer) : Type 0 where
   pub machine : Seen
-  pub ending : List ℕ
-  pub shown : text ≡ lines machine ++ ending
+  pub refused : Option Refusal
+  pub shown : answer ≡ answer_of_run machine refused
   pub over : machine.image ≡ image
   pub run : IsRun machine
   pub constraints : KeepsConstraints machine
@@ -21,7 +21,7 @@ pub record ShowsRun (image : Contents) (text : List ℕ) : Type 0 where
 -- the answer shows such a run, or refuses all with nothing printed before; without an image it refuses
 abbrev pub IsLawful : Option Contents → Answer → Type 0
 IsLawful None answer = answer ≡ not_built_at_all
-IsLawful (Some image) answer = (answer ≡ not_built_at_all) ⊎ ShowsRun image answer.1
+IsLawful (Some image) answer = (answer ≡ not_built_at_all) ⊎ ShowsRun image answer
 
 -- the image in a file that is told
 abbrev pub image_of_file : Option (List ℕ) → Option Contents
