@@ -1,6 +1,7 @@
 -- Records and the run of their events.
 use Rattle.std.proofs.Common.{◌≡◌, ◌↔◌, ℕ, true, List, [], ◌∷◌, ◌++◌, refl, ap, sym, subst, ◌∙◌}
-use Rattle.std.specs.Prelude.{Result, Ok, Err}
+use Rattle.std.specs.Prelude.{Result, Ok, Err, not, ◌<◌, zero, suc}
+use Rattle.axp_base.specs.Cpus.{cpu_number}
 use Rattle.axp_access.specs.declared.Event.{Event}
 use Rattle.axp_access.specs.declared.Outcome.{Outcome}
 use Rattle.axp_access.specs.declared.Record.{Record}
@@ -16,14 +17,16 @@ use Rattle.axp_model.proofs.RunSources.{run_bytes}
 use Rattle.axp_model.proofs.Steps.{keeps_order}
 use Rattle.axp_model.proofs.Storages.{run_storage}
 use Rattle.axp_model.specs.OrderLaws.{AreInLine}
+use Rattle.axp_model.specs.Legal.{legal}
 use Rattle.axp_model.specs.Outcomes as model
 use Rattle.axp_model.specs.Outcomes.{Intents}
 use Rattle.axp_model.specs.PollLaws.{IsAwaited, KeepsPolls, poll_item, polled}
 use Rattle.axp_world.specs.Worlds.{IsPlayed, image_bytes, intents}
-use Rattle.axp_world.proofs.Joined.{joined}
+use Rattle.axp_world.proofs.Joined.{Joined, agrees, joined, refused}
+use Rattle.axp_world.specs.RunLaws.{is_not_legal}
 use Rattle.axp_world.proofs.Wanting.{intents_in_line}
 use Rattle.axp_machine.specs.Constraints.{KeepsConstraints}
-use Rattle.axp_machine.specs.Runs.{Seen, IsRun, after_answer, after_event, answer_of, events_of, run, started, with_record}
+use Rattle.axp_machine.specs.Runs.{Seen, IsRun, are_done, are_drained, is_complete, after_answer, after_event, answer_of, events_of, run, started, with_record}
 
 -- the machine with these records
 abbrev with_records : Contents → ℕ → ℕ → List Record → Seen
@@ -89,3 +92,16 @@ keeps_constraints m valid is =
       no_loop = no_loop image intent m.records inside run;
       polls = keeps_polls image intent m.records inside run;
     }
+
+-- an event is refused as not legal exactly where it is not
+pub refused_exactly : (m : Seen) (e : Event) (a : Result Outcome Refusal) → a ≡ answer_of m e → IsValid m.image → IsRun m → cpu_number e.cpu < m.cpus → is_not_legal a ≡ not (legal (intents m.image m.budget (cpu_number e.cpu) m.records) m.records e)
+unfolding answer_of
+refused_exactly m e a is valid run below = ap is_not_legal is ∙ refused m.image m.cpus m.budget m.records e valid run below
+
+-- a machine is complete in the model's words too
+drained_of : (m : Seen) (n : ℕ) → Joined m.image m.budget m.records → are_done n m ≡ are_drained n m
+drained_of m zero is = refl
+drained_of m (suc n) is = rw (drained_of m n is, (agrees m.image m.budget m.records is n).buffer.none) refl
+
+pub complete_words : (m : Seen) → IsValid m.image → IsRun m → is_complete m ≡ are_drained m.cpus m
+complete_words m valid run = drained_of m m.cpus (joined m.image m.cpus m.budget m.records valid run)

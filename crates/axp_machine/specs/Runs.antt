@@ -12,7 +12,9 @@ use Rattle.axp_cpu.specs.Seats.{Seat, is_finished}
 use Rattle.axp_image.specs.Contents.{Contents}
 use Rattle.axp_model.specs.BusCalls.{is_touched, memory}
 use Rattle.axp_world.specs.Worlds as worlds
-use Rattle.axp_world.specs.Worlds.{World, IsPlayed, image_bytes, world}
+use Rattle.axp_model.specs.Entries.{buffer}
+use Rattle.axp_model.specs.Legal.{is_empty}
+use Rattle.axp_world.specs.Worlds.{World, IsPlayed, image_bytes, intents, world}
 
 -- the image, how many processors, the budget of steps of each, and the records: the history, newest first
 pub record Seen : Type 0 where
@@ -76,6 +78,11 @@ are_done (suc n) m = are_done n m && is_done (actor_of m n)
 
 abbrev pub is_complete : Seen → Bool
 is_complete m = are_done m.cpus m
+
+-- the same in the memory model's words: every processor below n is finished, and no entry of it waits
+abbrev pub are_drained : ℕ → Seen → Bool
+are_drained zero m = true
+are_drained (suc n) m = are_drained n m && ((intents m.image m.budget n m.records).finished && is_empty (buffer n m.records).waiting)
 
 -- the table state of a processor, as its last group left it
 abbrev pub table_of : Seen → ℕ → Table

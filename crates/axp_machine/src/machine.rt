@@ -42,12 +42,15 @@ impl Model for Machine {
 }
 
 impl Machine {
-    ghost use Rattle.std.specs.Prelude.{◌≡◌, ◌*◌, ◌^◌, ◌<◌, ◌≤◌, length, IfOk, IfErr, Ok, Err};
+    ghost use Rattle.std.specs.Prelude.{◌≡◌, ◌*◌, ◌^◌, ◌<◌, ◌≤◌, length, not, IfOk, IfErr, Ok, Err};
     ghost use Rattle.axp_access.specs.Spelling.{Spells};
     ghost use Rattle.axp_base.specs.Cpus.{cpu_number};
     ghost use Rattle.axp_image.specs.Contents.{IsValid};
     ghost use Rattle.axp_regs.specs.States.{pc_of, register};
     ghost use Rattle.axp_cpu.specs.ActorStands.{IsAt};
+    ghost use Rattle.axp_model.specs.Legal.{legal};
+    ghost use Rattle.axp_world.specs.RunLaws.{is_not_legal};
+    ghost use Rattle.axp_world.specs.Worlds.{intents};
     ghost use Rattle.axp_lsu.specs.Within.{IsAskWithin};
     ghost use Rattle.axp_machine.specs.Constraints.{KeepsConstraints};
     ghost use Rattle.axp_machine.specs.Playing.{granted_in};
@@ -181,11 +184,14 @@ impl Machine {
     /// where its processor is not one of the machine's, or the event is not legal after the records so
     /// far; [`Refusal::NotBuilt`] exactly where it is legal and comes to what is not built. A refused
     /// event leaves the machine as it was.
-    /// The records are always a run, so they keep the constraints of shared memory, and one line of a
-    /// trace spells each of them.
+    /// That an event is not legal is said once more in the memory model's words (`legal`). The records are
+    /// always a run, so they keep the constraints of shared memory, and one line of a trace spells each of
+    /// them.
     #[tactic(auto, unfolding(crate::specs::Runs::after_event), using(crate::proofs::RunLemmas::keeps_constraints))]
     pub fn event(&mut self, event: Event) -> Result<Outcome, Refusal>
         ensures answer { result ≡ answer_of self.old event }
+        ensures legal { cpu_number event.cpu < self.old.cpus → is_not_legal result
+            ≡ not (legal (intents self.old.image self.old.budget (cpu_number event.cpu) self.old.records) self.old.records event) }
         ensures after { self.new ≡ after_event self.old event }
         ensures run { IsRun self.new }
         ensures constraints { KeepsConstraints self.new }

@@ -14,11 +14,11 @@ use Rattle.axp_trace.specs.declared.reading.Header.{Header}
 use Rattle.axp_trace.specs.Files.{lines_of}
 use Rattle.axp_trace.specs.Reading.{header_of}
 use Rattle.axp_top.specs.declared.limits.TheConstants.{MAX_IMAGE_BYTES, MAX_TRACE_BYTES}
-use Rattle.axp_top.specs.Answers as answers
 use Rattle.axp_top.specs.Answers.{answer_of_files, answer_of_image, answer_of_trace, image_in}
-use Rattle.axp_top.specs.Lawful.{IsLawful, TellsBytes, image_of_file, image_told}
+use Rattle.axp_top.specs.declared.status.Status.{Status}
+use Rattle.axp_top.specs.Statuses.{Settles, SettlesLawfully}
+use Rattle.axp_top.specs.Lawful.{IsLawful, image_of_file}
 use Rattle.axp_top.specs.Replays.{Answer, answer_of_lines, answer_of_list, event_in, not_built_at_all, record_of, recorded, replayed}
-use Rattle.axp_top.specs.Words.{Order, Replay}
 
 abbrev Line : Type 0
 Line = Option (List ℕ)
@@ -93,6 +93,11 @@ files_lawful : (image trace : Option (List ℕ)) → IfSome image AreBytes → I
 files_lawful None trace all = tt
 files_lawful (Some bytes) trace all = image_lawful (image_in bytes) trace (in_limit (nat_lt MAX_IMAGE_BYTES (length bytes)) bytes all)
 
-pub answers_are_lawful : (order : Option Order) (told : List ℕ → Option (List ℕ)) → TellsBytes told → IfSome (answers.answer_of order told) (IsLawful (image_told order told))
-answers_are_lawful None told all = refl
-answers_are_lawful (Some (Replay image trace)) told all = files_lawful (told image) (told trace) (all image)
+-- what is settled of an answer is settled lawfully
+both : (b n : Option (List ℕ)) (d d' : ℕ) (image : Option Contents) (s : Status) (answer : Option Answer) → IfSome answer (λ a. Settles b n d d' a s) → IfSome answer (IsLawful image) → IfSome answer (SettlesLawfully b n d d' image s)
+both b n d d' image s None settled lawful = tt
+both b n d d' image s (Some a) settled lawful = (settled, lawful)
+
+pub settled_files : (b n : Option (List ℕ)) (d d' : ℕ) (s : Status) (image trace : Option (List ℕ)) → IfSome (answer_of_files image trace) (λ a. Settles b n d d' a s) → IfSome image AreBytes
+    → IfSome (answer_of_files image trace) (SettlesLawfully b n d d' (image_of_file image) s)
+settled_files b n d d' s image trace settled all = both b n d d' (image_of_file image) s (answer_of_files image trace) settled (files_lawful image trace all)

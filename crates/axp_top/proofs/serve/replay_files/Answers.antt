@@ -4,7 +4,7 @@ use Rattle.axp_image.specs.Grammar.{image_of}
 use Rattle.axp_io.specs.Causes.{FetchCount}
 use Rattle.axp_io.specs.declared.FetchFault.{FetchFault}
 use Rattle.axp_top.proofs.Settling.{asks_first, files_fault, files_memory, files_of_image, files_refused}
-use Rattle.axp_top.proofs.serve.serve_replay.Goals as goal
+use Rattle.axp_top.proofs.serve.replay_files.Goals as goal
 
 pub returns-in-Ok-None-clause-asks : goal.returns-in-Ok-None-clause-asks
 returns-in-Ok-None-clause-asks g c = asks_first _ _ _ _ _ c.fetch.ensures.asks
