@@ -5,6 +5,7 @@ use std::test::Fail;
 
 mod locks;
 mod shared_memory;
+mod translation;
 mod worked;
 
 /// One page of memory that is all zero, so that each processor's first instruction halts.
