@@ -32,3 +32,4 @@ pub mod Refused
 pub mod BankActs
 pub mod Banked
 pub mod Joined
+pub mod Progress

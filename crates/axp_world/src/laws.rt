@@ -1,11 +1,14 @@
 //! What processors play over the bus is what the memory model says.
-ghost use Rattle.std.specs.Prelude.{ℕ, List, ◌≡◌, ◌<◌, not, true};
+ghost use Rattle.std.specs.Prelude.{ℕ, List, ◌≡◌, ◌<◌, not, true, false};
+ghost use Rattle.axp_access.specs.declared.Act.TheVariants as act;
 ghost use Rattle.axp_access.specs.declared.Event.{Event};
 ghost use Rattle.axp_access.specs.declared.Record.{Record};
 ghost use Rattle.axp_base.specs.Cpus.{cpu_number};
+ghost use Rattle.axp_base.specs.declared.processors.Cpu.{Cpu};
 ghost use Rattle.axp_image.specs.Contents.{Contents, IsValid};
 ghost use Rattle.axp_model.specs.BusCalls as calls;
-ghost use Rattle.axp_model.specs.Legal.{legal};
+ghost use Rattle.axp_model.specs.Entries.{buffer};
+ghost use Rattle.axp_model.specs.Legal.{is_empty, legal};
 ghost use Rattle.axp_model.specs.Memory.{memory_byte};
 ghost use Rattle.axp_model.specs.OrderLaws.{AreInLine};
 ghost use Rattle.axp_model.specs.Outcomes.{IsRun};
@@ -35,4 +38,11 @@ pub fn refused_where_not_legal()
 /// to nothing that is not built.
 pub fn runs_are_played()
     ensures { (image : Contents) (cpus budget : ℕ) (h : List Record) → IsValid image → IsRun (image_bytes image) (intents image budget) h → IsBuilt image cpus budget h → IsPlayed image cpus budget h }
+{}
+
+/// No finished processor is stuck with a write that waits: it may drain.
+pub fn processors_are_never_stuck()
+    ensures drains { (image : Contents) (cpus budget : ℕ) (h : List Record) (c : Cpu) → IsValid image → IsPlayed image cpus budget h
+        → (intents image budget (cpu_number c) h).finished ≡ true → is_empty (buffer (cpu_number c) h).waiting ≡ false
+        → legal (intents image budget (cpu_number c) h) h (record { cpu = c; act = act.Drain 0 }) ≡ true }
 {}
