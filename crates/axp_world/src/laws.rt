@@ -1,5 +1,6 @@
 //! What processors play over the bus is what the memory model says.
 ghost use Rattle.std.specs.Prelude.{ℕ, List, ◌≡◌, ◌<◌, not, true, false};
+ghost use Rattle.axp_access.specs.declared.Act.{Act};
 ghost use Rattle.axp_access.specs.declared.Act.TheVariants as act;
 ghost use Rattle.axp_access.specs.declared.Event.{Event};
 ghost use Rattle.axp_access.specs.declared.Record.{Record};
@@ -13,7 +14,7 @@ ghost use Rattle.axp_model.specs.Memory.{memory_byte};
 ghost use Rattle.axp_model.specs.OrderLaws.{AreInLine};
 ghost use Rattle.axp_model.specs.Outcomes.{IsRun};
 ghost use Rattle.axp_model.specs.Turns.{turns};
-ghost use Rattle.axp_world.specs.RunLaws.{IsBuilt, is_not_legal};
+ghost use Rattle.axp_world.specs.RunLaws.{IsBuilt, is_not_legal, is_progress};
 ghost use Rattle.axp_world.specs.Worlds.{IsPlayed, answer_of, image_bytes, intents, world};
 
 /// Every history that processors play over the bus is a run of the memory model: each event was legal
@@ -40,8 +41,13 @@ pub fn runs_are_played()
     ensures { (image : Contents) (cpus budget : ℕ) (h : List Record) → IsValid image → IsRun (image_bytes image) (intents image budget) h → IsBuilt image cpus budget h → IsPlayed image cpus budget h }
 {}
 
-/// No finished processor is stuck with a write that waits: it may drain.
+/// No processor is stuck after a played history: one that is not finished has a legal Step, Fill, Drain
+/// or Drop, and one that is finished with a write that waits may drain. Legal is the memory model's word:
+/// a legal Step that comes to what is not built is refused all the same.
 pub fn processors_are_never_stuck()
+    ensures acts { (image : Contents) (cpus budget : ℕ) (h : List Record) (c : Cpu) → IsValid image → IsPlayed image cpus budget h
+        → (intents image budget (cpu_number c) h).finished ≡ false
+        → (a : Act) × (is_progress a ≡ true) × (legal (intents image budget (cpu_number c) h) h (record { cpu = c; act = a }) ≡ true) }
     ensures drains { (image : Contents) (cpus budget : ℕ) (h : List Record) (c : Cpu) → IsValid image → IsPlayed image cpus budget h
         → (intents image budget (cpu_number c) h).finished ≡ true → is_empty (buffer (cpu_number c) h).waiting ≡ false
         → legal (intents image budget (cpu_number c) h) h (record { cpu = c; act = act.Drain 0 }) ≡ true }
