@@ -32,3 +32,8 @@ pub mod Refused
 pub mod BankActs
 pub mod Banked
 pub mod Joined
+pub mod BankRooms
+pub mod Filling
+pub mod Midway
+pub mod Offered
+pub mod Progress

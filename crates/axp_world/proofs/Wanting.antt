@@ -20,6 +20,7 @@ use Rattle.axp_line.specs.declared.messages.Reply.{Reply}
 use Rattle.axp_lsu.specs.Going.{value_of}
 use Rattle.axp_lsu.specs.Within.{IsInMemory}
 use Rattle.axp_model.specs.OrderLaws.{AreInLine, IsInLine, WantsInLine}
+use Rattle.axp_model.specs.Records.{is_poll}
 use Rattle.axp_regs.specs.States.{pc_of}
 use Rattle.axp_regs.specs.declared.asks.Kind.{Kind}
 use Rattle.axp_regs.specs.declared.asks.Kind.TheVariants as kind
@@ -103,15 +104,28 @@ kind_target kind.CodeBarrier size w is sound = rw is tt
 kind_target kind.Console size w is sound = rw is tt
 kind_target kind.Poll size w is sound = rw is tt
 
-plan_wants : (size : ℕ) (p : Plan) → size ≤ MAX_MEMORY → IsSound size p → WantsInLine (wanted_by p) × WantsTarget (wanted_by p)
-plan_wants size (End t) most sound = (tt, tt)
-plan_wants size (Want w k) most sound = (kind_in_line w.kind size w most sound.0, kind_target w.kind size w refl sound.0)
-plan_wants size Unbuilt most sound = (tt, tt)
+-- and none is a Poll
+abbrev pub wants_poll : Option Wanted → Bool
+wants_poll None = false
+wants_poll (Some w) = is_poll w.kind
 
-seat_wants : (s : Seat) → IsSeated s → WantsInLine (wanted s) × WantsTarget (wanted s)
+kind_no_poll : (k : Kind) (size : ℕ) (w : Wanted) → IsSoundAs size k w → is_poll k ≡ false
+kind_no_poll kind.Poll size w sound = absurd sound
+kind_no_poll _ size w sound = refl
+
+-- all of this of what is wanted, if anything
+abbrev WantsWell : Option Wanted → Type 0
+WantsWell o = WantsInLine o × WantsTarget o × (wants_poll o ≡ false)
+
+plan_wants : (size : ℕ) (p : Plan) → size ≤ MAX_MEMORY → IsSound size p → WantsWell (wanted_by p)
+plan_wants size (End t) most sound = (tt, tt, refl)
+plan_wants size (Want w k) most sound = (kind_in_line w.kind size w most sound.0, kind_target w.kind size w refl sound.0, kind_no_poll w.kind size w sound.0)
+plan_wants size Unbuilt most sound = (tt, tt, refl)
+
+seat_wants : (s : Seat) → IsSeated s → WantsWell (wanted s)
 seat_wants s seated = by_finished (is_finished s) (wanted_by (plan_now s)) (plan_wants s.size (plan_now s) seated.most (along_sound s.size s.values (group s.size s.start) (group_sound s.size s.start seated.pages seated.pc))) where
-  by_finished : (b : Bool) (o : Option Wanted) → WantsInLine o × WantsTarget o → WantsInLine (cond b None o) × WantsTarget (cond b None o)
-  by_finished true o wants = (tt, tt)
+  by_finished : (b : Bool) (o : Option Wanted) → WantsWell o → WantsWell (cond b None o)
+  by_finished true o wants = (tt, tt, refl)
   by_finished false o wants = wants
 
 pub intents_in_line : (image : Contents) (budget : ℕ) → IsValid image → AreInLine (intents image budget)
@@ -119,3 +133,6 @@ intents_in_line image budget valid p h = (seat_wants ((world image budget h).act
 
 pub intents_name_targets : (image : Contents) (budget : ℕ) → IsValid image → (p : ℕ) (h : List Record) → WantsTarget (intents image budget p h).wanted
 intents_name_targets image budget valid p h = (seat_wants ((world image budget h).actors p).seat (seated image budget valid h p)).1
+
+pub intents_want_no_poll : (image : Contents) (budget : ℕ) → IsValid image → (p : ℕ) (h : List Record) → wants_poll (intents image budget p h).wanted ≡ false
+intents_want_no_poll image budget valid p h = (seat_wants ((world image budget h).actors p).seat (seated image budget valid h p)).2

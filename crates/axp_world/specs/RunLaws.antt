@@ -1,5 +1,7 @@
 -- What the laws of played histories speak of.
 use Rattle.std.specs.Prelude.{◌≡◌, ℕ, ◌<◌, Bool, true, false, List, [], ◌∷◌, Result, Ok, Err}
+use Rattle.axp_access.specs.declared.Act.{Act}
+use Rattle.axp_access.specs.declared.Act.TheVariants as act
 use Rattle.axp_access.specs.declared.Outcome.{Outcome}
 use Rattle.axp_access.specs.declared.Record.{Record}
 use Rattle.axp_base.specs.Cpus.{cpu_number}
@@ -21,3 +23,11 @@ IsBuilt image cpus budget (r ∷ h) =
     (cpu_number r.event.cpu < cpus)
     × (answer_of image cpus (world image budget h) r.event ≡ Err NotBuilt → ⊥)
     × IsBuilt image cpus budget h
+
+-- an act by which a processor comes nearer to its end: it steps, or makes way for a Step
+abbrev pub is_progress : Act → Bool
+is_progress act.Step = true
+is_progress act.Fill = true
+is_progress (act.Drain k) = true
+is_progress (act.Drop b line) = true
+is_progress _ = false

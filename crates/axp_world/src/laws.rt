@@ -1,16 +1,20 @@
 //! What processors play over the bus is what the memory model says.
-ghost use Rattle.std.specs.Prelude.{ℕ, List, ◌≡◌, ◌<◌, not, true};
+ghost use Rattle.std.specs.Prelude.{ℕ, List, ◌≡◌, ◌<◌, not, true, false};
+ghost use Rattle.axp_access.specs.declared.Act.{Act};
+ghost use Rattle.axp_access.specs.declared.Act.TheVariants as act;
 ghost use Rattle.axp_access.specs.declared.Event.{Event};
 ghost use Rattle.axp_access.specs.declared.Record.{Record};
 ghost use Rattle.axp_base.specs.Cpus.{cpu_number};
+ghost use Rattle.axp_base.specs.declared.processors.Cpu.{Cpu};
 ghost use Rattle.axp_image.specs.Contents.{Contents, IsValid};
 ghost use Rattle.axp_model.specs.BusCalls as calls;
-ghost use Rattle.axp_model.specs.Legal.{legal};
+ghost use Rattle.axp_model.specs.Entries.{buffer};
+ghost use Rattle.axp_model.specs.Legal.{is_empty, legal};
 ghost use Rattle.axp_model.specs.Memory.{memory_byte};
 ghost use Rattle.axp_model.specs.OrderLaws.{AreInLine};
 ghost use Rattle.axp_model.specs.Outcomes.{IsRun};
 ghost use Rattle.axp_model.specs.Turns.{turns};
-ghost use Rattle.axp_world.specs.RunLaws.{IsBuilt, is_not_legal};
+ghost use Rattle.axp_world.specs.RunLaws.{IsBuilt, is_not_legal, is_progress};
 ghost use Rattle.axp_world.specs.Worlds.{IsPlayed, answer_of, image_bytes, intents, world};
 
 /// Every history that processors play over the bus is a run of the memory model: each event was legal
@@ -35,4 +39,16 @@ pub fn refused_where_not_legal()
 /// to nothing that is not built.
 pub fn runs_are_played()
     ensures { (image : Contents) (cpus budget : ℕ) (h : List Record) → IsValid image → IsRun (image_bytes image) (intents image budget) h → IsBuilt image cpus budget h → IsPlayed image cpus budget h }
+{}
+
+/// No processor is stuck after a played history: one that is not finished has a legal Step, Fill, Drain
+/// or Drop, and one that is finished with a write that waits may drain. Legal is the memory model's word:
+/// a legal Step that comes to what is not built is refused all the same.
+pub fn processors_are_never_stuck()
+    ensures acts { (image : Contents) (cpus budget : ℕ) (h : List Record) (c : Cpu) → IsValid image → IsPlayed image cpus budget h
+        → (intents image budget (cpu_number c) h).finished ≡ false
+        → (a : Act) × (is_progress a ≡ true) × (legal (intents image budget (cpu_number c) h) h (record { cpu = c; act = a }) ≡ true) }
+    ensures drains { (image : Contents) (cpus budget : ℕ) (h : List Record) (c : Cpu) → IsValid image → IsPlayed image cpus budget h
+        → (intents image budget (cpu_number c) h).finished ≡ true → is_empty (buffer (cpu_number c) h).waiting ≡ false
+        → legal (intents image budget (cpu_number c) h) h (record { cpu = c; act = act.Drain 0 }) ≡ true }
 {}
