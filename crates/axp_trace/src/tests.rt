@@ -74,8 +74,8 @@ fn steps_have_their_text(rt: HostRuntime) {
             b"0 step : w 00004000 8 0000000000000001 e32768",
         ),
         (
-            moved(zero, Kind::Write, 1, 0x5A, false, Place::At(3)),
-            b"0 step : w 00004000 1 5A @3",
+            moved(zero, Kind::Write, 1, 0x5A, false, Place::Entry(3)),
+            b"0 step : w 00004000 1 5A e3",
         ),
         (
             moved(
