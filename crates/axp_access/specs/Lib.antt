@@ -1,3 +1,7 @@
 pub mod Spelling
 pub mod Events
 pub mod EventLists
+pub mod Kinds
+pub mod Acts
+pub mod Numbering
+pub mod Order

@@ -7,7 +7,7 @@ use Rattle.std.proofs.lemmas.List.Sums.{passes_at_first, prefix_len-le-length}
 use Rattle.std.proofs.lemmas.List.Folds.{find_at}
 use Rattle.std.proofs.lemmas.Option.{slice_get-get_or}
 use Rattle.axp_bank.specs.declared.copies.LineCopy.{LineCopy}
-use Rattle.axp_bank.specs.declared.copies.TheConstants.{BANK_COPIES}
+use Rattle.axp_base.specs.declared.limits.TheConstants.{BANK_COPIES}
 use Rattle.axp_bank.specs.Places.{is_above, IsPlace, IsPlaceFor, PlaceOf}
 use Rattle.axp_bank.specs.Copies.{line_of, is_of, Above, Ascending, Whole, is_held, shown, get_of, refreshed, inserted, dropped, spared}
 

@@ -8,7 +8,7 @@ use Rattle.axp_base.specs.Lines.{line_number}
 use Rattle.axp_base.specs.declared.lines.Line.{Line}
 use Rattle.axp_line.specs.declared.contents.LineData.{LineData}
 use Rattle.axp_bank.specs.declared.copies.LineCopy.{LineCopy}
-use Rattle.axp_bank.specs.declared.copies.TheConstants.{BANK_COPIES}
+use Rattle.axp_base.specs.declared.limits.TheConstants.{BANK_COPIES}
 use Rattle.axp_bank.specs.Copies.{line_of, is_of, Ascending, Whole, is_held, shown, get_of, has_room, refreshed, inserted, put, dropped, is_older, has_older, invalidated, held_lines, has_line, stamp_beside, stamp_of}
 use Rattle.axp_bank.proofs.BankLemmas.{apart, above_at, whole_refreshed, whole_inserted, whole_dropped}
 

@@ -7,7 +7,7 @@ use Rattle.axp_base.specs.Lines.{line_number}
 use Rattle.axp_base.specs.declared.lines.Line.{Line}
 use Rattle.axp_line.specs.declared.contents.LineData.{LineData}
 use Rattle.axp_bank.specs.declared.copies.LineCopy.{LineCopy}
-use Rattle.axp_bank.specs.declared.copies.TheConstants.{BANK_COPIES}
+use Rattle.axp_base.specs.declared.limits.TheConstants.{BANK_COPIES}
 
 -- the copy of this line with this stamp and these data
 abbrev pub copy_of : Line → ℕ → LineData → LineCopy

@@ -4,11 +4,11 @@ ghost use Rattle.std.specs.Option.{option_map};
 ghost use Rattle.axp_base.specs.Lines.{line_number};
 ghost use Rattle.axp_bank.specs.Copies.{Whole, copy_of, line_of, is_of, is_held, get_of, has_older, has_room, put, refreshed, inserted, invalidated, dropped, held_lines, spared};
 ghost use Rattle.axp_bank.specs.Places.{PlaceOf, IsPlace, IsPlaceFor, is_above};
-ghost use Rattle.axp_bank.specs.declared.copies.TheConstants.{BANK_COPIES};
+ghost use Rattle.axp_base.specs.declared.limits.TheConstants.{BANK_COPIES};
 
-use crate::{BANK_COPIES, LineCopy};
+use crate::LineCopy;
 use arrayvec::ArrayVec;
-use axp_base::Line;
+use axp_base::{BANK_COPIES, Line};
 use axp_line::{LineData, NoRoom};
 use std::marker::Model;
 

@@ -1,9 +1,6 @@
 use axp_base::Line;
 use axp_line::LineData;
 
-/// The greatest number of copies that a bank keeps.
-pub const BANK_COPIES: usize = 16;
-
 /// A copy of a line: its data, and the stamp of the moment that they are of.
 #[derive(Clone, Copy, Debug, Default, PartialEq, Eq)]
 pub struct LineCopy {

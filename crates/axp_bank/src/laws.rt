@@ -5,7 +5,7 @@ ghost use Rattle.axp_base.specs.declared.lines.Line.{Line};
 ghost use Rattle.axp_line.specs.declared.contents.LineData.{LineData};
 ghost use Rattle.axp_bank.specs.Copies.{Whole, line_of, is_held, get_of, stamp_of, has_older, has_room, put, refreshed, invalidated, dropped, held_lines, has_line, stamp_beside};
 ghost use Rattle.axp_bank.specs.declared.copies.LineCopy.{LineCopy};
-ghost use Rattle.axp_bank.specs.declared.copies.TheConstants.{BANK_COPIES};
+ghost use Rattle.axp_base.specs.declared.limits.TheConstants.{BANK_COPIES};
 
 /// A line is held exactly where its stamp and data can be got.
 pub fn held_is_what_is_got()

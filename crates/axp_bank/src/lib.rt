@@ -5,8 +5,9 @@ mod banks;
 mod copies;
 mod laws;
 
+pub use axp_base::BANK_COPIES;
 pub use banks::CopyBank;
-pub use copies::{BANK_COPIES, LineCopy};
+pub use copies::LineCopy;
 pub use laws::{
     copies_are_what_is_got, dropped_line_is_gone, held_is_what_is_got,
     invalidate_removes_an_older_copy, lines_are_the_held_ones, lines_stay_distinct_and_few,

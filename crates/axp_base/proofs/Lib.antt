@@ -4,3 +4,4 @@ pub mod NumberLemmas
 pub mod PartLemmas
 pub mod SpanLemmas
 pub mod SignLemmas
+pub mod LatePairLemmas

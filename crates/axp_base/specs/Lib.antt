@@ -4,3 +4,6 @@ pub mod Masks
 pub mod Numbers
 pub mod Parts
 pub mod Sizes
+pub mod Blocks
+pub mod LatePairs
+pub mod Lists

@@ -4,6 +4,7 @@
 
 mod byte_lists;
 mod laws;
+mod limits;
 mod lines;
 mod masks;
 mod numbers;
@@ -15,7 +16,8 @@ pub use byte_lists::{Bytes, NoMemory};
 pub use laws::{
     put_is_read_back, sign_bit_is_below_zero, sign_extension_keeps_the_integer, span_is_its_bytes,
 };
-pub use lines::{Bank, LINE_BYTES, Line};
+pub use limits::{BANK_COPIES, WBUF_ENTRIES};
+pub use lines::{Bank, LINE_BYTES, LOCK_BYTES, Line};
 pub use masks::{Mask, span};
 pub use numbers::sext;
 pub use parts::{QUADWORD_BYTES, byte_moved_up, byte_of, number_in, put_number};

@@ -4,6 +4,9 @@ ghost use Rattle.axp_base.specs.declared.lines.TheConstants.{LINE_BYTES};
 /// The bytes of a line, the unit in which memory is shared.
 pub const LINE_BYTES: u64 = 64;
 
+/// The bytes of a block, the unit in which memory is locked. A block lies in one line.
+pub const LOCK_BYTES: u64 = 16;
+
 /// A line of physical memory.
 #[derive(Clone, Copy, Debug, PartialEq, Eq)]
 pub struct Line {

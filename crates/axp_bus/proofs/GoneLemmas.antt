@@ -8,7 +8,7 @@ use Rattle.std.proofs.lemmas.Option.{get_or_from_slice_get}
 use Rattle.std.specs.Option.{unwrap_or}
 use Rattle.axp_base.specs.Masks.{has_bit}
 use Rattle.axp_line.specs.declared.messages.TheConstants.{MAX_HELD}
-use Rattle.axp_model.specs.BusReply.{Front, gone, is_late}
+use Rattle.axp_line.specs.BusReply.{Front, gone, is_late}
 
 -- bits of the copies from the n-th on
 drop_all : (xs : List (ℕ × ℕ)) (n : ℕ) → n ≡ length xs → drop n xs ≡ []

@@ -3,7 +3,7 @@ use Rattle.std.proofs.Common.{◌≡◌, ℕ, zero, suc, ◌+◌, ◌*◌, ◌/�
 use Rattle.std.proofs.Math.Nat.{ℕ_set}
 use Rattle.std.proofs.lemmas.Bool.{cases_eq, eqb-true, eq-eqb, ne_eqb, eqb-false}
 use Rattle.std.proofs.lemmas.List.{get_or-drop, get_or-take, length-drop, length-take}
-use Rattle.axp_base.specs.Lines.{line_number}
+use Rattle.axp_base.specs.Lines.{line_number, line_of}
 use Rattle.axp_base.specs.Masks.{has_bit, mask_bits}
 use Rattle.axp_base.specs.Parts.{number_at, part}
 use Rattle.axp_base.specs.declared.lines.Line.{Line}
@@ -13,9 +13,8 @@ use Rattle.axp_line.specs.declared.contents.LineData.{LineData}
 use Rattle.axp_line.proofs.MergeLemmas.{merged_each}
 use Rattle.axp_memory.specs.Bytes.{bytes_at, line_in, written}
 use Rattle.axp_memory.proofs.WriteLemmas.{changes_one_line}
-use Rattle.axp_model.specs.Records.{line_of}
-use Rattle.axp_model.specs.BusCalls.{Written, overwritten}
-use Rattle.axp_model.specs.BusReply.{bytes_from, line_of_memory}
+use Rattle.axp_line.specs.BusCalls.{Written, overwritten}
+use Rattle.axp_line.specs.BusReply.{bytes_from, line_of_memory}
 use Rattle.axp_bus.specs.Buses.{Agrees}
 use Rattle.axp_bus.specs.Writes.{written_of}
 use Rattle.axp_bus.specs.declared.writes.Write.{Write}

@@ -5,12 +5,11 @@ use Rattle.std.proofs.lemmas.Bool.{cases_eq, cases_lt, eq-eqb, ne_eqb}
 use Rattle.std.proofs.lemmas.Nat.{pow_pos, mod-pow-add, pow-add}
 use Rattle.std.proofs.lemmas.Grind.{get_or-set_at}
 use Rattle.std.proofs.Math.Nat.{div-div-eq-div-mul}
-use Rattle.axp_base.specs.Lines.{line_number}
+use Rattle.axp_base.specs.Lines.{line_number, line_of}
 use Rattle.axp_base.specs.Masks.{has_bit}
 use Rattle.axp_base.specs.declared.lines.TheConstants.{LINE_BYTES}
 use Rattle.axp_base.specs.declared.parts.TheConstants.{QUADWORD_BYTES}
-use Rattle.axp_model.specs.Records.{line_of}
-use Rattle.axp_model.specs.BusCalls.{Written}
+use Rattle.axp_line.specs.BusCalls.{Written}
 use Rattle.axp_bus.specs.Marks.{LINE_QUADWORDS, has_first, has_part, Marked, MarkedBelow}
 
 -- bits of a mask, the lowest first

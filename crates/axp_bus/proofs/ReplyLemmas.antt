@@ -5,13 +5,14 @@ use Rattle.axp_base.specs.declared.lines.Bank.{Bank}
 use Rattle.axp_base.specs.declared.lines.Bank.TheVariants.{Even, Odd, Code}
 use Rattle.axp_base.specs.declared.lines.Line.{Line}
 use Rattle.axp_base.specs.declared.processors.Cpu.{Cpu}
-use Rattle.axp_inval.specs.Queues.{queue, AreBefore}
+use Rattle.axp_inval.specs.Queues.{queue}
+use Rattle.axp_base.specs.LatePairs.{AreBefore}
 use Rattle.axp_line.specs.declared.messages.Request.{Request}
 use Rattle.axp_line.specs.declared.messages.Request.TheVariants as request
-use Rattle.axp_lockreg.specs.Blocks.{is_allowed}
-use Rattle.axp_model.specs.Records.{line_at}
-use Rattle.axp_model.specs.BusCalls.{BusCall, Written, is_turn, late, memory, overwritten, register, turns, would_write}
-use Rattle.axp_model.specs.BusReply.{Front, bus_reply, first_late, front, late_in, reply_by, tried}
+use Rattle.axp_base.specs.Blocks.{is_allowed}
+use Rattle.axp_base.specs.Lines.{line_at}
+use Rattle.axp_line.specs.BusCalls.{BusCall, Written, is_turn, late, memory, overwritten, register, turns, would_write}
+use Rattle.axp_line.specs.BusReply.{Front, bus_reply, first_late, front, late_in, reply_by, tried}
 use Rattle.axp_bus.specs.BusStands.{call_of}
 use Rattle.axp_bus.specs.Buses.{IsTidyQueue}
 use Rattle.axp_bus.specs.ReplyLaws.{Answers, HasNoLock, IsNothing, IsRefused, TakesNothing, TellsLine, turn_of}

@@ -1,5 +1,6 @@
 -- A bus stands for its calls, before one more and after it.
 use Rattle.std.proofs.Common.{◌≡◌, ℕ, ◌+◌, ◌<◌, ◌++◌, eqb, Bool, true, false, cond, not, ◌||◌, List, [], ◌∷◌, Option, Some, None, length, get_or, refl, ap, ap₂, sym, subst, ◌∙◌, arith}
+use Rattle.axp_base.specs.Lists.{is_empty}
 use Rattle.axp_base.specs.Cpus.{cpu_number}
 use Rattle.axp_base.specs.declared.lines.Bank.{Bank}
 use Rattle.axp_base.specs.declared.lines.Bank.TheVariants.{Even, Odd, Code}
@@ -10,10 +11,9 @@ use Rattle.axp_line.specs.declared.messages.Request.{Request}
 use Rattle.axp_line.specs.declared.messages.Request.TheVariants as request
 use Rattle.axp_line.specs.declared.messages.Reply.{Reply}
 use Rattle.axp_line.specs.declared.messages.Reply.TheVariants as reply
-use Rattle.axp_model.specs.Late.{late_by_other}
-use Rattle.axp_model.specs.Legal.{is_empty}
-use Rattle.axp_model.specs.BusCalls.{BusCall, memory, turns, late, late_by_own, line_written, overwritten, reaches_quadword, wrote, is_turn, printed_by}
-use Rattle.axp_model.specs.BusReply.{bus_reply, reply_by}
+use Rattle.axp_base.specs.LatePairs.{late_by_other}
+use Rattle.axp_line.specs.BusCalls.{BusCall, memory, turns, late, late_by_own, line_written, overwritten, reaches_quadword, wrote, is_turn, printed_by}
+use Rattle.axp_line.specs.BusReply.{bus_reply, reply_by}
 use Rattle.axp_bus.specs.Lanes.{IsLane, late_after, lock_after, pending_after}
 use Rattle.axp_bus.specs.Buses.{State, Agrees, NotedAll, front_of}
 use Rattle.axp_bus.specs.Marks.{Marked}

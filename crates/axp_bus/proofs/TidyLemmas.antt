@@ -1,19 +1,17 @@
 -- No queue has more pairs than turns were made, before a call and after it.
 use Rattle.std.proofs.Common.{◌≡◌, ℕ, ◌+◌, ◌<◌, ◌≤◌, eqb, Bool, true, false, cond, List, [], ◌∷◌, ◌++◌, length, get_or, Option, Some, None, arith}
 use Rattle.std.proofs.lemmas.List.{length-append}
-use Rattle.axp_base.specs.Lines.{line_number}
+use Rattle.axp_base.specs.Lines.{line_number, in_bank, same_bank}
 use Rattle.axp_base.specs.declared.lines.Bank.{Bank}
 use Rattle.axp_base.specs.declared.lines.Bank.TheVariants.{Even, Odd}
 use Rattle.axp_base.specs.declared.lines.Line.{Line}
-use Rattle.axp_inval.specs.Queues.{Queue, queue, AreBefore, others}
+use Rattle.axp_inval.specs.Queues.{Queue, queue}
+use Rattle.axp_base.specs.LatePairs.{AreBefore, others, late_by_other}
 use Rattle.axp_line.specs.declared.messages.Request.{Request}
 use Rattle.axp_line.specs.declared.messages.Request.TheVariants as request
 use Rattle.axp_line.specs.declared.messages.Reply.{Reply}
 use Rattle.axp_line.specs.declared.messages.Reply.TheVariants as reply
-use Rattle.axp_model.specs.Records.{in_bank}
-use Rattle.axp_model.specs.Late.{late_by_other}
-use Rattle.axp_model.specs.Legal.{same_bank}
-use Rattle.axp_model.specs.BusCalls.{is_turn, late_by_own, line_written, printed_by, wrote}
+use Rattle.axp_line.specs.BusCalls.{is_turn, late_by_own, line_written, printed_by, wrote}
 use Rattle.axp_bus.specs.Lanes.{HasRoom, late_after}
 use Rattle.axp_bus.specs.Buses.{NotedAll, HaveRoom, IsTidyQueue, AreTidy}
 use Rattle.axp_bus.specs.declared.lanes.Lane.{Lane}

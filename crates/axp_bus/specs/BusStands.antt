@@ -3,8 +3,8 @@ use Rattle.std.specs.Prelude.{◌≡◌, ℕ, ◌<◌, List, length, get_or}
 use Rattle.axp_base.specs.declared.processors.Cpu.{Cpu}
 use Rattle.axp_line.specs.declared.messages.Reply.{Reply}
 use Rattle.axp_line.specs.declared.messages.Request.{Request}
-use Rattle.axp_model.specs.BusCalls.{BusCall, memory, turns, console}
-use Rattle.axp_model.specs.BusReply.{AreReplied}
+use Rattle.axp_line.specs.BusCalls.{BusCall, memory, turns, console}
+use Rattle.axp_line.specs.BusReply.{AreReplied}
 use Rattle.axp_bus.specs.Buses.{State, Agrees}
 use Rattle.axp_bus.specs.Lanes.{IsLane}
 use Rattle.axp_bus.specs.Marks.{AreMarks}

@@ -3,12 +3,13 @@ use Rattle.std.specs.Prelude.{◌≡◌, ℕ, ◌+◌, ◌*◌, ◌%◌, ◌<◌
 use Rattle.axp_base.specs.Cpus.{cpu_number}
 use Rattle.axp_base.specs.Lines.{line_number}
 use Rattle.axp_base.specs.declared.lines.TheConstants.{LINE_BYTES}
-use Rattle.axp_inval.specs.Queues.{Queue, AreBefore}
+use Rattle.axp_inval.specs.Queues.{Queue}
+use Rattle.axp_base.specs.LatePairs.{AreBefore}
 use Rattle.axp_line.specs.declared.messages.Reply.{Reply}
 use Rattle.axp_line.specs.declared.messages.Request.{Request}
 use Rattle.axp_line.specs.declared.messages.Request.TheVariants as request
 use Rattle.axp_lockreg.specs.Blocks.{locked_block}
-use Rattle.axp_model.specs.BusReply.{Front}
+use Rattle.axp_line.specs.BusReply.{Front}
 use Rattle.axp_bus.specs.Lanes.{Noted, LaneHasRoom}
 use Rattle.axp_bus.specs.declared.lanes.Lane.{Lane}
 

@@ -3,13 +3,13 @@ use Rattle.std.specs.Prelude.{◌≡◌, ℕ, ◌<◌, Bool, true, false, ◌&&�
 use Rattle.axp_base.specs.declared.lines.Bank.{Bank}
 use Rattle.axp_base.specs.declared.lines.Bank.TheVariants.{Even, Odd}
 use Rattle.axp_base.specs.declared.lines.Line.{Line}
-use Rattle.axp_inval.specs.Queues.{Queue, queue, AreBefore}
+use Rattle.axp_inval.specs.Queues.{Queue, queue}
+use Rattle.axp_base.specs.LatePairs.{AreBefore, late_by_other}
 use Rattle.axp_line.specs.declared.messages.Reply.{Reply}
 use Rattle.axp_line.specs.declared.messages.Request.{Request}
 use Rattle.axp_lockreg.specs.Blocks.{locked_block}
-use Rattle.axp_model.specs.Late.{late_by_other}
-use Rattle.axp_model.specs.Locks.{lock_by_other}
-use Rattle.axp_model.specs.BusCalls.{BusCall, wrote, line_written, late, late_by_own, lock_by_own, register, signals, takes_interrupt, pending}
+use Rattle.axp_base.specs.Blocks.{lock_by_other}
+use Rattle.axp_line.specs.BusCalls.{BusCall, wrote, line_written, late, late_by_own, lock_by_own, register, signals, takes_interrupt, pending}
 use Rattle.axp_bus.specs.declared.lanes.Lane.{Lane}
 
 -- what a call leaves late for a processor, by whether it is its own

@@ -2,7 +2,7 @@
 use Rattle.std.specs.Prelude.{◌≡◌, ℕ, ◌+◌, ◌*◌, ◌/◌, ◌%◌, ◌^◌, ◌<◌, ◌≤◌, ◌==◌, Bool, false, not, ◌||◌, List, length, get_or, Option}
 use Rattle.axp_base.specs.declared.lines.TheConstants.{LINE_BYTES}
 use Rattle.axp_base.specs.declared.parts.TheConstants.{QUADWORD_BYTES}
-use Rattle.axp_model.specs.BusCalls.{BusCall, Written, reaches_quadword, is_touched}
+use Rattle.axp_line.specs.BusCalls.{BusCall, Written, reaches_quadword, is_touched}
 
 -- how many quadwords a line has
 abbrev pub LINE_QUADWORDS : ℕ

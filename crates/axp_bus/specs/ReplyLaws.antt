@@ -1,6 +1,6 @@
 -- What the bus answers, in other words.
 use Rattle.std.specs.Prelude.{◌≡◌, ◌⊎◌, ℕ, ◌+◌, ◌*◌, ◌<◌, false, List, [], slice_index}
-use Rattle.axp_base.specs.Lines.{line_number}
+use Rattle.axp_base.specs.Lines.{line_number, line_at}
 use Rattle.axp_base.specs.declared.lines.TheConstants.{LINE_BYTES}
 use Rattle.axp_line.specs.Lines.{bytes_of_line}
 use Rattle.axp_line.specs.declared.contents.LineData.{LineData}
@@ -9,9 +9,8 @@ use Rattle.axp_line.specs.declared.messages.Reply.TheVariants as reply
 use Rattle.axp_line.specs.declared.messages.Request.{Request}
 use Rattle.axp_line.specs.declared.messages.Request.TheVariants as request
 use Rattle.axp_base.specs.declared.lines.Line.{Line}
-use Rattle.axp_lockreg.specs.Blocks.{is_allowed}
-use Rattle.axp_model.specs.Records.{line_at}
-use Rattle.axp_model.specs.BusCalls.{BusCall, late, register}
+use Rattle.axp_base.specs.Blocks.{is_allowed}
+use Rattle.axp_line.specs.BusCalls.{BusCall, late, register}
 
 -- the reply is one that a request of this kind may get
 abbrev pub Answers : Request → Reply → Type 0

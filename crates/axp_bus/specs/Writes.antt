@@ -2,7 +2,7 @@
 use Rattle.std.specs.Prelude.{Option, Some, None}
 use Rattle.axp_base.specs.Masks.{mask_bits}
 use Rattle.axp_line.specs.Lines.{bytes_of_line}
-use Rattle.axp_model.specs.BusCalls.{Written}
+use Rattle.axp_line.specs.BusCalls.{Written}
 use Rattle.axp_bus.specs.declared.writes.Write.{Write}
 
 -- a write is seen as the bytes of one line that are written

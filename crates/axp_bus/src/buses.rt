@@ -7,9 +7,9 @@ ghost use Rattle.axp_base.specs.declared.parts.TheConstants.{QUADWORD_BYTES};
 ghost use Rattle.axp_base.specs.declared.processors.TheConstants.{MAX_CPUS, MIN_CPUS};
 ghost use Rattle.axp_image.specs.Contents.{byte_in};
 ghost use Rattle.axp_memory.specs.Bytes.{AreLines};
-ghost use Rattle.axp_model.specs.BusCalls.{BusCall, console, is_touched, is_turn, late, memory, printed_by, turns};
-ghost use Rattle.axp_model.specs.BusReply.{bus_reply};
-ghost use Rattle.axp_model.specs.Legal.{is_empty};
+ghost use Rattle.axp_line.specs.BusCalls.{BusCall, console, is_touched, is_turn, late, memory, printed_by, turns};
+ghost use Rattle.axp_line.specs.BusReply.{bus_reply};
+ghost use Rattle.axp_base.specs.Lists.{is_empty};
 ghost use Rattle.axp_bus.specs.Buses.{MayAsk};
 ghost use Rattle.axp_bus.specs.BusStands.{Stands, call_of};
 

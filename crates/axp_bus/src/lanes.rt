@@ -4,10 +4,10 @@ ghost use Rattle.axp_base.specs.Cpus.{cpu_number};
 ghost use Rattle.axp_base.specs.declared.lines.Bank.TheVariants.{Code, Even, Odd};
 ghost use Rattle.axp_inval.specs.Queues.{queue};
 ghost use Rattle.axp_lockreg.specs.Blocks.{locked_block};
-ghost use Rattle.axp_model.specs.Late.{late_by_other};
-ghost use Rattle.axp_model.specs.Legal.{is_empty};
-ghost use Rattle.axp_model.specs.Locks.{lock_by_other};
-ghost use Rattle.axp_model.specs.BusCalls.{late_by_own, lock_by_own, signals, takes_interrupt};
+ghost use Rattle.axp_base.specs.LatePairs.{late_by_other};
+ghost use Rattle.axp_base.specs.Lists.{is_empty};
+ghost use Rattle.axp_base.specs.Blocks.{lock_by_other};
+ghost use Rattle.axp_line.specs.BusCalls.{late_by_own, lock_by_own, signals, takes_interrupt};
 ghost use Rattle.axp_line.specs.declared.messages.Request.TheVariants as request;
 ghost use Rattle.axp_bus.specs.Lanes.{AreFresh, IsFresh, LaneHasRoom, Noted, pending_after};
 

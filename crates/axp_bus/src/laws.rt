@@ -5,10 +5,10 @@ ghost use Rattle.axp_base.specs.declared.lines.Bank.TheVariants.{Code};
 ghost use Rattle.axp_base.specs.declared.processors.Cpu.{Cpu};
 ghost use Rattle.axp_base.specs.Cpus.{cpu_number};
 ghost use Rattle.axp_base.specs.Masks.{has_bit};
-ghost use Rattle.axp_inval.specs.Queues.{AreBefore};
+ghost use Rattle.axp_base.specs.LatePairs.{AreBefore};
 ghost use Rattle.axp_line.specs.declared.messages.Request.{Request};
-ghost use Rattle.axp_model.specs.BusCalls.{BusCall, late, memory, turns};
-ghost use Rattle.axp_model.specs.BusReply.{Front, bus_reply, gone, is_late, reply_by};
+ghost use Rattle.axp_line.specs.BusCalls.{BusCall, late, memory, turns};
+ghost use Rattle.axp_line.specs.BusReply.{Front, bus_reply, gone, is_late, reply_by};
 ghost use Rattle.axp_bus.specs.BusStands.{call_of};
 ghost use Rattle.axp_bus.specs.ReplyLaws.{Answers, HasNoLock, IsNothing, IsRefused, TakesNothing, TellsLine, turn_of};
 

@@ -4,7 +4,7 @@ ghost use Rattle.axp_base.specs.Lines.{line_number};
 ghost use Rattle.axp_base.specs.Masks.{mask_bits};
 ghost use Rattle.axp_base.specs.declared.lines.TheConstants.{LINE_BYTES};
 ghost use Rattle.axp_base.specs.declared.parts.TheConstants.{QUADWORD_BYTES};
-ghost use Rattle.axp_model.specs.BusCalls.{wrote};
+ghost use Rattle.axp_line.specs.BusCalls.{wrote};
 ghost use Rattle.axp_bus.specs.Buses.{MayAsk};
 ghost use Rattle.axp_bus.specs.Marks.{LINE_QUADWORDS, Marked, has_part};
 

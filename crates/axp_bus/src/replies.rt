@@ -2,10 +2,11 @@
 ghost use Rattle.std.specs.Prelude.{◌≡◌, ◌+◌, ◌*◌, ◌^◌, ◌<◌, ◌≤◌, ◌↔◌, ◌&&◌, ℕ, Some, IsTrue, not, length};
 ghost use Rattle.axp_base.specs.Lines.{line_number};
 ghost use Rattle.axp_base.specs.declared.lines.TheConstants.{LINE_BYTES};
-ghost use Rattle.axp_lockreg.specs.Blocks.{is_allowed, locked_block};
-ghost use Rattle.axp_model.specs.BusCalls.{overwritten};
-ghost use Rattle.axp_model.specs.BusReply.{Front, first_late, gone, is_late, late_in, line_of_memory, line_reply, reply_by, stored_reply, tried};
-ghost use Rattle.axp_model.specs.Legal.{is_empty};
+ghost use Rattle.axp_base.specs.Blocks.{is_allowed};
+ghost use Rattle.axp_lockreg.specs.Blocks.{locked_block};
+ghost use Rattle.axp_line.specs.BusCalls.{overwritten};
+ghost use Rattle.axp_line.specs.BusReply.{Front, first_late, gone, is_late, late_in, line_of_memory, line_reply, reply_by, stored_reply, tried};
+ghost use Rattle.axp_base.specs.Lists.{is_empty};
 ghost use Rattle.axp_bus.specs.Buses.{Agrees, MayAsk, front_of};
 ghost use Rattle.axp_bus.specs.Writes.{written_of};
 
@@ -120,7 +121,7 @@ fn gone(lane: &Lane, held: &Held) -> u32
 }
 
 /// The reply to a request, by memory, the number of turns made, and the lane of the processor.
-#[tactic(auto, unfolding(axp_model::specs::BusReply::reply_by))]
+#[tactic(auto, unfolding(axp_line::specs::BusReply::reply_by))]
 pub(crate) fn reply_at(memory: &Ram, turns: u64, lane: &Lane, request: &Request) -> Reply
     requires asks { (cpus : ℕ) × MayAsk (length memory.now) cpus request.now }
     requires turns { turns < 2 ^ 32 }

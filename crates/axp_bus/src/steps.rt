@@ -3,7 +3,7 @@ ghost use Rattle.std.specs.Prelude.{◌≡◌, ◌+◌, ◌++◌, ◌^◌, ◌<�
 ghost use Rattle.std.specs.Vec.{vec_capacity};
 ghost use Rattle.axp_base.specs.Cpus.{cpu_number};
 ghost use Rattle.axp_memory.specs.Bytes.{AreLines};
-ghost use Rattle.axp_model.specs.BusCalls.{is_turn, overwritten, printed_by, wrote};
+ghost use Rattle.axp_line.specs.BusCalls.{is_turn, overwritten, printed_by, wrote};
 ghost use Rattle.axp_bus.specs.Buses.{Agrees, HaveRoom, MayAsk, NotedAll};
 
 use crate::lanes::Lane;

@@ -3,8 +3,8 @@ ghost use Rattle.std.specs.Prelude.{◌≡◌, ◌+◌, ◌*◌, ◌/◌, ◌%�
 ghost use Rattle.axp_base.specs.Lines.{line_number};
 ghost use Rattle.axp_base.specs.Masks.{span_of};
 ghost use Rattle.axp_base.specs.declared.lines.TheConstants.{LINE_BYTES};
-ghost use Rattle.axp_model.specs.BusCalls.{is_turn, line_written, wrote, stored_bytes};
-ghost use Rattle.axp_model.specs.Records.{line_at};
+ghost use Rattle.axp_line.specs.BusCalls.{is_turn, line_written, wrote, stored_bytes};
+ghost use Rattle.axp_base.specs.Lines.{line_at};
 ghost use Rattle.axp_bus.specs.Writes.{written_of};
 
 use axp_base::{LINE_BYTES, Line, Mask, span};

@@ -13,10 +13,10 @@ use Rattle.axp_line.specs.declared.messages.Reply.{Reply}
 use Rattle.axp_line.specs.declared.messages.Reply.TheVariants as reply
 use Rattle.axp_lsu.specs.Asking.{ask_of}
 use Rattle.axp_lsu.specs.Fitting.{Fits2, FitsSize, IsWantedInSome, WantsFitting}
-use Rattle.axp_lsu.specs.Going.{value_by, value_of}
+use Rattle.axp_lsu.specs.Going.{value_of}
 use Rattle.axp_lsu.specs.Going as going
 use Rattle.axp_lsu.specs.Keeping.{Kept, none_kept, with_copies}
-use Rattle.axp_lsu.specs.Within.{IsKeptWithin}
+use Rattle.axp_lsu.specs.Within.{IsKeptWithin, IsWantedBy, IsWantedWithin}
 use Rattle.axp_lsu.specs.declared.asks.Ask2.{Ask2}
 use Rattle.axp_wbuf.specs.Pending.{Pending, merges}
 use Rattle.axp_base.specs.declared.lines.Bank.{Bank}
@@ -31,18 +31,15 @@ use Rattle.axp_cpu.specs.Actors.{Actor, about, advanced, asked_by, first_actor, 
 use Rattle.axp_cpu.specs.ActorStands.{IsAnswered, IsAt, IsMovable, IsSeatedWith}
 use Rattle.axp_cpu.specs.Plans.{Plan, End, Want, Unbuilt, along}
 use Rattle.axp_cpu.specs.Rows.{group}
-use Rattle.axp_cpu.specs.Seats.{Seat, first_seat, intent_of, is_finished, leads, plan_now, stepped, wanted, moved}
+use Rattle.axp_cpu.specs.Seats.{Seat, first_seat, is_finished, leads, plan_now, stepped, wanted, moved}
 use Rattle.axp_cpu.specs.Seats as seats
-use Rattle.axp_cpu.specs.Stands.{GoesOn, Going, Stands}
-use Rattle.axp_cpu.specs.Soundness.{IsSound}
+use Rattle.axp_cpu.specs.Stands.{GoesOn, Going, Stands, IsMakeable}
+use Rattle.axp_cpu.specs.Soundness.{IsSound, IsSoundAs}
 use Rattle.axp_cpu.proofs.AnswerLemmas.{leads_same}
 use Rattle.axp_cpu.proofs.SeatLemmas.{seat_sound}
 use Rattle.axp_access.specs.declared.Wanted.{Wanted}
-use Rattle.axp_lsu.specs.Within.{IsWantedBy, IsWantedWithin}
 use Rattle.axp_regs.specs.declared.asks.Kind.{Kind}
 use Rattle.axp_regs.specs.declared.asks.Kind.TheVariants as kind
-use Rattle.axp_cpu.specs.Soundness.{IsSoundAs}
-use Rattle.axp_cpu.specs.Stands.{IsMakeable}
 
 -- an access of the instruction table lies in memory, if it is one of memory
 wanted_by : (size : ℕ) (k : Kind) (w : Wanted) → IsSoundAs size k w → IsWantedBy size k w

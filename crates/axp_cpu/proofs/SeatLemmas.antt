@@ -14,7 +14,7 @@ use Rattle.axp_cpu.specs.Seats.{Seat, intent_of, is_finished, wanted, first_seat
 use Rattle.axp_cpu.specs.Soundness.{IsSound}
 use Rattle.axp_cpu.specs.Stands.{GoesOn, IsMakeable, Stands, plan_left}
 use Rattle.axp_cpu.specs.Tables.{core, uncounted}
-use Rattle.axp_model.specs.Legal.{is_empty}
+use Rattle.axp_base.specs.Lists.{is_empty}
 use Rattle.axp_regs.specs.States.{ps_of, locked_of}
 use Rattle.std.specs.Prelude.{nat_lt, is_none}
 use Rattle.axp_cpu.proofs.PlanLemmas.{group_sound, along_sound}

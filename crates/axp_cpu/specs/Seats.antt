@@ -2,7 +2,7 @@
 use Rattle.std.specs.Prelude.{ℕ, ◌+◌, ◌%◌, nat_lt, Bool, false, ◌||◌, nat_le, List, [], ◌∷◌, ◌++◌, Option, Some, None, is_some, if◌then◌else◌}
 use Rattle.axp_access.specs.declared.Intent.{Intent}
 use Rattle.axp_access.specs.declared.Wanted.{Wanted}
-use Rattle.axp_model.specs.Legal.{is_empty}
+use Rattle.axp_base.specs.Lists.{is_empty}
 use Rattle.axp_image.specs.Contents.{Contents}
 use Rattle.axp_regs.specs.States.{first_state, locked_of, ps_of, with_pc, with_ptbr, with_register}
 use Rattle.axp_regs.specs.declared.states.State.{State}

@@ -6,7 +6,7 @@ use Rattle.axp_regs.specs.States.{pc_of}
 use Rattle.axp_cpu.specs.declared.phases.Then.{Then}
 use Rattle.axp_cpu.specs.declared.sequencers.Sequencer.{Sequencer}
 use Rattle.axp_cpu.specs.declared.tables.Table.{Table}
-use Rattle.axp_model.specs.Legal.{is_empty}
+use Rattle.axp_base.specs.Lists.{is_empty}
 use Rattle.axp_cpu.specs.Phases.{Fits, after}
 use Rattle.axp_cpu.specs.Plans.{Plan, Want}
 use Rattle.axp_cpu.specs.Rows.{group}

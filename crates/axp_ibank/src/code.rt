@@ -3,11 +3,11 @@ ghost use Rattle.std.specs.Option.{option_copied};
 ghost use Rattle.axp_base.specs.Lines.{line_number};
 ghost use Rattle.axp_bank.specs.Copies.{Whole, copy_of, is_held, stamp_of, has_room, put, dropped};
 ghost use Rattle.axp_ibank.specs.Code.{bytes_of, code_lines, lines_beside};
-ghost use Rattle.axp_bank.specs.declared.copies.TheConstants.{BANK_COPIES};
+ghost use Rattle.axp_base.specs.declared.limits.TheConstants.{BANK_COPIES};
 
 use arrayvec::ArrayVec;
-use axp_bank::{BANK_COPIES, CopyBank};
-use axp_base::Line;
+use axp_bank::CopyBank;
+use axp_base::{BANK_COPIES, Line};
 use axp_line::{LineData, NoRoom};
 use std::marker::Model;
 

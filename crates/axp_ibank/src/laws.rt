@@ -4,7 +4,7 @@ ghost use Rattle.axp_base.specs.Lines.{line_number};
 ghost use Rattle.axp_base.specs.declared.lines.Line.{Line};
 ghost use Rattle.axp_bank.specs.Copies.{Whole, line_of, is_held, stamp_of, has_room, put, dropped};
 ghost use Rattle.axp_bank.specs.declared.copies.LineCopy.{LineCopy};
-ghost use Rattle.axp_bank.specs.declared.copies.TheConstants.{BANK_COPIES};
+ghost use Rattle.axp_base.specs.declared.limits.TheConstants.{BANK_COPIES};
 ghost use Rattle.axp_ibank.specs.Code.{bytes_of, code_lines, names_line};
 
 /// A line is held exactly where its data can be got, and exactly where its stamp can be; an empty bank

@@ -1,7 +1,7 @@
 -- Pairs are taken in the order in which they were added.
 use Rattle.std.proofs.Common.{◌≡◌, ℕ, ◌+◌, suc, List, [], ◌∷◌, ◌++◌, length, arith, refl, sym, ap, ◌∙◌, append_assoc}
 use Rattle.axp_base.specs.declared.lines.Line.{Line}
-use Rattle.axp_inval.specs.Queues.{others}
+use Rattle.axp_base.specs.LatePairs.{others}
 use Rattle.axp_inval.specs.Steps.{Step, Added, Taken, added, first_of, kept, taken, takes}
 
 first_and_others : (pairs : List (Line × ℕ)) → first_of pairs ++ others pairs ≡ pairs

@@ -1,30 +1,14 @@
 -- The pairs of a queue, one added and one taken.
-use Rattle.std.proofs.Common.{◌≡◌, ◌↔◌, ℕ, ◌<◌, ◌≤◌, zero, suc, true, eqb, ltb, List, [], ◌∷◌, ◌++◌, length, Some, slice_get, arith, refl, ⊎_elim}
+use Rattle.std.proofs.Common.{◌≡◌, ◌↔◌, ℕ, ◌<◌, zero, suc, true, eqb, ltb, List, [], ◌∷◌, Some, slice_get, refl, ⊎_elim}
 use Rattle.std.specs.List.{remove}
 use Rattle.std.proofs.lemmas.Bool.{and_parts, and_from, or_cases, or_left, or_right, eqb-true, eq-eqb, ltb-true, lt-ltb}
 use Rattle.axp_base.specs.Lines.{line_number}
 use Rattle.axp_base.specs.declared.lines.Line.{Line}
-use Rattle.axp_inval.specs.Queues.{AreAscending, AreBefore, AreBeyond, Later, has_later, is_later, others}
-
-beyond_push : (turn : ℕ) (pairs : List (Line × ℕ)) (p : Line × ℕ) → AreBeyond turn pairs → turn < p.1 → AreBeyond turn (pairs ++ p ∷ [])
-beyond_push turn [] p beyond less = (less, tt)
-beyond_push turn (q ∷ pairs) p beyond less = (beyond.0, beyond_push turn pairs p beyond.1 less)
-
-pub ascending_push : (pairs : List (Line × ℕ)) (p : Line × ℕ) → AreAscending pairs → AreBefore p.1 pairs → AreAscending (pairs ++ p ∷ [])
-ascending_push [] p ascending before = (tt, tt)
-ascending_push (q ∷ pairs) p ascending before = (beyond_push q.1 pairs p ascending.0 before.0, ascending_push pairs p ascending.1 before.1)
+use Rattle.axp_base.specs.LatePairs.{Later, has_later, is_later, others}
 
 pub removed_first : (pairs : List (Line × ℕ)) → remove pairs 0 ≡ others pairs
 removed_first [] = refl
 removed_first (p ∷ pairs) = refl
-
-pub ascending_others : (pairs : List (Line × ℕ)) → AreAscending pairs → AreAscending (others pairs)
-ascending_others [] ascending = tt
-ascending_others (p ∷ pairs) ascending = ascending.1
-
-pub length-others : (pairs : List (Line × ℕ)) → length (others pairs) ≤ length pairs
-length-others [] = omega arith
-length-others (p ∷ pairs) = omega arith
 
 one_later : (line stamp : ℕ) (p : Line × ℕ) → is_later line stamp p ≡ true → (line_number p.0 ≡ line) × (stamp < p.1)
 one_later line stamp p h =

@@ -1,9 +1,8 @@
 -- The invalidations that are to come late, oldest first. Each is a pair: the line, and the number
 -- of the turn that wrote it.
-use Rattle.std.specs.Prelude.{◌≡◌, ℕ, ◌<◌, ◌≤◌, Bool, ◌==◌, ◌&&◌, nat_lt, List, [], ◌∷◌, Option, Some, None, length, slice_get}
-use Rattle.std.specs.List.{list_any}
-use Rattle.axp_base.specs.Lines.{line_number}
+use Rattle.std.specs.Prelude.{ℕ, ◌≤◌, List, [], ◌∷◌, Option, Some, None, length}
 use Rattle.axp_base.specs.declared.lines.Line.{Line}
+use Rattle.axp_base.specs.LatePairs.{AreAscending}
 
 -- a queue is seen as its pairs, and how many there is room for
 pub record Queue : Type 0 where
@@ -12,21 +11,6 @@ pub record Queue : Type 0 where
 
 abbrev pub queue : List (Line × ℕ) → ℕ → Queue
 queue pairs room = record { pairs = pairs; room = room }
-
--- every turn is less than this one
-abbrev pub AreBefore : ℕ → List (Line × ℕ) → Type 0
-AreBefore turn [] = Unit {0}
-AreBefore turn (p ∷ pairs) = (p.1 < turn) × AreBefore turn pairs
-
--- every turn is greater than this one
-abbrev pub AreBeyond : ℕ → List (Line × ℕ) → Type 0
-AreBeyond turn [] = Unit {0}
-AreBeyond turn (p ∷ pairs) = (turn < p.1) × AreBeyond turn pairs
-
--- every turn is less than all that stand behind it
-abbrev pub AreAscending : List (Line × ℕ) → Type 0
-AreAscending [] = Unit {0}
-AreAscending (p ∷ pairs) = AreBeyond p.1 pairs × AreAscending pairs
 
 -- what is true of every queue
 pub record IsInOrder (q : Queue) : Type 0 where
@@ -37,24 +21,3 @@ pub record IsInOrder (q : Queue) : Type 0 where
 abbrev pub oldest : List (Line × ℕ) → Option (Line × ℕ)
 oldest [] = None
 oldest (p ∷ pairs) = Some p
-
--- the pairs but for the oldest
-abbrev pub others : List (Line × ℕ) → List (Line × ℕ)
-others [] = []
-others (p ∷ pairs) = pairs
-
--- a pair is of this line, and its turn is greater than the stamp
-abbrev pub is_later : ℕ → ℕ → Line × ℕ → Bool
-is_later line stamp p = (line_number p.0 == line) && nat_lt stamp p.1
-
--- some pair is
-abbrev pub has_later : ℕ → ℕ → List (Line × ℕ) → Bool
-has_later line stamp pairs = list_any (is_later line stamp) pairs
-
--- some pair of the line has a turn greater than the stamp
-pub record Later (line stamp : ℕ) (pairs : List (Line × ℕ)) : Type 0 where
-  pub place : ℕ
-  pub pair : Line × ℕ
-  pub kept : slice_get pairs place ≡ Some pair
-  pub same : line_number pair.0 ≡ line
-  pub greater : stamp < pair.1

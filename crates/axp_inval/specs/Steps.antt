@@ -1,7 +1,7 @@
 -- What is added to a queue that was empty, and taken from it.
 use Rattle.std.specs.Prelude.{◌≡◌, ℕ, zero, suc, List, [], ◌∷◌, ◌++◌}
 use Rattle.axp_base.specs.declared.lines.Line.{Line}
-use Rattle.axp_inval.specs.Queues.{others}
+use Rattle.axp_base.specs.LatePairs.{others}
 
 pub data Step : Type 0 where
   -- this pair is added

@@ -1,7 +1,7 @@
 //! Laws of queues, each proved as the contract of a function that does nothing.
 ghost use Rattle.std.specs.Prelude.{ℕ, ◌≡◌, ◌+◌, ◌↔◌, [], ◌∷◌, ◌++◌, IsTrue, List, length};
 ghost use Rattle.axp_base.specs.declared.lines.Line.{Line};
-ghost use Rattle.axp_inval.specs.Queues.{Later, has_later};
+ghost use Rattle.axp_base.specs.LatePairs.{Later, has_later};
 ghost use Rattle.axp_inval.specs.Steps.{InOrderOfAdding, takes};
 
 /// Something is late for a line after a stamp exactly where a pair of that line with a greater turn

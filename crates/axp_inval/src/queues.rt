@@ -1,6 +1,7 @@
 ghost use Rattle.std.specs.Prelude.{◌≡◌, ◌↔◌, ◌<◌, [], ◌∷◌, ◌++◌, IfOk, IsTrue, length};
 ghost use Rattle.axp_base.specs.Lines.{line_number};
-ghost use Rattle.axp_inval.specs.Queues.{AreBefore, IsInOrder, has_later, is_later, oldest, others, queue};
+ghost use Rattle.axp_base.specs.LatePairs.{AreBefore, has_later, is_later, others};
+ghost use Rattle.axp_inval.specs.Queues.{IsInOrder, oldest, queue};
 
 use axp_base::{Line, NoMemory};
 use std::alloc::Global;
@@ -35,7 +36,7 @@ impl LateQueue {
     }
 
     /// Puts a pair last. Its turn is greater than that of every pair that is kept.
-    #[tactic(auto, using(crate::proofs::PairLemmas::ascending_push))]
+    #[tactic(auto, using(axp_base::proofs::LatePairLemmas::ascending_push))]
     pub fn add(&mut self, line: Line, turn: u64)
         requires room { length self.old.pairs < self.old.room }
         requires newest { AreBefore turn self.old.pairs }

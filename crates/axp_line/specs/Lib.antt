@@ -1,2 +1,4 @@
 pub mod Lines
 pub mod HeldParts
+pub mod BusCalls
+pub mod BusReply

@@ -2,7 +2,7 @@
 use Rattle.std.proofs.Common.{◌≡◌, ◌≢◌, ◌↔◌, ℕ, ◌/◌, Bool, true, false, eqb, cond, List, [], ◌∷◌, ◌++◌, Option, Some, None, arith, refl, sym, ap, ◌∙◌}
 use Rattle.std.proofs.lemmas.Bool.{eqb-true, eqb-false, eq-eqb, ne_eqb}
 use Rattle.axp_base.specs.declared.lines.TheConstants.{LINE_BYTES}
-use Rattle.axp_lockreg.specs.Blocks.{block_of, line_of_block, after_write, is_allowed}
+use Rattle.axp_base.specs.Blocks.{block_of, line_of_block, after_write, is_allowed}
 use Rattle.axp_lockreg.specs.Steps.{Step, Locked, Disturbed, Released, after_steps, AreElsewhere, StillLocked}
 
 block_line : (address : ℕ) → line_of_block (block_of address) ≡ address / LINE_BYTES

@@ -1,7 +1,7 @@
 -- What is done to a register that was clear, and what it allows then.
 use Rattle.std.specs.Prelude.{◌≡◌, ◌≢◌, ℕ, ◌/◌, ◌↔◌, IsTrue, List, [], ◌∷◌, ◌++◌, Option, Some, None}
 use Rattle.axp_base.specs.declared.lines.TheConstants.{LINE_BYTES}
-use Rattle.axp_lockreg.specs.Blocks.{block_of, after_write, is_allowed}
+use Rattle.axp_base.specs.Blocks.{block_of, after_write, is_allowed}
 
 pub data Step : Type 0 where
   -- the block of an address is locked

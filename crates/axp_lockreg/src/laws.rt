@@ -1,7 +1,7 @@
 //! Laws of lock registers, each proved as the contract of a function that does nothing.
 ghost use Rattle.std.specs.Prelude.{ℕ, ◌≡◌, ◌/◌};
 ghost use Rattle.axp_base.specs.declared.lines.TheConstants.{LINE_BYTES};
-ghost use Rattle.axp_lockreg.specs.Blocks.{block_of, line_of_block};
+ghost use Rattle.axp_base.specs.Blocks.{block_of, line_of_block};
 ghost use Rattle.axp_lockreg.specs.Steps.{AllowedIsStillLocked};
 
 /// The block of an address is in the address's line, and so is each of the block's bytes.

@@ -5,8 +5,9 @@
 mod laws;
 mod registers;
 
+pub use axp_base::LOCK_BYTES;
 pub use laws::{allowed_is_still_locked, block_is_in_one_line};
-pub use registers::{LOCK_BYTES, LockReg};
+pub use registers::LockReg;
 
 #[cfg(test)]
 mod tests;

@@ -1,9 +1,6 @@
 ghost use Rattle.std.specs.Prelude.{◌≡◌, None, Some};
 
-use axp_base::{LINE_BYTES, Line};
-
-/// The bytes of a block, the unit in which memory is locked. A block lies in one line.
-pub const LOCK_BYTES: u64 = 16;
+use axp_base::{LINE_BYTES, LOCK_BYTES, Line};
 
 /// The number of blocks in a line.
 const BLOCKS_IN_A_LINE: u64 = LINE_BYTES / LOCK_BYTES;
@@ -16,7 +13,8 @@ pub struct LockReg {
 
 impl LockReg {
     ghost use Rattle.axp_base.specs.Lines.{line_number};
-    ghost use Rattle.axp_lockreg.specs.Blocks.{after_write, block_of, is_allowed, locked_block};
+    ghost use Rattle.axp_base.specs.Blocks.{after_write, block_of, is_allowed};
+    ghost use Rattle.axp_lockreg.specs.Blocks.{locked_block};
 
     /// The register with nothing locked.
     pub fn clear() -> LockReg

@@ -18,7 +18,7 @@ use Rattle.axp_access.specs.declared.Act.TheVariants as act
 use Rattle.axp_access.specs.declared.Intent.{Intent}
 use Rattle.axp_access.specs.declared.Wanted.{Wanted}
 use Rattle.axp_model.specs.Legal.{may_now}
-use Rattle.axp_model.specs.Records.{line_of}
+use Rattle.axp_base.specs.Lines.{line_of}
 use Rattle.axp_lsu.specs.declared.asks.Ask2.{Ask2}
 use Rattle.axp_lsu.specs.declared.asks.Ask2.TheVariants as ask
 use Rattle.axp_lsu.specs.Keeping.{Kept, data_copies}

@@ -2,7 +2,7 @@
 use Rattle.std.proofs.Common.{◌≡◌, ℕ, zero, suc, ◌≤◌, List, [], ◌∷◌, length, Some, None, refl, sym, ap, ◌∙◌, arith}
 use Rattle.std.specs.Prelude.{Option, slice_get}
 use Rattle.std.specs.Option.{unwrap_or}
-use Rattle.axp_base.specs.Lines.{line_number}
+use Rattle.axp_base.specs.Lines.{line_number, line_numbered}
 use Rattle.axp_base.specs.Masks.{mask_bits}
 use Rattle.axp_base.specs.declared.lines.Line.{Line}
 use Rattle.axp_base.specs.declared.masks.Mask.{Mask}
@@ -11,7 +11,6 @@ use Rattle.axp_line.specs.declared.contents.LineData.{LineData}
 use Rattle.axp_access.specs.declared.Outcome.TheVariants as outcome
 use Rattle.axp_line.specs.declared.messages.Reply.{Reply}
 use Rattle.axp_line.specs.declared.messages.Request.TheVariants as request
-use Rattle.axp_model.specs.Records.{line_numbered}
 use Rattle.axp_wbuf.specs.Drains.{told, without}
 use Rattle.axp_wbuf.specs.Pending.{Buffer, Pending}
 use Rattle.axp_lsu.specs.declared.asks.Ask2.TheVariants as ask

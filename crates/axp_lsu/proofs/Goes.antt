@@ -2,14 +2,14 @@
 use Rattle.std.proofs.Common.{◌≡◌, ℕ, zero, suc, ◌+◌, ◌/◌, ◌%◌, ◌^◌, ◌≤◌, ◌==◌, Bool, true, false, not, cond, nat_lt, List, [], ◌∷◌, length, Some, None, refl, ap, arith, IfSome}
 use Rattle.std.specs.Prelude.{Option, slice_get}
 use Rattle.std.specs.List.{AllByRecursion, remove}
-use Rattle.axp_base.specs.Lines.{line_number, data_bank}
+use Rattle.axp_base.specs.Lines.{line_number, data_bank, line_of, line_at, line_numbered}
 use Rattle.axp_base.specs.declared.lines.Bank.{Bank}
 use Rattle.axp_base.specs.declared.lines.Bank.TheVariants.{Even, Odd, Code}
 use Rattle.axp_base.specs.declared.lines.Line.{Line}
 use Rattle.axp_bank.specs.Copies.{copy_of, dropped, has_older, inserted, invalidated, is_held, is_of, put, refreshed, spared}
 use Rattle.axp_bank.specs.Copies as bank
 use Rattle.axp_bank.specs.declared.copies.LineCopy.{LineCopy}
-use Rattle.axp_bank.specs.declared.copies.TheConstants.{BANK_COPIES}
+use Rattle.axp_base.specs.declared.limits.TheConstants.{BANK_COPIES}
 use Rattle.axp_line.specs.declared.contents.LineData.{LineData}
 use Rattle.axp_line.specs.declared.messages.Reply.{Reply}
 use Rattle.axp_line.specs.declared.messages.Reply.TheVariants as reply
@@ -22,7 +22,6 @@ use Rattle.axp_access.specs.declared.Act.TheVariants as act
 use Rattle.axp_access.specs.declared.Intent.{Intent}
 use Rattle.axp_access.specs.declared.Wanted.{Wanted}
 use Rattle.axp_model.specs.Outcomes.{bank_for}
-use Rattle.axp_model.specs.Records.{line_of, line_at, line_numbered}
 use Rattle.axp_lsu.specs.declared.since.Since.{Since}
 use Rattle.axp_lsu.specs.Asking.{act_ask, ask_of, fill_ask, fill_for}
 use Rattle.axp_lsu.specs.Fitting.{Fits2, IsTurn}

@@ -3,12 +3,11 @@ use Rattle.std.proofs.Common.{◌≡◌, ℕ, ◌/◌, ◌*◌, ◌^◌, ◌<◌
 use Rattle.std.proofs.Math.Nat.{ℕ_set}
 use Rattle.std.proofs.lemmas.Bool.{true≢false, eqb-true, eqb-false}
 use mathlib.Core.Bool.{Bool-set}
-use Rattle.axp_base.specs.Lines.{line_number}
+use Rattle.axp_base.specs.Lines.{line_number, line_at, line_by, line_numbered}
 use Rattle.axp_base.specs.declared.lines.Line.{Line}
 use Rattle.axp_base.specs.declared.lines.TheConstants.{LINE_BYTES}
 use Rattle.axp_line.specs.Lines.{bytes_of_line, data_by, data_of}
 use Rattle.axp_line.specs.declared.contents.LineData.{LineData}
-use Rattle.axp_model.specs.Records.{line_at, line_by, line_numbered}
 use Rattle.axp_lsu.specs.Within.{IsLineWithin}
 
 line_made : (l : Line) (b : Bool) (h : nat_lt (line_number l * LINE_BYTES) (2 ^ 64) ≡ b) → l ≡ line_by (line_number l) b h

@@ -2,7 +2,7 @@
 use Rattle.std.specs.Prelude.{ℕ, ◌%◌, ◌^◌, ◌==◌, Bool, true, false, not, ◌&&◌, if◌then◌else◌, List, length, slice_get, Option, Some, None}
 use Rattle.std.specs.List.{list_any}
 use Rattle.axp_base.specs.Cpus.{cpu_of}
-use Rattle.axp_base.specs.Lines.{line_number}
+use Rattle.axp_base.specs.Lines.{line_number, line_of, line_at, line_numbered}
 use Rattle.axp_base.specs.declared.lines.Bank.{Bank}
 use Rattle.axp_base.specs.declared.lines.Bank.TheVariants.{Even, Odd, Code}
 use Rattle.axp_base.specs.declared.processors.Cpu.{Cpu}
@@ -13,14 +13,13 @@ use Rattle.axp_line.specs.declared.messages.Request.TheVariants as request
 use Rattle.axp_regs.specs.declared.asks.Kind.{Kind}
 use Rattle.axp_regs.specs.declared.asks.Kind.TheVariants as kind
 use Rattle.axp_wbuf.specs.Drains.{oldest_group}
-use Rattle.axp_wbuf.specs.Pending.{Buffer, Pending, is_before, is_of_line}
+use Rattle.axp_wbuf.specs.Pending.{Pending, is_before, is_of_line}
 use Rattle.axp_wbuf.specs.Pending as pending
 use Rattle.axp_access.specs.declared.Act.{Act}
 use Rattle.axp_access.specs.declared.Act.TheVariants as act
 use Rattle.axp_access.specs.declared.Intent.{Intent}
 use Rattle.axp_access.specs.declared.Wanted.{Wanted}
 use Rattle.axp_model.specs.Legal.{may_now}
-use Rattle.axp_model.specs.Records.{line_of, line_at, line_numbered}
 use Rattle.axp_lsu.specs.declared.asks.Ask2.{Ask2}
 use Rattle.axp_lsu.specs.declared.asks.Ask2.TheVariants as ask
 use Rattle.axp_lsu.specs.Keeping.{Kept, copies_of, data_copies, held_pairs, has_dropped}

@@ -1,6 +1,6 @@
 -- What an act gives and leaves, with the bus's answer where it asked.
 use Rattle.std.specs.Prelude.{ℕ, ◌/◌, ◌%◌, ◌^◌, max, Bool, true, false, ◌&&◌, if◌then◌else◌, List, [], length, slice_get, Option, Some, None}
-use Rattle.axp_base.specs.Lines.{line_number, data_bank}
+use Rattle.axp_base.specs.Lines.{line_number, data_bank, line_of, line_at, line_numbered}
 use Rattle.axp_base.specs.Parts.{part}
 use Rattle.axp_base.specs.declared.lines.Bank.{Bank}
 use Rattle.axp_base.specs.declared.lines.Line.{Line}
@@ -24,7 +24,6 @@ use Rattle.axp_access.specs.declared.Place.{Place}
 use Rattle.axp_access.specs.declared.Place.TheVariants.{At, Entry, Absent}
 use Rattle.axp_access.specs.declared.Wanted.{Wanted}
 use Rattle.axp_model.specs.Outcomes.{bank_for}
-use Rattle.axp_model.specs.Records.{line_of, line_at, line_numbered}
 use Rattle.axp_lsu.specs.Keeping.{Kept, nothing, copies_of, with_copies, data_copies, with_drop}
 
 -- the data and the stamp of a line's copy; a line that is not held has none

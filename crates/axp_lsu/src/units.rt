@@ -3,7 +3,7 @@ ghost use Rattle.axp_base.specs.Lines.{line_number, data_bank};
 ghost use Rattle.axp_base.specs.declared.lines.Bank.TheVariants.{Even, Odd};
 ghost use Rattle.axp_base.specs.declared.lines.TheConstants.{LINE_BYTES};
 ghost use Rattle.axp_bank.specs.Copies.{is_held};
-ghost use Rattle.axp_model.specs.Records.{line_at};
+ghost use Rattle.axp_base.specs.Lines.{line_at};
 ghost use Rattle.axp_lsu.specs.Keeping.{none_kept, copies_of, data_copies};
 
 mod asking;

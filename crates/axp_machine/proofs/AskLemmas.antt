@@ -27,17 +27,17 @@ use Rattle.axp_lsu.specs.Keeping.{Kept}
 use Rattle.axp_lsu.specs.Within.{IsAskWithin, IsRequestWithin}
 use Rattle.axp_lsu.specs.declared.asks.Ask2.{Ask2}
 use Rattle.axp_lsu.specs.declared.asks.Ask2.TheVariants as ask
-use Rattle.axp_model.specs.BusCalls.{Written}
-use Rattle.axp_model.specs.BusReply.{Front, first_late, late_in, reply_by, tried}
+use Rattle.axp_line.specs.BusCalls.{Written}
+use Rattle.axp_line.specs.BusReply.{Front, first_late, late_in, reply_by, tried}
 use Rattle.axp_model.specs.Legal.{may_now}
 use Rattle.axp_wbuf.specs.Drains.{oldest_group}
 use Rattle.axp_wbuf.specs.Pending.{Pending}
-use Rattle.axp_model.specs.Records.{line_at, line_of}
-use Rattle.axp_model.proofs.Fits.{InBank}
-use Rattle.axp_inval.specs.Queues.{AreBefore}
+use Rattle.axp_base.specs.Lines.{line_at, line_of}
+use Rattle.axp_laws.proofs.RunRecords.{InBank}
+use Rattle.axp_base.specs.LatePairs.{AreBefore}
 use Rattle.axp_regs.specs.declared.asks.Kind.{Kind}
 use Rattle.axp_regs.specs.declared.asks.Kind.TheVariants as kind
-use Rattle.axp_lockreg.specs.Blocks.{is_allowed}
+use Rattle.axp_base.specs.Blocks.{is_allowed}
 use Rattle.axp_machine.specs.Playing.{MayAskFor}
 
 -- no act asks for a signal yet: the instruction table wants none

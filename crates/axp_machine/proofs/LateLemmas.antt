@@ -4,27 +4,23 @@ use Rattle.std.proofs.lemmas.Bool.{cond_both}
 use Rattle.std.specs.List.{AllByRecursion}
 use Rattle.std.specs.Prelude.{Ok}
 use Rattle.axp_base.specs.Cpus.{cpu_number}
-use Rattle.axp_base.specs.Lines.{line_number}
+use Rattle.axp_base.specs.Lines.{line_number, same_bank, in_bank, line_at}
 use Rattle.axp_base.specs.declared.lines.Bank.{Bank}
 use Rattle.axp_base.specs.declared.lines.Bank.TheVariants.{Even, Odd, Code}
 use Rattle.axp_base.specs.declared.lines.Line.{Line}
 use Rattle.axp_base.specs.declared.lines.TheConstants.{LINE_BYTES}
-use Rattle.axp_inval.specs.Queues.{others}
+use Rattle.axp_base.specs.LatePairs.{others, late_by_other}
 use Rattle.axp_line.specs.declared.messages.Reply.{Reply}
 use Rattle.axp_line.specs.declared.messages.Reply.TheVariants as reply
 use Rattle.axp_line.specs.declared.messages.Request.{Request}
 use Rattle.axp_line.specs.declared.messages.Request.TheVariants as request
-use Rattle.axp_lockreg.specs.Blocks.{is_allowed}
+use Rattle.axp_base.specs.Blocks.{is_allowed}
 use Rattle.axp_lsu.specs.Within.{IsLineWithin, IsRequestWithin}
 use Rattle.axp_lsu.specs.declared.asks.Ask2.{Ask2}
 use Rattle.axp_lsu.specs.declared.asks.Ask2.TheVariants as ask
 use Rattle.axp_lsu.proofs.Lines.{line_within}
-use Rattle.axp_model.specs.BusCalls.{BusCall, Written, late, late_by_own, line_written, register, turns, would_write, wrote}
-use Rattle.axp_model.specs.BusReply.{Front, first_late, front, tried}
-use Rattle.axp_model.specs.BusReply.{reply_by}
-use Rattle.axp_model.specs.Late.{late_by_other}
-use Rattle.axp_model.specs.Legal.{same_bank}
-use Rattle.axp_model.specs.Records.{in_bank, line_at}
+use Rattle.axp_line.specs.BusCalls.{BusCall, Written, late, late_by_own, line_written, register, turns, would_write, wrote}
+use Rattle.axp_line.specs.BusReply.{Front, first_late, front, tried, reply_by}
 use Rattle.axp_world.specs.Worlds.{reply_for}
 use Rattle.axp_machine.specs.Ties.{AreAskedWithin}
 

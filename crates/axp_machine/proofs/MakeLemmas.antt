@@ -1,6 +1,5 @@
 -- A machine's parts after a granted event.
-use Rattle.std.proofs.Common.{◌≡◌, ◌≢◌, ℕ, zero, suc, ◌+◌, ◌*◌, ◌^◌, ◌<◌, ◌≤◌, true, false, eqb, List, [], ◌∷◌, ◌++◌, length, reverse, set, slice_get, Option, Some, None, arith, refl, sym, ap, ◌∙◌, subst, ⊎_elim}
-use Rattle.std.proofs.Common.{get_or-set_other}
+use Rattle.std.proofs.Common.{◌≡◌, ◌≢◌, ℕ, zero, suc, ◌+◌, ◌*◌, ◌^◌, ◌<◌, ◌≤◌, true, false, eqb, List, [], ◌∷◌, ◌++◌, length, reverse, set, slice_get, Option, Some, None, arith, refl, sym, ap, ◌∙◌, subst, ⊎_elim, get_or-set_other}
 use Rattle.std.proofs.Math.ListN.{length-set}
 use Rattle.std.proofs.lemmas.Grind.{get_or-set_at}
 use Rattle.std.proofs.lemmas.List.{length-reverse, reverse-append}
@@ -33,17 +32,17 @@ use Rattle.axp_lsu.specs.Fitting.{Fits2, ShowsFitting}
 use Rattle.axp_lsu.specs.Within.{IsAskWithin}
 use Rattle.axp_lsu.specs.declared.asks.Ask2.{Ask2}
 use Rattle.axp_lsu.specs.declared.asks.Ask2.TheVariants as ask
-use Rattle.axp_model.specs.BusCalls.{BusCall}
-use Rattle.axp_model.specs.BusReply.{front}
-use Rattle.axp_model.proofs.Fits.{InBank, late_in}
+use Rattle.axp_line.specs.BusCalls.{BusCall}
+use Rattle.axp_line.specs.BusReply.{front}
+use Rattle.axp_laws.proofs.RunRecords.{InBank, late_in}
 use Rattle.axp_wbuf.specs.Pending.{IsTidy}
 use Rattle.axp_world.specs.declared.lengths.TheConstants.{EVENTS_PER_STEP}
 use Rattle.axp_world.specs.Worlds as worlds
 use Rattle.axp_world.specs.Worlds.{IsPlayed, World, asked, calls_for, image_bytes, reply_at, reply_for, world}
-use Rattle.axp_world.proofs.Counted.{played_is_short, turns_are_few}
-use Rattle.axp_world.proofs.Joined.{joined}
-use Rattle.axp_world.proofs.Played.{actor_other, actor_own}
-use Rattle.axp_world.proofs.Runs.{actor_cpu}
+use Rattle.axp_world.proofs.CountEvents.{played_is_short, turns_are_few}
+use Rattle.axp_world.proofs.RunJoined.{joined}
+use Rattle.axp_world.proofs.PlayedRecords.{actor_other, actor_own}
+use Rattle.axp_world.proofs.RunPlayed.{actor_cpu}
 use Rattle.axp_machine.specs.declared.machine.Machine.TheInside.{Inside}
 use Rattle.axp_machine.specs.Playing.{MayAnswer, granted_in}
 use Rattle.axp_machine.specs.Runs.{Seen, actor_of, answer_of, with_record, world_of}

@@ -1,6 +1,5 @@
 -- A history leaves room: the calls' turns, the console's bytes and the records are few.
-use Rattle.std.proofs.Common.{◌≡◌, ℕ, ◌+◌, ◌≤◌, Bool, true, false, cond, eqb, List, [], ◌∷◌, ◌++◌, length, Option, Some, None, arith, refl, ap, ◌∙◌, ⊎_elim}
-use Rattle.std.proofs.Common.{length-append}
+use Rattle.std.proofs.Common.{◌≡◌, ℕ, ◌+◌, ◌≤◌, Bool, true, false, cond, eqb, List, [], ◌∷◌, ◌++◌, length, Option, Some, None, arith, refl, ap, ◌∙◌, ⊎_elim, length-append}
 use Rattle.std.specs.Prelude.{Result, Ok, Err}
 use Rattle.std.proofs.lemmas.Bool.{cases_Bool}
 use Rattle.axp_access.specs.declared.Act.{Act}
@@ -21,11 +20,11 @@ use Rattle.axp_line.specs.declared.messages.Request.TheVariants as request
 use Rattle.axp_lsu.specs.Going.{value_of}
 use Rattle.axp_lsu.specs.declared.asks.Ask2.{Ask2}
 use Rattle.axp_lsu.specs.declared.asks.Ask2.TheVariants as ask
-use Rattle.axp_model.specs.BusCalls.{BusCall, console, printed_by}
-use Rattle.axp_model.specs.Legal.{is_step}
+use Rattle.axp_line.specs.BusCalls.{BusCall, console, printed_by}
+use Rattle.axp_access.specs.Acts.{is_step}
 use Rattle.axp_world.specs.Lengths.{steps_in}
 use Rattle.axp_world.specs.Worlds.{World, after_event, asked, calls_for, image_bytes, reply_at, world}
-use Rattle.axp_world.proofs.Played.{actor_other, actor_own}
+use Rattle.axp_world.proofs.PlayedRecords.{actor_other, actor_own}
 
 -- a processor's memory has the image's size
 size-moved : (s : Seat) (vs : List ℕ) (p : Plan) → (moved s vs p).size ≡ s.size

@@ -8,23 +8,23 @@ use Rattle.axp_access.specs.declared.Record.{Record}
 use Rattle.axp_cpu.specs.declared.refusals.Refusal.{Refusal}
 use Rattle.axp_image.specs.Contents.{Contents, IsValid}
 use Rattle.axp_image.proofs.Places.{byte_small}
-use Rattle.axp_model.proofs.Caused.{no_loop}
-use Rattle.axp_model.proofs.Fits.{run_fits}
-use Rattle.axp_model.proofs.Guarded.{keeps_locking}
-use Rattle.axp_model.proofs.Located.{run_located, run_prefix}
-use Rattle.axp_model.proofs.Polled.{entered_exactly, pending_exactly}
-use Rattle.axp_model.proofs.RunSources.{run_bytes}
-use Rattle.axp_model.proofs.Steps.{keeps_order}
-use Rattle.axp_model.proofs.Storages.{run_storage}
-use Rattle.axp_model.specs.OrderLaws.{AreInLine}
+use Rattle.axp_laws.proofs.CauseMoments.{no_loop}
+use Rattle.axp_laws.proofs.RunRecords.{run_fits}
+use Rattle.axp_laws.proofs.LockGuards.{keeps_locking}
+use Rattle.axp_laws.proofs.OrderPlaces.{run_located, run_prefix}
+use Rattle.axp_laws.proofs.PollSignals.{entered_exactly, pending_exactly}
+use Rattle.axp_laws.proofs.SourceRuns.{run_bytes}
+use Rattle.axp_laws.proofs.RunSteps.{keeps_order}
+use Rattle.axp_laws.proofs.SourceValues.{run_storage}
+use Rattle.axp_model.specs.Processors.{AreInLine}
 use Rattle.axp_model.specs.Legal.{legal}
 use Rattle.axp_model.specs.Outcomes as model
 use Rattle.axp_model.specs.Outcomes.{Intents}
-use Rattle.axp_model.specs.PollLaws.{IsAwaited, KeepsPolls, poll_item, polled}
+use Rattle.axp_model.specs.Polls.{IsAwaited, KeepsPolls, poll_item, polled}
 use Rattle.axp_world.specs.Worlds.{IsPlayed, image_bytes, intents}
-use Rattle.axp_world.proofs.Joined.{Joined, agrees, joined, refused}
+use Rattle.axp_world.proofs.RunJoined.{Joined, agrees, joined, refused}
 use Rattle.axp_world.specs.RunLaws.{is_not_legal}
-use Rattle.axp_world.proofs.Wanting.{intents_in_line}
+use Rattle.axp_world.proofs.RunWants.{intents_in_line}
 use Rattle.axp_machine.specs.Constraints.{KeepsConstraints}
 use Rattle.axp_machine.specs.Runs.{Seen, IsRun, are_done, are_drained, is_complete, after_answer, after_event, answer_of, events_of, run, started, with_record}
 

@@ -14,7 +14,7 @@ use Rattle.axp_access.specs.Spelling.{IsData, IsLine, IsMoved, IsNamed, IsOutcom
 use Rattle.axp_bank.specs.Copies as copies
 use Rattle.axp_bank.specs.Copies.{get_of, is_held, is_of, shown, stamp_of}
 use Rattle.axp_bank.specs.declared.copies.LineCopy.{LineCopy}
-use Rattle.axp_base.specs.Lines.{data_bank, line_number}
+use Rattle.axp_base.specs.Lines.{data_bank, line_number, line_at, line_numbered, line_of}
 use Rattle.axp_base.specs.declared.lines.Bank.{Bank}
 use Rattle.axp_base.specs.declared.lines.Bank.TheVariants.{Even, Odd, Code}
 use Rattle.axp_base.specs.declared.lines.Line.{Line}
@@ -42,7 +42,6 @@ use Rattle.axp_lsu.specs.declared.asks.Ask2.TheVariants as ask
 use Rattle.axp_lsu.proofs.AskedWithin.{line_address_within, oldest_within}
 use Rattle.axp_lsu.proofs.Fits.{act_fits, drain_fits, fits_if, fits_turn, none_fits}
 use Rattle.axp_lsu.proofs.Lines.{line_within}
-use Rattle.axp_model.specs.Records.{line_at, line_numbered, line_of}
 use Rattle.axp_regs.specs.declared.asks.Kind.{Kind}
 use Rattle.axp_regs.specs.declared.asks.Kind.TheVariants as kind
 use Rattle.axp_wbuf.specs.Drains.{oldest_group}

@@ -10,14 +10,14 @@ use Rattle.axp_bus.specs.Buses.{State}
 use Rattle.axp_bus.specs.BusStands.{Stands}
 use Rattle.axp_bus.proofs.StandLemmas.{none_of_code}
 use Rattle.axp_line.specs.declared.messages.Request.TheVariants as request
-use Rattle.axp_lockreg.specs.Blocks.{is_allowed}
+use Rattle.axp_base.specs.Blocks.{is_allowed}
 use Rattle.axp_lsu.specs.declared.asks.Ask2.{Ask2}
 use Rattle.axp_lsu.specs.declared.asks.Ask2.TheVariants as ask
-use Rattle.axp_model.specs.BusCalls as calls
-use Rattle.axp_model.specs.BusCalls.{BusCall, Written}
-use Rattle.axp_model.specs.BusReply.{Front, first_late, reply_by, tried}
-use Rattle.axp_model.specs.Legal.{is_empty}
-use Rattle.axp_model.specs.Records.{line_at}
+use Rattle.axp_line.specs.BusCalls as calls
+use Rattle.axp_line.specs.BusCalls.{BusCall, Written}
+use Rattle.axp_line.specs.BusReply.{Front, first_late, reply_by, tried}
+use Rattle.axp_base.specs.Lists.{is_empty}
+use Rattle.axp_base.specs.Lines.{line_at}
 use Rattle.axp_world.specs.Worlds.{reply_for}
 use Rattle.axp_machine.specs.Playing.{IsVain, bank_taken, is_nothing}
 

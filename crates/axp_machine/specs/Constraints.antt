@@ -2,12 +2,14 @@
 -- places.
 use Rattle.std.specs.Prelude.{List}
 use Rattle.axp_model.specs.Causality.{IsChain}
-use Rattle.axp_model.specs.LockLaws.{KeepsLocking}
-use Rattle.axp_model.specs.OrderLaws.{AllPairs, IsLocated, KeepsOrder}
+use Rattle.axp_model.specs.Locking.{KeepsLocking}
+use Rattle.axp_model.specs.Issue.{AllPairs, KeepsOrder}
+use Rattle.axp_model.specs.Location.{IsLocated}
 use Rattle.axp_model.specs.Outcomes as model
-use Rattle.axp_model.specs.Places.{Item, accesses, times}
-use Rattle.axp_model.specs.PollLaws.{KeepsPolls}
-use Rattle.axp_model.specs.StorageLaws.{KeepsEachByte, KeepsStorage}
+use Rattle.axp_model.specs.Accesses.{accesses, times}
+use Rattle.axp_access.specs.Numbering.{Item}
+use Rattle.axp_model.specs.Polls.{KeepsPolls}
+use Rattle.axp_model.specs.Storage.{KeepsEachByte, KeepsStorage}
 use Rattle.axp_world.specs.Worlds.{image_bytes, intents}
 use Rattle.axp_machine.specs.Runs.{Seen}
 

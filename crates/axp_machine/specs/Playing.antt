@@ -14,7 +14,7 @@ use Rattle.axp_line.specs.declared.messages.Reply.TheVariants as reply
 use Rattle.axp_line.specs.declared.messages.Request.TheVariants as request
 use Rattle.axp_lsu.specs.declared.asks.Ask2.{Ask2}
 use Rattle.axp_lsu.specs.declared.asks.Ask2.TheVariants as ask
-use Rattle.axp_model.specs.BusCalls.{BusCall}
+use Rattle.axp_line.specs.BusCalls.{BusCall}
 use Rattle.axp_world.specs.Worlds.{World, asked, reply_at, reply_for}
 use Rattle.axp_machine.specs.Runs.{Seen, world_of}
 

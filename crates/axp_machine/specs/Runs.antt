@@ -10,10 +10,10 @@ use Rattle.axp_cpu.specs.declared.tables.Table.{Table}
 use Rattle.axp_cpu.specs.Actors.{Actor}
 use Rattle.axp_cpu.specs.Seats.{Seat, is_finished}
 use Rattle.axp_image.specs.Contents.{Contents}
-use Rattle.axp_model.specs.BusCalls.{is_touched, memory}
+use Rattle.axp_line.specs.BusCalls.{is_touched, memory}
 use Rattle.axp_world.specs.Worlds as worlds
 use Rattle.axp_model.specs.Entries.{buffer}
-use Rattle.axp_model.specs.Legal.{is_empty}
+use Rattle.axp_base.specs.Lists.{is_empty}
 use Rattle.axp_world.specs.Worlds.{World, IsPlayed, image_bytes, intents, world}
 
 -- the image, how many processors, the budget of steps of each, and the records: the history, newest first

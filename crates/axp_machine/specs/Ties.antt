@@ -11,7 +11,7 @@ use Rattle.axp_image.specs.Contents.{IsValid}
 use Rattle.axp_lsu.specs.Within.{IsRequestWithin}
 use Rattle.axp_machine.specs.declared.machine.Machine.TheInside.{Inside}
 use Rattle.axp_machine.specs.Runs.{Seen}
-use Rattle.axp_model.specs.BusCalls.{BusCall}
+use Rattle.axp_line.specs.BusCalls.{BusCall}
 use Rattle.axp_world.specs.declared.lengths.TheConstants.{EVENTS_PER_STEP}
 use Rattle.axp_world.specs.Worlds.{World, IsPlayed, image_bytes, world}
 

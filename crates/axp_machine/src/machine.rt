@@ -2,7 +2,7 @@ ghost use Rattle.std.specs.Prelude.{◌≡◌, ◌+◌, ◌≤◌, ◌<◌, ◌^
 ghost use Rattle.axp_base.specs.Cpus.{cpu_number};
 ghost use Rattle.axp_base.specs.declared.processors.TheConstants.{MAX_BUDGET, MAX_CPUS};
 ghost use Rattle.axp_bus.specs.BusStands.{Stands};
-ghost use Rattle.axp_model.specs.BusCalls.{BusCall};
+ghost use Rattle.axp_line.specs.BusCalls.{BusCall};
 ghost use Rattle.axp_world.specs.Worlds.{calls_for, reply_for};
 ghost use Rattle.axp_machine.specs.Playing.{IsVain, MayAnswer, bank_taken};
 ghost use Rattle.axp_machine.specs.Starts.{StartsAll};

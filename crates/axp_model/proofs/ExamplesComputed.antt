@@ -1,7 +1,7 @@
 -- The examples, each by computation.
 use Rattle.std.proofs.Common.{refl}
 use Rattle.axp_base.specs.Parts.{number_at}
-use Rattle.axp_model.specs.Before.{key_before}
+use Rattle.axp_access.specs.Order.{key_before}
 use Rattle.axp_model.specs.Legal.{legal}
 use Rattle.axp_model.specs.Outcomes.{outcome_of}
 use Rattle.axp_model.specs.Examples.{StoreBuffering, MixedSources, Merging, WriteBarrierBetween, YoungerGroupWaits, FullBuffer, RoomAfterDrain, DependentLoad, TakenInTime, ReadWantsCopy, BarrierBetween, LockRange, AnotherBlock, OwnStoreWaits, OwnStoreDrained, CodeAfterMb, CodeAfterImb}

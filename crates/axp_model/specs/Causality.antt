@@ -1,10 +1,11 @@
 -- What a value came from, and that no value came from itself.
 use Rattle.std.specs.Prelude.{◌≡◌, ◌⊎◌, ℕ, true, Contains, List, [], ◌∷◌, Some}
 use Rattle.axp_access.specs.declared.Record.{Record}
-use Rattle.axp_model.specs.Records.{is_memory_write, has_byte}
-use Rattle.axp_model.specs.Places.{Item, accesses, times}
-use Rattle.axp_model.specs.Before.{precedes, source}
-use Rattle.axp_model.specs.Sources.{takes_bytes}
+use Rattle.axp_access.specs.Kinds.{is_memory_write, has_byte}
+use Rattle.axp_model.specs.Accesses.{accesses, times}
+use Rattle.axp_access.specs.Numbering.{Item}
+use Rattle.axp_model.specs.Sources.{source, takes_bytes}
+use Rattle.axp_access.specs.Order.{precedes}
 
 -- the moment at which the value of an access came: its own record
 abbrev pub value_moment : Item → ℕ

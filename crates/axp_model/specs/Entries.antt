@@ -5,7 +5,9 @@ use Rattle.axp_base.specs.declared.lines.Line.{Line}
 use Rattle.axp_access.specs.declared.Outcome.{Outcome}
 use Rattle.axp_access.specs.declared.Outcome.TheVariants as outcome
 use Rattle.axp_access.specs.declared.Record.{Record}
-use Rattle.axp_model.specs.Records.{by, made, line_of, line_at, is_line, is_plain_write, is_write_barrier}
+use Rattle.axp_model.specs.Records.{by, made}
+use Rattle.axp_access.specs.Kinds.{is_plain_write, is_write_barrier}
+use Rattle.axp_base.specs.Lines.{line_of, line_at, is_line}
 
 -- an entry: its number, 1 for the processor's first, its line, and its age: how many WMBs the processor
 -- had made before it

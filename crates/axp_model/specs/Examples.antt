@@ -2,7 +2,6 @@
 -- oldest record first. A line reads as it is printed: `cpu1 reads 0x4040 value 1 at 2` is
 -- "1 step : r 00004040 8 0000000000000001 @2". A datum of which no size is said is a quadword.
 use Rattle.std.specs.Prelude.{◌≡◌, ℕ, zero, suc, ◌+◌, ◌-◌, ◌==◌, nat_lt, nat_le, Bool, true, false, not, ◌&&◌, ◌||◌, if◌then◌else◌, List, [], ◌∷◌, ◌++◌, map, reverse, length, slice_get}
-use Rattle.axp_base.specs.Cpus.{cpu_number}
 use Rattle.axp_base.specs.Parts.{byte}
 use Rattle.axp_base.specs.declared.lines.Bank.{Bank}
 use Rattle.axp_base.specs.declared.lines.Bank.TheVariants.{Even, Odd, Code}
@@ -18,9 +17,14 @@ use Rattle.axp_access.specs.declared.Place.{Place}
 use Rattle.axp_access.specs.declared.Place.TheVariants.{At, Entry, Absent}
 use Rattle.axp_access.specs.declared.Record.{Record}
 use Rattle.axp_access.specs.declared.Wanted.{Wanted}
-use Rattle.axp_model.specs.Records.{by, made, line_at, is_locked, is_conditional}
-use Rattle.axp_model.specs.Legal.{legal, is_step}
-use Rattle.axp_model.specs.Outcomes.{Intents, outcome_of}
+use Rattle.axp_model.specs.Records.{by, made}
+use Rattle.axp_access.specs.Kinds.{is_locked, is_conditional}
+use Rattle.axp_base.specs.Lines.{line_at}
+use Rattle.axp_model.specs.Legal.{legal}
+use Rattle.axp_access.specs.Acts.{is_step}
+use Rattle.axp_model.specs.Outcomes.{outcome_of}
+use Rattle.axp_access.specs.declared.Intent.{Intent}
+use Rattle.axp_model.specs.Processors.{Processors}
 
 -- the two processors
 abbrev pub cpu0 : Cpu
@@ -173,9 +177,9 @@ abbrev pub lock_flag : ℕ → List Record → Bool
 lock_flag p [] = false
 lock_flag p (r ∷ h) = if by p r then flag_after r.outcome (lock_flag p h) else lock_flag p h
 
--- what the processors are about to do: the next access of their lists
-abbrev pub intents : Programs → Intents
-intents programs p h = record {
+-- what a processor is about to do: the next access of its list
+abbrev pub intent : Programs → ℕ → List Record → Intent
+intent programs p h = record {
   finished = length (programs p) == steps p h;
   boundary = false;
   low = false;
@@ -183,12 +187,16 @@ intents programs p h = record {
   wanted = slice_get (programs p) (steps p h);
 }
 
+-- the two processors with these programs
+abbrev pub processors : Programs → Processors
+processors programs = record { count = 2; intent = intent programs }
+
 -- whether an event is legal after a history of these programs, and its record
 abbrev pub may_follow : Programs → List Record → Event → Bool
-may_follow programs h e = legal (intents programs (cpu_number e.cpu) h) h e
+may_follow programs h e = legal (processors programs) h e
 
 abbrev pub record_of : (ℕ → ℕ) → Programs → List Record → Event → Record
-record_of image programs h e = record { event = e; outcome = outcome_of image (intents programs (cpu_number e.cpu) h) h e }
+record_of image programs h e = record { event = e; outcome = outcome_of image (processors programs) h e }
 
 -- the history after events that follow one, as far as they are legal
 abbrev pub run_from : (ℕ → ℕ) → Programs → List Record → List Event → List Record

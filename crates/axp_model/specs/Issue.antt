@@ -1,11 +1,14 @@
 -- The issue constraint and the write barrier: what must be BEFORE what, of one processor's accesses.
-use Rattle.std.specs.Prelude.{ℕ, ◌+◌, nat_lt, Bool, true, false, ◌&&◌, ◌||◌}
+use Rattle.std.specs.Prelude.{ℕ, ◌+◌, nat_lt, Bool, true, false, ◌&&◌, ◌||◌, ◌≡◌, List, [], ◌∷◌}
 use Rattle.axp_access.specs.declared.Access.{Access}
 use Rattle.axp_access.specs.declared.Place.{Place}
 use Rattle.axp_access.specs.declared.Place.TheVariants.{At, Entry, Absent}
-use Rattle.axp_model.specs.Records.{is_read, is_write, is_memory_write, is_fetch, is_barrier, is_code_barrier, is_poll}
-use Rattle.axp_model.specs.Places.{Item}
-use Rattle.axp_model.specs.Before.{precedes}
+use Rattle.axp_access.specs.Kinds.{is_read, is_write, is_memory_write, is_fetch, is_barrier, is_code_barrier, is_poll}
+use Rattle.axp_access.specs.Numbering.{Item}
+use Rattle.axp_access.specs.Order.{precedes, Times, before}
+use Rattle.std.specs.List.{AllByRecursion}
+use Rattle.axp_access.specs.declared.Record.{Record}
+use Rattle.axp_model.specs.Accesses.{accesses, times}
 
 -- two accesses overlap where each is a read, a memory write or a fetch and they have a byte in common
 abbrev pub in_memory : Access → Bool
@@ -42,3 +45,17 @@ issue_demands u v = precedes u v && demanded u.access v.access
 -- both are writes, and a WMB of their processor stands between them in issue order
 abbrev pub barrier_demands : Item → Item → Bool
 barrier_demands u v = precedes u v && ((is_write u.access && is_write v.access) && nat_lt u.parts v.parts)
+
+-- a relation holds of each two of a list, the one that stands further back first
+abbrev pub AllPairs : {X : Type 0} → (X → X → Type 0) → List X → Type 0
+AllPairs P [] = Unit {0}
+AllPairs P (v ∷ us) = AllByRecursion (λ u. P u v) us × AllPairs P us
+
+-- u is BEFORE v wherever the issue constraint or a write barrier demands it
+pub record IsInOrder (t : Times) (u v : Item) : Type 0 where
+  pub issue : issue_demands u v ≡ true → before t u v ≡ true
+  pub barrier : barrier_demands u v ≡ true → before t u v ≡ true
+
+-- of each two accesses of a history
+abbrev pub KeepsOrder : List Record → Type 0
+KeepsOrder h = AllPairs (IsInOrder (times h)) (accesses h)

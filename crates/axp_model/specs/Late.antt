@@ -1,15 +1,16 @@
 -- Invalidations that come late, and the lines of which a processor holds copies.
-use Rattle.std.specs.Prelude.{ℕ, ◌+◌, ◌==◌, nat_lt, Bool, true, false, not, ◌&&◌, ◌||◌, if◌then◌else◌, List, [], ◌∷◌, ◌++◌, Option, Some, None}
+use Rattle.std.specs.Prelude.{ℕ, ◌+◌, ◌==◌, nat_lt, Bool, true, false, not, ◌&&◌, ◌||◌, if◌then◌else◌, List, [], ◌∷◌, Option, Some, None}
 use Rattle.std.specs.List.{filter}
-use Rattle.axp_base.specs.Lines.{line_number, data_bank}
+use Rattle.axp_base.specs.Lines.{line_number, data_bank, in_bank, is_line, line_of}
 use Rattle.axp_base.specs.declared.lines.Bank.{Bank}
 use Rattle.axp_base.specs.declared.lines.Bank.TheVariants.{Code}
 use Rattle.axp_base.specs.declared.lines.Line.{Line}
-use Rattle.axp_inval.specs.Queues.{others, has_later}
+use Rattle.axp_base.specs.LatePairs.{others, has_later, late_by_other}
 use Rattle.axp_access.specs.declared.Outcome.{Outcome}
 use Rattle.axp_access.specs.declared.Outcome.TheVariants as outcome
 use Rattle.axp_access.specs.declared.Record.{Record}
-use Rattle.axp_model.specs.Records.{by, in_bank, is_line, line_of, is_locked, turned, fills, fills_code, locks, fences, code_fences, drops, drops_code}
+use Rattle.axp_model.specs.Records.{by, turned, fills, fills_code, locks, fences, code_fences, drops, drops_code}
+use Rattle.axp_access.specs.Kinds.{is_locked}
 use Rattle.axp_model.specs.Turns.{turns, stamp}
 
 -- a Take from this bank
@@ -20,11 +21,6 @@ takes b _ = false
 -- an own MB or IMB delivers all, a Take the first
 abbrev pub late_by_own : Bank → Outcome → List (Line × ℕ) → List (Line × ℕ)
 late_by_own b o pairs = if fences o then [] else if takes b o then others pairs else pairs
-
--- another's turn on a line of the bank is late
-abbrev pub late_by_other : Bank → Option Line → ℕ → List (Line × ℕ) → List (Line × ℕ)
-late_by_other b None turn pairs = pairs
-late_by_other b (Some line) turn pairs = if in_bank b (line_number line) then pairs ++ (line, turn) ∷ [] else pairs
 
 -- the turns of other processors on lines of data bank b that were not delivered to processor p yet, each
 -- with its line, in turn order

@@ -1,58 +1,29 @@
 -- Which events are legal. What the instruction table says of a processor is given as its intent.
-use Rattle.std.specs.Prelude.{ℕ, nat_lt, Bool, true, false, not, ◌&&◌, ◌||◌, if◌then◌else◌, List, [], ◌∷◌, length, Option, Some, None, is_some}
+use Rattle.std.specs.Prelude.{ℕ, zero, suc, nat_lt, Bool, true, false, not, ◌&&◌, ◌||◌, if◌then◌else◌, List, [], ◌∷◌, length, Option, Some, None, is_some}
 use Rattle.axp_base.specs.Cpus.{cpu_number}
-use Rattle.axp_base.specs.Lines.{line_number, data_bank}
+use Rattle.axp_base.specs.Lines.{line_number, data_bank, line_of, in_bank}
 use Rattle.axp_base.specs.declared.lines.Bank.{Bank}
-use Rattle.axp_base.specs.declared.lines.Bank.TheVariants.{Even, Odd, Code}
-use Rattle.axp_bank.specs.declared.copies.TheConstants.{BANK_COPIES}
-use Rattle.axp_wbuf.specs.declared.limits.TheConstants.{WBUF_ENTRIES}
+use Rattle.axp_base.specs.declared.lines.Bank.TheVariants.{Code}
+use Rattle.axp_base.specs.declared.limits.TheConstants.{BANK_COPIES, WBUF_ENTRIES}
 use Rattle.axp_regs.specs.declared.asks.Kind.{Kind}
 use Rattle.axp_regs.specs.declared.asks.Kind.TheVariants as kind
 use Rattle.axp_access.specs.declared.Act.{Act}
 use Rattle.axp_access.specs.declared.Act.TheVariants as act
 use Rattle.axp_access.specs.declared.Event.{Event}
 use Rattle.axp_access.specs.declared.Intent.{Intent}
+use Rattle.axp_model.specs.Processors.{Processors}
 use Rattle.axp_access.specs.declared.Record.{Record}
 use Rattle.axp_access.specs.declared.Wanted.{Wanted}
-use Rattle.axp_model.specs.Records.{by, line_of, in_bank}
+use Rattle.axp_model.specs.Records.{by}
 use Rattle.axp_model.specs.Entries.{Buffer, buffer, joins, oldest, has_closed, has_line}
 use Rattle.axp_model.specs.Late.{late, held, code_held, copies, code_copies}
-
--- kinds of act
-abbrev pub is_step : Act → Bool
-is_step act.Step = true
-is_step _ = false
-
-abbrev pub is_fill : Act → Bool
-is_fill act.Fill = true
-is_fill _ = false
-
-abbrev pub is_poll_act : Act → Bool
-is_poll_act act.Poll = true
-is_poll_act _ = false
-
-abbrev pub is_tick : Act → Bool
-is_tick act.Tick = true
-is_tick _ = false
-
-abbrev pub same_bank : Bank → Bank → Bool
-same_bank Even Even = true
-same_bank Odd Odd = true
-same_bank Code Code = true
-same_bank _ _ = false
-
-abbrev pub is_drop_of : Bank → Act → Bool
-is_drop_of b (act.Drop bank line) = same_bank b bank
-is_drop_of b _ = false
+use Rattle.axp_access.specs.Acts.{is_step, is_fill, is_poll_act, is_tick, is_drop_of}
+use Rattle.axp_base.specs.Lists.{is_empty}
 
 -- since processor p's last Step, or the start, it made an act that passes a test
 abbrev pub since_step : (Act → Bool) → ℕ → List Record → Bool
 since_step test p [] = false
 since_step test p (r ∷ h) = if by p r then (if is_step r.event.act then false else test r.event.act || since_step test p h) else since_step test p h
-
-abbrev pub is_empty : {X : Type 0} → List X → Bool
-is_empty [] = true
-is_empty (x ∷ xs) = false
 
 -- a data bank, the code bank, can take a copy of a line that it doesn't hold
 abbrev pub has_room : ℕ → ℕ → List Record → Bool
@@ -118,6 +89,19 @@ may_now _ finished filled = not finished && not filled
 abbrev pub may_act : Act → Intent → ℕ → List Record → Bool
 may_act a i p h = may a i p h && may_now a i.finished (since_step is_fill p h)
 
--- an event is legal after a history
-unfoldable pub legal : Intent → List Record → Event → Bool
-legal i h e = may_act e.act i (cpu_number e.cpu) h
+-- an event of one of the processors is legal after a history
+unfoldable pub legal : Processors → List Record → Event → Bool
+legal ps h e = nat_lt (cpu_number e.cpu) ps.count && may_act e.act (ps.intent (cpu_number e.cpu) h) (cpu_number e.cpu) h
+
+-- processor p is finished, and no entry of its write buffer waits
+abbrev pub is_done : Processors → List Record → ℕ → Bool
+is_done ps h p = (ps.intent p h).finished && is_empty (buffer p h).waiting
+
+-- so is every processor below n
+abbrev pub are_done : Processors → List Record → ℕ → Bool
+are_done ps h zero = true
+are_done ps h (suc n) = are_done ps h n && is_done ps h n
+
+-- a history is complete: every processor is done
+abbrev pub is_complete : Processors → List Record → Bool
+is_complete ps h = are_done ps h ps.count

@@ -1,22 +1,16 @@
 -- Lock registers and interprocessor interrupts.
 use Rattle.std.specs.Prelude.{ℕ, Bool, true, false, ◌&&◌, if◌then◌else◌, List, [], ◌∷◌, Option, Some, None}
-use Rattle.axp_base.specs.Lines.{line_number}
-use Rattle.axp_base.specs.declared.lines.Line.{Line}
-use Rattle.axp_lockreg.specs.Blocks.{block_of, after_write, is_allowed}
+use Rattle.axp_base.specs.Blocks.{block_of, is_allowed, lock_by_other}
 use Rattle.axp_access.specs.declared.Outcome.{Outcome}
 use Rattle.axp_access.specs.declared.Outcome.TheVariants as outcome
 use Rattle.axp_access.specs.declared.Record.{Record}
-use Rattle.axp_model.specs.Records.{by, turned, is_locked, is_conditional, signals, enters}
+use Rattle.axp_model.specs.Records.{by, turned, signals, enters}
+use Rattle.axp_access.specs.Kinds.{is_locked, is_conditional}
 
 -- an LDx_L locks its block, an STx_C of the processor unlocks
 abbrev pub lock_by_own : Outcome → Option ℕ → Option ℕ
 lock_by_own (outcome.Access a) block = if is_locked a.kind then Some (block_of a.address) else if is_conditional a.kind then None else block
 lock_by_own _ block = block
-
--- a turn of another processor on the block's line unlocks
-abbrev pub lock_by_other : Option Line → Option ℕ → Option ℕ
-lock_by_other None block = block
-lock_by_other (Some line) block = after_write (line_number line) block
 
 -- the block of memory that processor p has locked
 abbrev pub lock : ℕ → List Record → Option ℕ

@@ -2,10 +2,11 @@
 use Rattle.std.specs.Prelude.{ℕ, ◌==◌, nat_le, Bool, not, ◌&&◌, List, Option}
 use Rattle.std.specs.List.{find}
 use Rattle.axp_access.specs.declared.Record.{Record}
-use Rattle.axp_model.specs.Records.{is_memory_write, has_byte}
-use Rattle.axp_model.specs.Places.{Item, cpu_of, accesses, Times, times, Spot, spot}
-use Rattle.axp_model.specs.Before.{latest}
-use Rattle.axp_model.specs.Sources.{byte_of_source}
+use Rattle.axp_access.specs.Kinds.{is_memory_write, has_byte}
+use Rattle.axp_model.specs.Accesses.{accesses, times}
+use Rattle.axp_access.specs.Numbering.{Item, cpu_of}
+use Rattle.axp_access.specs.Order.{Times, Spot, spot}
+use Rattle.axp_model.specs.Sources.{latest, byte_of_source}
 
 -- at a number that is not above n
 abbrev pub is_by : ℕ → Spot → Bool

@@ -1,7 +1,7 @@
 -- What a legal event gives: its outcome is fixed by the history.
 use Rattle.std.specs.Prelude.{◌≡◌, ℕ, ◌+◌, nat_lt, Bool, true, false, ◌&&◌, if◌then◌else◌, List, [], ◌∷◌, slice_get, Option, Some, None}
 use Rattle.axp_base.specs.Cpus.{cpu_number}
-use Rattle.axp_base.specs.Lines.{line_number, data_bank}
+use Rattle.axp_base.specs.Lines.{line_number, data_bank, line_of, line_at}
 use Rattle.axp_base.specs.declared.lines.Bank.{Bank}
 use Rattle.axp_base.specs.declared.lines.Bank.TheVariants.{Code}
 use Rattle.axp_base.specs.declared.lines.Line.{Line}
@@ -17,15 +17,16 @@ use Rattle.axp_access.specs.declared.Place.{Place}
 use Rattle.axp_access.specs.declared.Place.TheVariants.{At, Entry, Absent}
 use Rattle.axp_access.specs.declared.Record.{Record}
 use Rattle.axp_access.specs.declared.Wanted.{Wanted}
-use Rattle.axp_model.specs.Records.{line_of, line_at}
 use Rattle.axp_model.specs.Turns.{turns, stamp, code_stamp, read_place}
 use Rattle.axp_model.specs.Entries.{Waiting, buffer, oldest, entry_for}
-use Rattle.axp_model.specs.Places.{accesses, next_item}
+use Rattle.axp_model.specs.Accesses.{accesses}
+use Rattle.axp_access.specs.Numbering.{next_item}
 use Rattle.axp_model.specs.Sources.{source_value}
 use Rattle.axp_model.specs.Locks.{undisturbed, signalled}
 use Rattle.axp_model.specs.Late.{late, held}
 use Rattle.axp_access.specs.declared.Intent.{Intent}
 use Rattle.axp_model.specs.Legal.{legal}
+use Rattle.axp_model.specs.Processors.{Processors}
 
 -- the wanted access, with this value, success and place
 abbrev pub made_with : Cpu → Wanted → ℕ → Bool → Place → Outcome
@@ -94,18 +95,11 @@ outcome_by act.Poll image i cpu h = outcome.Polled (signalled (cpu_number cpu) h
 outcome_by act.Tick image i cpu h = outcome.Done
 
 -- the outcome of an event after a history, where the image has these bytes
-unfoldable pub outcome_of : (ℕ → ℕ) → Intent → List Record → Event → Outcome
-outcome_of image i h e = outcome_by e.act image i e.cpu h
-
--- what each processor is about to do after a history
-abbrev pub Intents : Type 0
-Intents = ℕ → List Record → Intent
+unfoldable pub outcome_of : (ℕ → ℕ) → Processors → List Record → Event → Outcome
+outcome_of image ps h e = outcome_by e.act image (ps.intent (cpu_number e.cpu) h) e.cpu h
 
 -- the history is the run of its own events: each was legal after the records before it, and has its
 -- outcome
-abbrev pub IsRun : (ℕ → ℕ) → Intents → List Record → Type 0
-IsRun image intent [] = Unit {0}
-IsRun image intent (r ∷ h) =
-    (legal (intent (cpu_number r.event.cpu) h) h r.event ≡ true)
-    × (r.outcome ≡ outcome_of image (intent (cpu_number r.event.cpu) h) h r.event)
-    × IsRun image intent h
+abbrev pub IsRun : (ℕ → ℕ) → Processors → List Record → Type 0
+IsRun image ps [] = Unit {0}
+IsRun image ps (r ∷ h) = (legal ps h r.event ≡ true) × (r.outcome ≡ outcome_of image ps h r.event) × IsRun image ps h

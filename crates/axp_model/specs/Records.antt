@@ -1,14 +1,11 @@
 -- What one record shows, as the memory model asks. A history is the list of its records, the newest
 -- first; lines, processors and banks are asked for by their numbers and names.
-use Rattle.std.specs.Prelude.{◌≡◌, ℕ, ◌+◌, ◌*◌, ◌/◌, ◌%◌, ◌^◌, ◌==◌, nat_lt, nat_le, Bool, true, false, not, ◌&&◌, ◌||◌, if◌then◌else◌, Option, Some, None, refl}
+use Rattle.std.specs.Prelude.{ℕ, ◌==◌, Bool, true, false, ◌&&◌, ◌||◌, if◌then◌else◌, Option, Some, None}
 use Rattle.axp_base.specs.Cpus.{cpu_number}
-use Rattle.axp_base.specs.Lines.{line_number}
-use Rattle.axp_base.specs.declared.lines.Bank.{Bank}
-use Rattle.axp_base.specs.declared.lines.Bank.TheVariants.{Even, Odd, Code}
+use Rattle.axp_base.specs.Lines.{line_of, line_at, is_line}
+use Rattle.axp_base.specs.declared.lines.Bank.TheVariants.{Code}
 use Rattle.axp_base.specs.declared.lines.Line.{Line}
-use Rattle.axp_base.specs.declared.lines.TheConstants.{LINE_BYTES}
 use Rattle.axp_base.specs.declared.processors.Cpu.{Cpu}
-use Rattle.axp_regs.specs.declared.asks.Kind.{Kind}
 use Rattle.axp_regs.specs.declared.asks.Kind.TheVariants as kind
 use Rattle.axp_access.specs.declared.Access.{Access}
 use Rattle.axp_access.specs.declared.Act.{Act}
@@ -17,97 +14,11 @@ use Rattle.axp_access.specs.declared.Outcome.{Outcome}
 use Rattle.axp_access.specs.declared.Outcome.TheVariants as outcome
 use Rattle.axp_access.specs.declared.Place.TheVariants.{At}
 use Rattle.axp_access.specs.declared.Record.{Record}
-
--- the number of the line that an address is in
-abbrev pub line_of : ℕ → ℕ
-line_of address = address / LINE_BYTES
-
--- the line of this number, by the test whether its bytes have addresses; line 0 where they have none
-abbrev pub line_by : (n : ℕ) (addressed : Bool) → nat_lt (n * LINE_BYTES) (2 ^ 64) ≡ addressed → Line
-line_by n true h = record { number = n; addressed = h }
-line_by n false h = record { number = 0; addressed = refl }
-
-abbrev pub line_numbered : ℕ → Line
-line_numbered n = line_by n (nat_lt (n * LINE_BYTES) (2 ^ 64)) refl
-
--- the line that an address is in
-abbrev pub line_at : ℕ → Line
-line_at address = line_numbered (line_of address)
-
-abbrev pub is_line : ℕ → Line → Bool
-is_line l k = line_number k == l
-
--- a line of this number belongs to this data bank
-abbrev pub in_bank : Bank → ℕ → Bool
-in_bank Even l = l % 2 == 0
-in_bank Odd l = not (l % 2 == 0)
-in_bank Code l = false
+use Rattle.axp_access.specs.Kinds.{is_locked, is_barrier, is_code_barrier, is_signal, is_success}
 
 -- the record is of this processor
 abbrev pub by : ℕ → Record → Bool
 by p r = cpu_number r.event.cpu == p
-
--- kinds of access
-abbrev pub is_fetch : Kind → Bool
-is_fetch kind.Fetch = true
-is_fetch _ = false
-
-abbrev pub is_plain_read : Kind → Bool
-is_plain_read kind.Read = true
-is_plain_read _ = false
-
--- a read is a plain read or an LDx_L
-abbrev pub is_read : Kind → Bool
-is_read kind.Read = true
-is_read kind.Locked = true
-is_read _ = false
-
-abbrev pub is_plain_write : Kind → Bool
-is_plain_write kind.Write = true
-is_plain_write _ = false
-
-abbrev pub is_locked : Kind → Bool
-is_locked kind.Locked = true
-is_locked _ = false
-
-abbrev pub is_conditional : Kind → Bool
-is_conditional kind.Conditional = true
-is_conditional _ = false
-
-abbrev pub is_barrier : Kind → Bool
-is_barrier kind.Barrier = true
-is_barrier _ = false
-
-abbrev pub is_write_barrier : Kind → Bool
-is_write_barrier kind.WriteBarrier = true
-is_write_barrier _ = false
-
-abbrev pub is_code_barrier : Kind → Bool
-is_code_barrier kind.CodeBarrier = true
-is_code_barrier _ = false
-
-abbrev pub is_signal : Kind → Bool
-is_signal kind.Signal = true
-is_signal _ = false
-
-abbrev pub is_poll : Kind → Bool
-is_poll kind.Poll = true
-is_poll _ = false
-
--- an STx_C that succeeds; one that fails is neither a read nor a write
-abbrev pub is_success : Access → Bool
-is_success a = is_conditional a.kind && a.yes
-
--- a memory write is a plain write or a successful STx_C, a write a memory write or a signal
-abbrev pub is_memory_write : Access → Bool
-is_memory_write a = is_plain_write a.kind || is_success a
-
-abbrev pub is_write : Access → Bool
-is_write a = is_memory_write a || is_signal a.kind
-
--- the byte at an address is one of those that the access moves
-abbrev pub has_byte : ℕ → Access → Bool
-has_byte at a = nat_le a.address at && nat_lt at (a.address + a.size)
 
 -- the record is an access that passes a test
 abbrev pub made : (Access → Bool) → Outcome → Bool

@@ -1,10 +1,34 @@
 -- What a read or fetch gives: the bytes of its sources.
-use Rattle.std.specs.Prelude.{ℕ, ◌-◌, Bool, ◌||◌, List, Option, Some, None}
+use Rattle.std.specs.Prelude.{ℕ, ◌-◌, Bool, ◌||◌, List, Option, Some, None, not, ◌&&◌, if◌then◌else◌, [], ◌∷◌}
 use Rattle.axp_base.specs.Parts.{byte, number_at}
 use Rattle.axp_access.specs.declared.Record.{Record}
-use Rattle.axp_model.specs.Records.{is_read, is_fetch}
-use Rattle.axp_model.specs.Places.{Item, accesses, times}
-use Rattle.axp_model.specs.Before.{source}
+use Rattle.axp_access.specs.Kinds.{is_read, is_fetch, is_memory_write, has_byte}
+use Rattle.axp_model.specs.Accesses.{accesses, times}
+use Rattle.axp_access.specs.Numbering.{Item}
+use Rattle.axp_access.specs.Order.{Times, before, precedes}
+
+-- the memory write u is visible to the read or fetch v: it is BEFORE v, or precedes the read in issue
+-- order
+abbrev pub visible : Times → Item → Item → Bool
+visible t u v = before t u v || (not (is_fetch v.access.kind) && precedes u v)
+
+-- the later in BEFORE of two
+abbrev pub later_of : Times → Item → Option Item → Option Item
+later_of t x None = Some x
+later_of t x (Some y) = if before t y x then Some x else Some y
+
+-- the latest in BEFORE of those that pass a test
+abbrev pub latest : Times → (Item → Bool) → List Item → Option Item
+latest t test [] = None
+latest t test (x ∷ xs) = if test x then later_of t x (latest t test xs) else latest t test xs
+
+-- u is a memory write that has the byte at an address and is visible to v
+abbrev pub gives : Times → ℕ → Item → Item → Bool
+gives t at v u = is_memory_write u.access && (has_byte at u.access && visible t u v)
+
+-- the source of the byte at an address of v: the latest of these; None: the image
+abbrev pub source : Times → ℕ → Item → List Item → Option Item
+source t at v us = latest t (gives t at v) us
 
 -- a read or a fetch
 abbrev pub takes_bytes : Item → Bool

@@ -3,13 +3,13 @@
 //! outcome that stands beside it. Where an example is a refusal, one event more is not legal.
 ghost use Rattle.std.specs.Prelude.{ℕ, List, reverse};
 ghost use Rattle.axp_access.specs.declared.Record.{Record};
-ghost use Rattle.axp_model.specs.Examples.{Programs, intents, Shows, AnotherBlock, BarrierBetween, CodeAfterImb, CodeAfterMb, DependentLoad, FullBuffer, LockRange, Merging, MixedSources, OwnStoreDrained, OwnStoreWaits, ReadWantsCopy, RoomAfterDrain, StoreBuffering, TakenInTime, WriteBarrierBetween, YoungerGroupWaits};
+ghost use Rattle.axp_model.specs.Examples.{Programs, processors, Shows, AnotherBlock, BarrierBetween, CodeAfterImb, CodeAfterMb, DependentLoad, FullBuffer, LockRange, Merging, MixedSources, OwnStoreDrained, OwnStoreWaits, ReadWantsCopy, RoomAfterDrain, StoreBuffering, TakenInTime, WriteBarrierBetween, YoungerGroupWaits};
 ghost use Rattle.axp_model.specs.Outcomes.{IsRun};
 
 /// A trace that an example shows is a run, as the laws of the model speak of one: what holds of every
 /// run holds of it.
 pub fn shown_traces_are_runs()
-    ensures { (image : ℕ → ℕ) (programs : Programs) (trace : List Record) → Shows image programs trace → IsRun image (intents programs) (reverse trace) }
+    ensures { (image : ℕ → ℕ) (programs : Programs) (trace : List Record) → Shows image programs trace → IsRun image (processors programs) (reverse trace) }
 {}
 
 /// Writes wait in write buffers. So two processors both read old data (`store_buffering`), and a read

@@ -1,32 +1,10 @@
-//! The definitions of the memory model, over lists of records, and what they say in other words: laws,
-//! each proved as the contract of a function that does nothing.
+//! The definitions of the memory model, over lists of records, with worked examples that hold by
+//! computation. No code that runs; what the definitions say in other words is proved in `axp_laws`.
 #![tactic(auto)]
 
-mod causality;
-mod entries;
 mod examples;
-mod late;
-mod locks;
-mod order;
-mod polls;
-mod storage;
 
-pub use causality::no_causal_loop;
-pub use entries::{
-    ages_are_write_barriers, drained_turns, entries_that_wait, numbers_of_accesses,
-    oldest_group_is_in_front, write_barrier_stands_between,
-};
 pub use examples::{
     invalidations_come_late, locks_are_of_blocks, shown_traces_are_runs, writes_wait,
     written_code_wants_imb,
-};
-pub use late::{copies_are_held_lines, held_copies, late_by_counting, late_pairs_are_turns};
-pub use locks::{locking, undisturbed_in_words};
-pub use order::{
-    before_is_a_strict_order, counts_grow, order_is_kept, overlapping_accesses_are_ordered,
-    places_are_bounded, runs_begin_with_runs,
-};
-pub use polls::poll_rule;
-pub use storage::{
-    closed_form_of_sources, held_copies_are_memory, memory_of_past_turns_stays, storage_is_kept,
 };

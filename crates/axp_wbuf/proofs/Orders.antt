@@ -9,7 +9,7 @@ use Rattle.axp_wbuf.specs.Pending.{Pending, Buffer, AreInOrder, IsMade, IsTidy, 
 use Rattle.axp_wbuf.specs.Drains.{without}
 use Rattle.axp_wbuf.specs.Views.{pending, all_pending, buffer_of}
 use Rattle.axp_wbuf.specs.declared.entries.Entry.{Entry}
-use Rattle.axp_wbuf.specs.declared.limits.TheConstants.{WBUF_ENTRIES}
+use Rattle.axp_base.specs.declared.limits.TheConstants.{WBUF_ENTRIES}
 
 pub length-put_into : (group line : ℕ) (change : Pending → Pending) (new : Pending) (es : List Pending) → length (put_into group line change new es) ≡ cond (list_any (is_at group line) es) (length es) (length es + 1)
 unfolding put_into

@@ -7,7 +7,7 @@ use Rattle.axp_base.specs.declared.lines.TheConstants.{LINE_BYTES}
 use Rattle.axp_wbuf.specs.Pending.{Pending, Buffer, IsTidy, is_at, made_by, put_into, store_number, stored, with_store}
 use Rattle.axp_wbuf.specs.Views.{pending, all_pending, buffer_of}
 use Rattle.axp_wbuf.specs.declared.entries.Entry.{Entry}
-use Rattle.axp_wbuf.specs.declared.limits.TheConstants.{WBUF_ENTRIES}
+use Rattle.axp_base.specs.declared.limits.TheConstants.{WBUF_ENTRIES}
 use Rattle.axp_wbuf.proofs.Orders.{tidy_stored}
 use Rattle.axp_wbuf.proofs.Places.{absent_number, absent_put}
 

@@ -5,7 +5,7 @@ use Rattle.axp_base.specs.Masks.{span_of, has_bit}
 use Rattle.axp_base.specs.Parts.{with_part}
 use Rattle.axp_base.specs.declared.lines.TheConstants.{LINE_BYTES}
 use Rattle.axp_line.specs.Lines.{merged}
-use Rattle.axp_wbuf.specs.declared.limits.TheConstants.{WBUF_ENTRIES}
+use Rattle.axp_base.specs.declared.limits.TheConstants.{WBUF_ENTRIES}
 
 -- a write that has not reached memory: bytes of one line, made as entry `number`
 pub record Pending : Type 0 where

@@ -5,15 +5,14 @@
 mod buffers;
 mod entries;
 mod laws;
-mod limits;
 mod lists;
 
+pub use axp_base::WBUF_ENTRIES;
 pub use buffers::{Full, Wbuf};
 pub use laws::{
     newest_is_overlaid, oldest_group_is_in_front, own_writes_leave_in_order, rules_are_kept,
     store_keeps_other_entries, stored_is_overlaid,
 };
-pub use limits::WBUF_ENTRIES;
 
 #[cfg(test)]
 mod tests;

@@ -9,12 +9,11 @@ ghost use Rattle.axp_line.specs.Lines.{bytes_of_line};
 ghost use Rattle.axp_wbuf.specs.Pending.{Pending, is_at, is_before, is_of_group, is_of_line, made_by, number_at_line, overlaid, put_into, with_store};
 ghost use Rattle.axp_wbuf.specs.Drains.{in_front, oldest_group};
 ghost use Rattle.axp_wbuf.specs.Views.{all_pending};
-ghost use Rattle.axp_wbuf.specs.declared.limits.TheConstants.{WBUF_ENTRIES};
+ghost use Rattle.axp_base.specs.declared.limits.TheConstants.{WBUF_ENTRIES};
 
-use crate::WBUF_ENTRIES;
 use crate::entries::Entry;
 use arrayvec::ArrayVec;
-use axp_base::Line;
+use axp_base::{Line, WBUF_ENTRIES};
 use axp_line::LineData;
 
 /// The entries of a buffer, oldest first.

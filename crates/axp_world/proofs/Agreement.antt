@@ -18,15 +18,18 @@ use Rattle.axp_lsu.specs.Keeping.{Kept, data_copies}
 use Rattle.axp_wbuf.specs.Drains.{oldest_group}
 use Rattle.axp_wbuf.specs.Pending as pending
 use Rattle.axp_wbuf.specs.Pending.{Pending, is_before, is_of_line, overlaid, store_number}
-use Rattle.axp_model.specs.BusCalls as calls
-use Rattle.axp_model.specs.BusCalls.{BusCall}
+use Rattle.axp_line.specs.BusCalls as calls
+use Rattle.axp_line.specs.BusCalls.{BusCall}
 use Rattle.axp_model.specs.Entries.{Waiting, buffer, entry_for, has_closed, has_line, oldest}
 use Rattle.axp_model.specs.Late.{late, held, code_held, copies, code_copies}
-use Rattle.axp_model.specs.Legal.{is_drop_of, is_empty, is_fill, is_poll_act, is_tick, since_step, takes_write}
+use Rattle.axp_model.specs.Legal.{since_step, takes_write}
+use Rattle.axp_base.specs.Lists.{is_empty}
+use Rattle.axp_access.specs.Acts.{is_drop_of, is_fill, is_poll_act, is_tick}
 use Rattle.axp_model.specs.Locks.{lock, signalled}
 use Rattle.axp_model.specs.Memory.{memory_byte, newest_waiting}
-use Rattle.axp_model.specs.Places.{Item, accesses, cpu_of}
-use Rattle.axp_model.specs.Records.{has_byte, is_memory_write}
+use Rattle.axp_model.specs.Accesses.{accesses}
+use Rattle.axp_access.specs.Numbering.{Item, cpu_of}
+use Rattle.axp_access.specs.Kinds.{has_byte, is_memory_write}
 use Rattle.axp_model.specs.Records as records
 use Rattle.axp_model.specs.Turns.{turns, stamp, barrier, code_stamp}
 

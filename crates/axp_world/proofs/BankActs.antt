@@ -4,7 +4,7 @@ use Rattle.std.specs.List.{list_any}
 use Rattle.std.specs.Prelude.{Ok}
 use Rattle.std.proofs.lemmas.Bool.{and_parts, eq-eqb, ne_eqb, false≢true}
 use Rattle.axp_base.specs.Cpus.{cpu_number}
-use Rattle.axp_base.specs.Lines.{data_bank, line_number}
+use Rattle.axp_base.specs.Lines.{data_bank, line_number, in_bank, line_at, line_numbered, line_of}
 use Rattle.axp_base.specs.declared.lines.Bank.{Bank}
 use Rattle.axp_base.specs.declared.lines.Bank.TheVariants.{Even, Odd, Code}
 use Rattle.axp_base.specs.declared.lines.Line.{Line}
@@ -30,27 +30,28 @@ use Rattle.axp_lsu.specs.Going.{delivered, drain_outcome, drained, fill_outcome,
 use Rattle.axp_lsu.specs.Keeping.{Kept, copies_of, data_copies, has_dropped, held_pairs, with_copies}
 use Rattle.axp_lsu.specs.declared.asks.Ask2.{Ask2}
 use Rattle.axp_lsu.specs.declared.asks.Ask2.TheVariants as ask
-use Rattle.axp_lockreg.specs.Blocks.{is_allowed}
+use Rattle.axp_base.specs.Blocks.{is_allowed}
 use Rattle.axp_regs.specs.declared.asks.Kind.{Kind}
 use Rattle.axp_regs.specs.declared.asks.Kind.TheVariants as kind
 use Rattle.axp_wbuf.specs.Drains.{oldest_group, without}
 use Rattle.axp_wbuf.specs.Pending.{Pending, is_of_line}
-use Rattle.axp_model.specs.BusCalls.{BusCall, would_write}
-use Rattle.axp_model.specs.BusReply.{front, reply_by, tried}
+use Rattle.axp_line.specs.BusCalls.{BusCall, would_write}
+use Rattle.axp_line.specs.BusReply.{front, reply_by, tried}
 use Rattle.axp_model.specs.Late.{code_held, held, takes_away}
-use Rattle.axp_model.specs.OrderLaws.{IsInLine, WantsInLine}
-use Rattle.axp_model.specs.Records.{code_fences, drops, drops_code, fences, fills, fills_code, in_bank, is_barrier, is_code_barrier, is_locked, is_success, line_at, line_numbered, line_of, locks, turns_on}
+use Rattle.axp_model.specs.Processors.{IsInLine, WantsInLine}
+use Rattle.axp_model.specs.Records.{code_fences, drops, drops_code, fences, fills, fills_code, locks, turns_on}
+use Rattle.axp_access.specs.Kinds.{is_barrier, is_code_barrier, is_locked, is_success}
 use Rattle.axp_model.specs.Turns.{code_stamp, stamp, turns}
-use Rattle.axp_model.proofs.Fits.{bank_own, line_at-number}
-use Rattle.axp_model.proofs.Kept.{Fitting}
+use Rattle.axp_laws.proofs.RunRecords.{bank_own, line_at-number}
+use Rattle.axp_laws.proofs.RunFacts.{Fitting}
 use Rattle.axp_world.specs.Worlds.{calls_for, reply_for}
 use Rattle.axp_world.proofs.Agreement.{BusAgrees, HasMemory}
 use Rattle.axp_world.proofs.BusLines.{bus_line}
-use Rattle.axp_world.proofs.Changes.{code_line_brought, code_line_dropped, held_is_banked, line_brought, line_dropped, line_invalidated, line_rewritten}
-use Rattle.axp_world.proofs.Fenced.{fence_shows}
-use Rattle.axp_world.proofs.Leaves.{barrier_left, barrier_made, code_brought, code_lost, code_stamp_brought, held_brought, held_fenced, held_left, held_lost, held_taken, leaves_code, leaves_data, leaves_other_code, leaves_others, stamp_brought, stamp_left}
-use Rattle.axp_world.proofs.Shows.{KeptShows, nothing_changed, same_shows}
-use Rattle.axp_world.proofs.Spared.{told_of_none}
+use Rattle.axp_world.proofs.BankChanges.{code_line_brought, code_line_dropped, held_is_banked, line_brought, line_dropped, line_invalidated, line_rewritten}
+use Rattle.axp_world.proofs.BankBarriers.{fence_shows}
+use Rattle.axp_world.proofs.BankLeaves.{barrier_left, barrier_made, code_brought, code_lost, code_stamp_brought, held_brought, held_fenced, held_left, held_lost, held_taken, leaves_code, leaves_data, leaves_other_code, leaves_others, stamp_brought, stamp_left}
+use Rattle.axp_world.proofs.BankShows.{KeptShows, nothing_changed, same_shows}
+use Rattle.axp_world.proofs.BankSpares.{told_of_none}
 
 -- a record of an act
 abbrev pub of_act : Cpu → Act → Outcome → Record

@@ -6,7 +6,7 @@ use Rattle.axp_access.specs.declared.Act.TheVariants as act
 use Rattle.axp_access.specs.declared.Intent.{Intent}
 use Rattle.axp_bank.specs.Copies.{dropped, has_older, invalidated, is_held, is_of}
 use Rattle.axp_bank.specs.declared.copies.LineCopy.{LineCopy}
-use Rattle.axp_bank.specs.declared.copies.TheConstants.{BANK_COPIES}
+use Rattle.axp_base.specs.declared.limits.TheConstants.{BANK_COPIES}
 use Rattle.axp_bank.proofs.BankLemmas.{length_dropped, length_refreshed}
 use Rattle.axp_base.specs.Lines.{line_number, data_bank}
 use Rattle.axp_base.specs.declared.lines.Bank.{Bank}
@@ -21,8 +21,8 @@ use Rattle.axp_lsu.specs.declared.asks.Ask2.{Ask2}
 use Rattle.axp_lsu.specs.declared.asks.Ask2.TheVariants as ask
 use Rattle.axp_lsu.specs.declared.since.Since.{Since}
 use Rattle.axp_wbuf.specs.Pending.{Pending}
-use Rattle.axp_world.proofs.Asked.{some_if}
-use Rattle.axp_world.proofs.KeptCounts.{since_is}
+use Rattle.axp_world.proofs.AskedActs.{some_if}
+use Rattle.axp_world.proofs.CountKept.{since_is}
 
 -- each bank from which a copy was dropped has room, where nothing was filled after
 abbrev pub HasRooms : Kept → Type 0

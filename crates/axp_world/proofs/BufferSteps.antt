@@ -22,18 +22,21 @@ use Rattle.axp_wbuf.specs.Pending as pending
 use Rattle.axp_wbuf.specs.Pending.{Pending, closed, made_by, store_number, stored, with_store}
 use Rattle.axp_wbuf.proofs.Pairs.{oldest_entry}
 use Rattle.axp_model.specs.Entries.{Buffer, buffer, buffer_after}
-use Rattle.axp_model.specs.OrderLaws.{IsInLine}
-use Rattle.axp_model.specs.Places.{Item, accesses, cpu_of, next_item}
-use Rattle.axp_model.specs.Records.{access_in, by, has_byte, is_memory_write, is_plain_write, is_write_barrier, line_at, line_of}
-use Rattle.axp_model.proofs.Fits.{line_at-number}
-use Rattle.axp_model.proofs.Keeps.{acc}
-use Rattle.axp_model.proofs.Kept.{Fits, FitsOutcome, Fitting}
-use Rattle.axp_model.proofs.Knows as knows
-use Rattle.axp_model.proofs.Steps.{each_map, kept}
+use Rattle.axp_model.specs.Processors.{IsInLine}
+use Rattle.axp_model.specs.Accesses.{accesses}
+use Rattle.axp_access.specs.Numbering.{Item, cpu_of, next_item}
+use Rattle.axp_model.specs.Records.{access_in, by}
+use Rattle.axp_access.specs.Kinds.{has_byte, is_memory_write, is_plain_write, is_write_barrier}
+use Rattle.axp_base.specs.Lines.{line_at, line_of}
+use Rattle.axp_laws.proofs.RunRecords.{line_at-number}
+use Rattle.axp_laws.proofs.OrderCases.{acc}
+use Rattle.axp_laws.proofs.RunFacts.{Fits, FitsOutcome, Fitting}
+use Rattle.axp_laws.proofs.RunKnown as knows
+use Rattle.axp_laws.proofs.RunSteps.{each_map, kept}
 use Rattle.axp_world.proofs.Agreement.{BufferAgrees, HasBytesOf, is_entry, newest_in, went_into}
-use Rattle.axp_world.proofs.Entered.{KeepsWaiting, alike_closed, alike_drained, alike_stored, closed_alike, line_alike, none_alike, number_alike, oldest_alike, takes_alike}
-use Rattle.axp_world.proofs.EntryBytes.{bytes_made, bytes_merged, bytes_stay, each_at, each_removed, newest_same, none_above, put_each}
-use Rattle.axp_world.proofs.Overlaid.{overlaid_waits}
+use Rattle.axp_world.proofs.BufferEntries.{KeepsWaiting, alike_closed, alike_drained, alike_stored, closed_alike, line_alike, none_alike, number_alike, oldest_alike, takes_alike}
+use Rattle.axp_world.proofs.BufferBytes.{bytes_made, bytes_merged, bytes_stay, each_at, each_removed, newest_same, none_above, put_each}
+use Rattle.axp_world.proofs.BufferOverlays.{overlaid_waits}
 
 -- what a processor's buffer keeps after a history of records that fit
 pub record IsBuffered (p : ℕ) (h : List Record) (b : pending.Buffer) : Type 0 where

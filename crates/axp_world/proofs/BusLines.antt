@@ -1,16 +1,15 @@
 -- A line that the bus answers has memory's bytes.
 use Rattle.std.proofs.Common.{◌≡◌, ℕ, zero, suc, ◌+◌, ◌*◌, ◌%◌, ◌<◌, Bool, true, false, eqb, length, slice_index, List, Some, refl, sym, ap, ◌∙◌, arith}
 use Rattle.std.proofs.lemmas.Bool.{eq-eqb}
-use Rattle.axp_base.specs.Lines.{line_number}
+use Rattle.axp_base.specs.Lines.{line_number, line_of}
 use Rattle.axp_base.specs.declared.lines.Line.{Line}
 use Rattle.axp_base.specs.declared.lines.TheConstants.{LINE_BYTES}
 use Rattle.axp_access.specs.declared.Record.{Record}
 use Rattle.axp_line.specs.Lines.{bytes_of_line, data_by}
 use Rattle.axp_line.specs.declared.contents.LineData.{LineData}
-use Rattle.axp_model.specs.BusCalls as calls
-use Rattle.axp_model.specs.BusCalls.{BusCall}
-use Rattle.axp_model.specs.BusReply.{bytes_from, line_of_memory}
-use Rattle.axp_model.specs.Records.{line_of}
+use Rattle.axp_line.specs.BusCalls as calls
+use Rattle.axp_line.specs.BusCalls.{BusCall}
+use Rattle.axp_line.specs.BusReply.{bytes_from, line_of_memory}
 use Rattle.axp_model.specs.Turns.{turns}
 use Rattle.axp_world.proofs.Agreement.{BusAgrees, HasMemory}
 

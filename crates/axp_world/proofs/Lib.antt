@@ -1,39 +1,54 @@
+-- what a played record shows: what was asked, and what it gave
 pub mod Agreement
-pub mod Played
-pub mod Entered
-pub mod EntryBytes
-pub mod Overlaid
+pub mod PlayedRecords
+pub mod AskedActs
+pub mod AskedQuiet
+
+-- the write buffer keeps the entries that wait
+pub mod BufferEntries
+pub mod BufferBytes
+pub mod BufferOverlays
 pub mod BufferSteps
-pub mod Buffered
-pub mod Sums
-pub mod Tallies
-pub mod CallCounts
-pub mod Asked
-pub mod Quiet
-pub mod KeptCounts
-pub mod Bounded
-pub mod Counted
-pub mod Since
-pub mod Spared
+pub mod BufferPlayed
+
+-- how many acts, turns and events there are
+pub mod CountSums
+pub mod CountTallies
+pub mod CountCalls
+pub mod CountKept
+pub mod CountBounds
+pub mod CountEvents
+
+-- what was done since the last Step
+pub mod SinceSteps
+
+-- the bus has the history's memory, turns, late pairs and locks
 pub mod BusLines
-pub mod Shows
-pub mod Leaves
-pub mod Fenced
-pub mod Changes
-pub mod MemoryTurns
-pub mod Written
-pub mod Called
-pub mod Legality
-pub mod ReadValues
-pub mod Seated
-pub mod Runs
-pub mod Wanting
-pub mod Refused
+pub mod BusMemory
+pub mod BusWrites
+pub mod BusRecords
+
+-- the banks keep the lines that are held
+pub mod BankSpares
+pub mod BankShows
+pub mod BankLeaves
+pub mod BankBarriers
+pub mod BankChanges
 pub mod BankActs
-pub mod Banked
-pub mod Joined
+pub mod BankPlayed
 pub mod BankRooms
-pub mod Filling
-pub mod Midway
-pub mod Offered
-pub mod Progress
+
+-- a played history is a run of the memory model
+pub mod RunWants
+pub mod RunValues
+pub mod RunOutcomes
+pub mod RunLegality
+pub mod RunPlayed
+pub mod RunRefusals
+pub mod RunJoined
+
+-- no processor is stuck
+pub mod ProgressFilled
+pub mod ProgressMidway
+pub mod ProgressOffered
+pub mod ProgressActs

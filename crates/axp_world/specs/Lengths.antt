@@ -1,7 +1,7 @@
 -- How long a history may be, by the steps that its processors make.
 use Rattle.std.specs.Prelude.{ℕ, ◌+◌, ◌-◌, ◌&&◌, if◌then◌else◌, List, [], ◌∷◌}
 use Rattle.axp_access.specs.declared.Record.{Record}
-use Rattle.axp_model.specs.Legal.{is_step}
+use Rattle.axp_access.specs.Acts.{is_step}
 use Rattle.axp_model.specs.Records.{by}
 
 -- how many Steps a history has

@@ -14,8 +14,8 @@ use Rattle.axp_line.specs.declared.messages.Reply.{Reply}
 use Rattle.axp_line.specs.declared.messages.Reply.TheVariants as reply
 use Rattle.axp_lsu.specs.declared.asks.Ask2.{Ask2}
 use Rattle.axp_lsu.specs.declared.asks.Ask2.TheVariants as ask
-use Rattle.axp_model.specs.BusCalls.{BusCall}
-use Rattle.axp_model.specs.BusReply.{bus_reply}
+use Rattle.axp_line.specs.BusCalls.{BusCall}
+use Rattle.axp_line.specs.BusReply.{bus_reply}
 use Rattle.axp_model.specs.Outcomes.{Intents}
 
 pub record World : Type 0 where

@@ -3,7 +3,7 @@ ghost use Rattle.std.specs.Prelude.{ℕ, List, length, ◌*◌, ◌≡◌, ◌�
 ghost use Rattle.axp_base.specs.declared.processors.TheConstants.{MAX_CPUS};
 ghost use Rattle.axp_access.specs.declared.Record.{Record};
 ghost use Rattle.axp_image.specs.Contents.{Contents};
-ghost use Rattle.axp_model.specs.BusCalls.{turns};
+ghost use Rattle.axp_line.specs.BusCalls.{turns};
 ghost use Rattle.axp_world.specs.Lengths.{events_per_step, steps_in, steps_of};
 ghost use Rattle.axp_world.specs.Worlds.{IsPlayed, world};
 ghost use Rattle.axp_world.specs.declared.lengths.TheConstants.{EVENTS_PER_STEP};

@@ -6,7 +6,7 @@ ghost use Rattle.axp_base.specs.Lines.{line_number};
 ghost use Rattle.axp_line.specs.declared.messages.TheConstants.{MAX_HELD};
 ghost use Rattle.axp_wbuf.specs.Drains.{oldest_group};
 ghost use Rattle.axp_model.specs.Legal.{may_now};
-ghost use Rattle.axp_model.specs.Records.{line_at};
+ghost use Rattle.axp_base.specs.Lines.{line_at};
 ghost use Rattle.axp_lsu.specs.Asking.{ready, signal_to, access_ask, step_ask, fill_for, fill_ask, drain_ask, take_ask, act_ask, ask_of};
 ghost use Rattle.axp_lsu.specs.Fitting.{IsWithinSome};
 ghost use Rattle.axp_lsu.specs.Keeping.{addressed, copies_of, data_copies, has_dropped, held_pairs};

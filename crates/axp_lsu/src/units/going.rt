@@ -6,7 +6,7 @@ ghost use Rattle.axp_access.specs.declared.Act.TheVariants.{Step};
 ghost use Rattle.axp_access.specs.declared.Place.TheVariants.{Entry};
 ghost use Rattle.axp_wbuf.specs.Drains.{oldest_group};
 ghost use Rattle.axp_model.specs.Outcomes.{bank_for};
-ghost use Rattle.axp_model.specs.Records.{line_of, line_at};
+ghost use Rattle.axp_base.specs.Lines.{line_of, line_at};
 ghost use Rattle.axp_wbuf.specs.Pending.{takes, stored, store_number};
 ghost use Rattle.axp_lsu.specs.Asking.{act_ask, ask_of, ready};
 ghost use Rattle.axp_lsu.specs.Fitting.{Fits2, IsWantedInSome, ShowsFitting, WantsFitting};

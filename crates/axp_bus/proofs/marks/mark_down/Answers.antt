@@ -1,7 +1,6 @@
 use Rattle.std.proofs.Common.{Some, subst}
-use Rattle.axp_base.specs.Masks.{mask_bits}
 use Rattle.axp_line.specs.Lines.{bytes_of_line}
-use Rattle.axp_model.specs.BusCalls.{stored_bytes}
+use Rattle.axp_line.specs.BusCalls.{stored_bytes}
 use Rattle.axp_bus.specs.Marks.{Marked}
 use Rattle.axp_bus.proofs.marks.mark_down.Goals as goal
 

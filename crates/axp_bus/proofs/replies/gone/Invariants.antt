@@ -1,5 +1,5 @@
 use Rattle.std.proofs.Common.{◌≡◌, ℕ, drop}
-use Rattle.axp_model.specs.BusReply.{gone}
+use Rattle.axp_line.specs.BusReply.{gone}
 use Rattle.axp_bus.specs.Buses.{front_of}
 use Rattle.axp_bus.proofs.replies.gone.Given as goal
 

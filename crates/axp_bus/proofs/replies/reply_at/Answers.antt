@@ -1,5 +1,5 @@
 use Rattle.std.proofs.Common.{Some, refl, ap₂, ◌∙◌}
-use Rattle.axp_model.specs.BusReply.{reply_by, tried}
+use Rattle.axp_line.specs.BusReply.{reply_by, tried}
 use Rattle.axp_bus.specs.Buses.{front_of}
 use Rattle.axp_bus.proofs.replies.reply_at.Goals as goal
 

@@ -4,7 +4,7 @@ use Rattle.axp_base.specs.Masks.{mask_bits}
 use Rattle.axp_base.specs.declared.lines.TheConstants.{LINE_BYTES}
 use Rattle.axp_line.specs.Lines.{bytes_of_line}
 use Rattle.axp_memory.specs.Bytes.{written}
-use Rattle.axp_model.specs.BusCalls.{Written, overwritten}
+use Rattle.axp_line.specs.BusCalls.{Written, overwritten}
 use Rattle.axp_bus.specs.Buses.{Agrees, MayAsk}
 use Rattle.axp_bus.specs.Writes.{written_of}
 use Rattle.axp_bus.proofs.LineLemmas.{write_agrees}

@@ -1,5 +1,5 @@
-use Rattle.axp_world.proofs.Joined.{joined}
-use Rattle.axp_world.proofs.Wanting.{intents_in_line}
+use Rattle.axp_world.proofs.RunJoined.{joined}
+use Rattle.axp_world.proofs.RunWants.{intents_in_line}
 use Rattle.axp_world.proofs.laws.played_histories_are_runs.Goals as goal
 
 pub returns : goal.returns

@@ -1,4 +1,4 @@
-use Rattle.axp_world.proofs.Progress.{finished_drains, progress}
+use Rattle.axp_world.proofs.ProgressActs.{finished_drains, progress}
 use Rattle.axp_world.proofs.laws.processors_are_never_stuck.Goals as goal
 
 pub returns : goal.returns

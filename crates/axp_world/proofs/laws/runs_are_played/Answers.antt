@@ -1,4 +1,4 @@
-use Rattle.axp_world.proofs.Joined as joined
+use Rattle.axp_world.proofs.RunJoined as joined
 use Rattle.axp_world.proofs.laws.runs_are_played.Goals as goal
 
 pub returns : goal.returns

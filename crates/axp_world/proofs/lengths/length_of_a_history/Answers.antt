@@ -1,5 +1,5 @@
 use Rattle.std.proofs.Common.{refl}
-use Rattle.axp_world.proofs.Counted.{all_steps_are_few, events_are_few, played_is_short, steps_are_counted, steps_are_few, turns_are_few}
+use Rattle.axp_world.proofs.CountEvents.{all_steps_are_few, events_are_few, played_is_short, steps_are_counted, steps_are_few, turns_are_few}
 use Rattle.axp_world.proofs.lengths.length_of_a_history.Goals as goal
 
 pub returns : goal.returns

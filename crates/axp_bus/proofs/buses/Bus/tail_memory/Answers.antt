@@ -2,7 +2,7 @@ use Rattle.std.proofs.Common.{subst, sym, ap, ◌∙◌, arith}
 use Rattle.axp_base.specs.declared.parts.TheConstants.{QUADWORD_BYTES}
 use Rattle.axp_line.specs.Lines.{bytes_of_line}
 use Rattle.axp_memory.specs.Bytes.{line_in}
-use Rattle.axp_model.specs.BusCalls.{memory}
+use Rattle.axp_line.specs.BusCalls.{memory}
 use Rattle.axp_bus.specs.Buses.{State}
 use Rattle.axp_bus.specs.BusStands.{Stands}
 use Rattle.axp_bus.proofs.LineLemmas.{quadword_read}

@@ -4,7 +4,7 @@ use Rattle.axp_base.specs.Cpus.{cpu_number}
 use Rattle.axp_base.specs.declared.lines.TheConstants.{LINE_BYTES}
 use Rattle.axp_base.specs.declared.parts.TheConstants.{QUADWORD_BYTES}
 use Rattle.axp_base.specs.declared.processors.TheConstants.{MAX_CPUS}
-use Rattle.axp_model.specs.BusCalls.{memory, wrote}
+use Rattle.axp_line.specs.BusCalls.{memory, wrote}
 use Rattle.axp_bus.specs.Buses.{State, AreTidy, MayAsk, NotedAll}
 use Rattle.axp_bus.specs.Marks.{Marked}
 use Rattle.axp_bus.specs.BusParts.{state_of}
@@ -44,7 +44,7 @@ invariant_of-self c =
       lanes = subst (λ ls. AreTidy c.turns_after-self-inside.result b.room ls) (sym items)
           (tidy_step b.turns c.turns_after-self-inside.result b.room (cpu_number c.args.cpu) c.args.request.now c.reply_at-reply.result b.lanes.items c.note_all.new.lanes
           c.self.invariant.lanes size noted c.turns_after-self-inside.ensures);
-      printed = omega (arith, fewer, ap length c.print.ensures.bytes, length-append b.printed.items (Rattle.axp_model.specs.BusCalls.printed_by c.args.request.now), printed_few c.args.request.now);
+      printed = omega (arith, fewer, ap length c.print.ensures.bytes, length-append b.printed.items (Rattle.axp_line.specs.BusCalls.printed_by c.args.request.now), printed_few c.args.request.now);
       space = subst (λ n. b.room ≤ n) (sym c.print.ensures.space) c.self.invariant.space;
     }
 

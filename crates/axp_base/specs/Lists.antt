@@ -1,0 +1,7 @@
+-- Lists of anything.
+use Rattle.std.specs.Prelude.{Bool, true, false, List, [], ◌∷◌}
+
+-- a list has no element
+abbrev pub is_empty : {X : Type 0} → List X → Bool
+is_empty [] = true
+is_empty (x ∷ xs) = false

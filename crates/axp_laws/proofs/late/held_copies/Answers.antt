@@ -1,0 +1,16 @@
+use Rattle.axp_laws.proofs.RunRecords.{run_fits}
+use Rattle.axp_laws.proofs.LateReached.{reached, none_late, none_waits, none_older}
+use Rattle.axp_laws.proofs.late.held_copies.Goals as goal
+use Rattle.std.specs.Prelude.{◌∷◌}
+
+pub returns-clause-reached : goal.returns-clause-reached
+returns-clause-reached c = λ image ps h inside run p l. reached p l h (run_fits image ps h inside run)
+
+pub returns-clause-none_late : goal.returns-clause-none_late
+returns-clause-none_late c = none_late
+
+pub returns-clause-none_waits : goal.returns-clause-none_waits
+returns-clause-none_waits c = λ image ps r h inside run p just. none_waits p r h (run_fits image ps (r ∷ h) inside run) just
+
+pub returns-clause-none_older : goal.returns-clause-none_older
+returns-clause-none_older c = λ image ps r h inside run p l just e. none_older p l r h (run_fits image ps (r ∷ h) inside run) just e

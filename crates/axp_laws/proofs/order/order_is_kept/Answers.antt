@@ -1,0 +1,5 @@
+use Rattle.axp_laws.proofs.RunSteps.{keeps_order}
+use Rattle.axp_laws.proofs.order.order_is_kept.Goals as goal
+
+pub returns : goal.returns
+returns c = keeps_order

@@ -1,0 +1,5 @@
+use Rattle.axp_laws.proofs.OrderPlaces.{run_bounded}
+use Rattle.axp_laws.proofs.order.places_are_bounded.Goals as goal
+
+pub returns : goal.returns
+returns c = run_bounded

@@ -1,0 +1,5 @@
+use Rattle.axp_laws.proofs.SourceCopies.{run_held}
+use Rattle.axp_laws.proofs.storage.held_copies_are_memory.Goals as goal
+
+pub returns : goal.returns
+returns c = run_held

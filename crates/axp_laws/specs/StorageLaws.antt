@@ -1,0 +1,22 @@
+-- What the values of a run's accesses keep.
+use Rattle.std.specs.Prelude.{◌≡◌, ℕ, List, Option}
+use Rattle.axp_regs.specs.declared.asks.Kind.{Kind}
+use Rattle.axp_access.specs.declared.Access.{Access}
+use Rattle.axp_access.specs.declared.Outcome.TheVariants as outcome
+use Rattle.axp_access.specs.declared.Record.{Record}
+use Rattle.axp_model.specs.Accesses.{accesses, times}
+use Rattle.axp_access.specs.Numbering.{Item, next_item}
+use Rattle.axp_model.specs.Sources.{source}
+use Rattle.axp_model.specs.Memory.{memory_source}
+
+-- the record is an access of this kind
+abbrev pub Makes : Record → Kind → Access → Type 0
+Makes r kind a = (r.outcome ≡ outcome.Access a) × (a.kind ≡ kind)
+
+-- the source of the byte at an address of the access that comes next after h, in a history that goes on
+abbrev pub source_in : List Record → List Record → ℕ → Access → Option Item
+source_in k h at a = source (times k) at (next_item (accesses h) a) (accesses k)
+
+-- what memory has at an address after the first n turns of a history
+abbrev pub memory_after : List Record → ℕ → ℕ → Option Item
+memory_after h n at = memory_source (times h) n at (accesses h)

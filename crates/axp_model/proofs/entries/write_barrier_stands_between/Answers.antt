@@ -1,8 +1,0 @@
-use Rattle.axp_model.proofs.Listed.{parts_between, demands_between}
-use Rattle.axp_model.proofs.entries.write_barrier_stands_between.Goals as goal
-
-pub returns-clause-parts : goal.returns-clause-parts
-returns-clause-parts c = parts_between
-
-pub returns-clause-demands : goal.returns-clause-demands
-returns-clause-demands c = demands_between

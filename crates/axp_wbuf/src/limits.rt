@@ -1,2 +1,0 @@
-/// The most entries that a write buffer keeps.
-pub const WBUF_ENTRIES: usize = 8;

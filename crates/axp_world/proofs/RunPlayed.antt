@@ -1,0 +1,133 @@
+-- A record that was played is legal after those before it, and has its outcome by the memory model.
+use Rattle.std.proofs.Common.{true, false, ℕ, ◌≡◌, ⊎_elim, eqb, not, List, [], ◌∷◌, Option, Some, is_some, refl, sym, ap, ◌∙◌, subst}
+use Rattle.std.specs.Prelude.{Ok}
+use Rattle.std.proofs.lemmas.Bool.{cases_Bool, and_parts}
+use Rattle.axp_base.specs.Cpus.{cpu_number}
+use Rattle.axp_base.specs.declared.lines.Bank.{Bank}
+use Rattle.axp_base.specs.declared.lines.Bank.TheVariants.{Even, Odd, Code}
+use Rattle.axp_base.specs.declared.lines.Line.{Line}
+use Rattle.axp_base.specs.declared.processors.Cpu.{Cpu}
+use Rattle.axp_base.proofs.CpuLemmas.{cpu_of_number}
+use Rattle.axp_access.specs.declared.Act.{Act}
+use Rattle.axp_access.specs.declared.Act.TheVariants as act
+use Rattle.axp_access.specs.declared.Intent.{Intent}
+use Rattle.axp_access.specs.declared.Record.{Record}
+use Rattle.axp_cpu.specs.Actors.{Actor, about, advanced, is_built, outcome_of, request_of}
+use Rattle.axp_image.specs.Contents.{Contents, IsValid}
+use Rattle.axp_line.specs.declared.messages.Reply.{Reply}
+use Rattle.axp_line.specs.declared.messages.Reply.TheVariants as reply
+use Rattle.axp_line.specs.declared.messages.Request.TheVariants as request
+use Rattle.axp_lsu.specs.declared.asks.Ask2.{Ask2}
+use Rattle.axp_lsu.specs.declared.asks.Ask2.TheVariants as ask
+use Rattle.axp_lsu.specs.Asking.{act_ask, ask_of, take_ask}
+use Rattle.axp_lsu.specs.Going as going
+use Rattle.axp_lsu.specs.Keeping.{Kept}
+use Rattle.axp_line.specs.BusCalls as calls
+use Rattle.axp_line.specs.BusCalls.{BusCall}
+use Rattle.axp_line.specs.BusReply.{first_late, reply_by}
+use Rattle.axp_model.specs.Legal.{legal, may, may_now, since_step}
+use Rattle.axp_base.specs.Lists.{is_empty}
+use Rattle.axp_access.specs.Acts.{is_fill}
+use Rattle.axp_model.specs.Processors.{AreInLine, WantsInLine}
+use Rattle.axp_model.specs.Outcomes as model
+use Rattle.axp_model.specs.Outcomes.{IsRun}
+use Rattle.axp_laws.proofs.RunRecords.{run_fits}
+use Rattle.axp_laws.proofs.RunFacts.{Fitting}
+use Rattle.axp_world.specs.Worlds.{World, answer_of, cpu_or_first, image_bytes, intents, reply_at, world}
+use Rattle.axp_world.proofs.Agreement.{BanksAgree, BufferAgrees, BusAgrees, SinceAgrees}
+use Rattle.axp_world.proofs.BusRecords.{asked_act, asked_ok}
+use Rattle.axp_world.proofs.RunLegality.{has_late, legal_agrees}
+use Rattle.axp_world.proofs.PlayedRecords.{actor_other, actor_own, shown}
+use Rattle.axp_world.proofs.RunOutcomes.{WantsTarget, answer, outcome_agrees}
+use Rattle.axp_world.proofs.RunWants.{intents_in_line, intents_name_targets}
+
+-- a processor keeps its number
+goes_on_as : (a : Actor) (e : Act) (r : Option Reply) → (advanced a e r).cpu ≡ a.cpu
+unfolding advanced
+goes_on_as a e r = refl
+
+pub actor_cpu : (image : Contents) (budget : ℕ) (h : List Record) (c : Cpu) → ((world image budget h).actors (cpu_number c)).cpu ≡ c
+actor_cpu image budget [] c = ap cpu_or_first (cpu_of_number c)
+actor_cpu image budget (r ∷ h) c =
+    let w : World = world image budget h in
+    ⊎_elim
+    (λ (own : eqb (cpu_number r.event.cpu) (cpu_number c) ≡ true). ap (λ (a : Actor). a.cpu) (actor_own image w r.event (cpu_number c) own) ∙ goes_on_as (w.actors (cpu_number c)) r.event.act (reply_at image w r.event) ∙ actor_cpu image budget h c)
+    (λ (other : eqb (cpu_number r.event.cpu) (cpu_number c) ≡ false). ap (λ (a : Actor). a.cpu) (actor_other image w r.event (cpu_number c) other) ∙ actor_cpu image budget h c)
+    (cases_Bool (eqb (cpu_number r.event.cpu) (cpu_number c)))
+
+-- a Take that is answered something has something late
+first_some : (pairs : List (Line × ℕ)) → (Some (first_late pairs) ≡ Some reply.Nothing → ⊥) → not (is_empty pairs) ≡ true
+first_some [] something = absurd (something refl)
+first_some (x ∷ pairs) something = refl
+
+take_some : (b : Bank) (image : ℕ → ℕ) (cs : List BusCall) (c : Cpu) (z : Ask2) → (answer image cs c z ≡ Some reply.Nothing → ⊥) → take_ask b ≡ Some z → not (is_empty (calls.late (cpu_number c) b cs)) ≡ true
+unfolding reply_by
+take_some Even image cs c z something is = let same : ask.Bus (request.Take Even) ≡ z = cc in first_some (calls.late (cpu_number c) Even cs) (subst (λ y. answer image cs c y ≡ Some reply.Nothing → ⊥) (sym same) something)
+take_some Odd image cs c z something is = let same : ask.Bus (request.Take Odd) ≡ z = cc in first_some (calls.late (cpu_number c) Odd cs) (subst (λ y. answer image cs c y ≡ Some reply.Nothing → ⊥) (sym same) something)
+take_some Code image cs c z something is = cc
+
+act_some : (a : Act) (i : Intent) (u : Kept) (image : ℕ → ℕ) (cs : List BusCall) (c : Cpu) (z : Ask2) → (answer image cs c z ≡ Some reply.Nothing → ⊥) → act_ask a i u ≡ Some z → has_late a cs (cpu_number c) ≡ true
+act_some (act.Take b) i u image cs c z something is = take_some b image cs c z something is
+act_some act.Step i u image cs c z something is = refl
+act_some act.Fill i u image cs c z something is = refl
+act_some (act.Drain k) i u image cs c z something is = refl
+act_some (act.Drop b line) i u image cs c z something is = refl
+act_some act.Poll i u image cs c z something is = refl
+act_some act.Tick i u image cs c z something is = refl
+
+-- what is asked
+asked_is : (a : Actor) (e : Act) (z : Ask2) → request_of a e ≡ Ok z → ask_of e (about a) a.kept ≡ Some z
+unfolding request_of
+asked_is a e z is = asked_ok (ask_of e (about a) a.kept) (is_built e a) z is
+
+-- what each processor has of the world, after a history
+pub record Agrees (image : Contents) (budget : ℕ) (h : List Record) (p : ℕ) : Type 0 where
+  pub buffer : BufferAgrees p h ((world image budget h).actors p).kept.buffer
+  pub banks : BanksAgree (image_bytes image) p h ((world image budget h).actors p).kept
+  pub since : SinceAgrees p h ((world image budget h).actors p).kept
+
+-- a played record is legal
+pub played_legal : (image : Contents) (cpus budget : ℕ) (r : Record) (h : List Record) → answer_of image cpus (world image budget h) r.event ≡ Ok r.outcome → Agrees image budget h (cpu_number r.event.cpu) → BusAgrees (image_bytes image) h (world image budget h).calls
+    → legal (intents image budget (cpu_number r.event.cpu) h) h r.event ≡ true
+unfolding legal
+played_legal image cpus budget r h played agrees bus =
+    let w : World = world image budget h in
+    let a : Actor = w.actors (cpu_number r.event.cpu) in
+    let s = shown image cpus w r.event r.outcome played in
+    let something : answer (image_bytes image) w.calls r.event.cpu s.ask ≡ Some reply.Nothing → ⊥ = λ x. s.something (s.answered ∙ x) in
+    let asks : is_some (ask_of r.event.act (about a) a.kept) ≡ true = ap is_some (asked_is a r.event.act s.ask s.asked) in
+    let late : has_late r.event.act w.calls (cpu_number r.event.cpu) ≡ true = act_some r.event.act (about a) a.kept (image_bytes image) w.calls r.event.cpu s.ask something (asked_act a r.event.act s.ask s.asked).0 in
+    sym (legal_agrees (image_bytes image) (cpu_number r.event.cpu) h (about a) a.kept w.calls r.event.act agrees.buffer agrees.banks agrees.since bus) ∙ rw (asks, late) refl
+
+-- and has its outcome
+pub played_outcome : (image : Contents) (cpus budget : ℕ) (r : Record) (h : List Record) → answer_of image cpus (world image budget h) r.event ≡ Ok r.outcome → Fitting h
+    → WantsInLine (intents image budget (cpu_number r.event.cpu) h).wanted → WantsTarget (intents image budget (cpu_number r.event.cpu) h).wanted
+    → Agrees image budget h (cpu_number r.event.cpu) → BusAgrees (image_bytes image) h (world image budget h).calls
+    → r.outcome ≡ model.outcome_of (image_bytes image) (intents image budget (cpu_number r.event.cpu) h) h r.event
+unfolding outcome_of going.outcome_of model.outcome_of legal
+played_outcome image cpus budget r h played fit inside target agrees bus =
+    let w : World = world image budget h in
+    let p : ℕ = cpu_number r.event.cpu in
+    let a : Actor = w.actors p in
+    let s = shown image cpus w r.event r.outcome played in
+    let something : answer (image_bytes image) w.calls r.event.cpu s.ask ≡ Some reply.Nothing → ⊥ = λ x. s.something (s.answered ∙ x) in
+    let able : may r.event.act (about a) p h ≡ true = (and_parts (may r.event.act (about a) p h) (may_now r.event.act (about a).finished (since_step is_fill p h)) (played_legal image cpus budget r h played agrees bus)).0 in
+    s.outcome
+    ∙ ap (going.outcome_by r.event.act a.cpu (about a) a.kept) s.answered
+    ∙ ap (λ c. going.outcome_by r.event.act c (about a) a.kept (answer (image_bytes image) w.calls r.event.cpu s.ask)) (actor_cpu image budget h r.event.cpu)
+    ∙ outcome_agrees (image_bytes image) h r.event.act r.event.cpu (about a) a.kept w.calls s.ask fit agrees.buffer agrees.banks bus inside target something (asked_act a r.event.act s.ask s.asked).0 able
+
+-- so a history goes on as a run
+pub played_is_run : (image : Contents) (cpus budget : ℕ) (r : Record) (h : List Record) → answer_of image cpus (world image budget h) r.event ≡ Ok r.outcome → Fitting h
+    → WantsInLine (intents image budget (cpu_number r.event.cpu) h).wanted → WantsTarget (intents image budget (cpu_number r.event.cpu) h).wanted
+    → Agrees image budget h (cpu_number r.event.cpu) → BusAgrees (image_bytes image) h (world image budget h).calls → IsRun (image_bytes image) (intents image budget) h
+    → IsRun (image_bytes image) (intents image budget) (r ∷ h)
+played_is_run image cpus budget r h played fit inside target agrees bus run =
+    (played_legal image cpus budget r h played agrees bus, played_outcome image cpus budget r h played fit inside target agrees bus, run)
+
+-- so does every played history over a valid image
+pub run_goes_on : (image : Contents) (cpus budget : ℕ) (r : Record) (h : List Record) → IsValid image → answer_of image cpus (world image budget h) r.event ≡ Ok r.outcome → Agrees image budget h (cpu_number r.event.cpu) → BusAgrees (image_bytes image) h (world image budget h).calls
+    → IsRun (image_bytes image) (intents image budget) h → IsRun (image_bytes image) (intents image budget) (r ∷ h)
+run_goes_on image cpus budget r h valid played agrees bus run =
+    let inside : AreInLine (intents image budget) = intents_in_line image budget valid in
+    played_is_run image cpus budget r h played (run_fits (image_bytes image) (intents image budget) h inside run) (inside (cpu_number r.event.cpu) h) (intents_name_targets image budget valid (cpu_number r.event.cpu) h) agrees bus run
