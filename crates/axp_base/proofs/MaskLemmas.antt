@@ -3,12 +3,20 @@ use Rattle.std.proofs.Common.{◌≡◌, ℕ, ◌+◌, ◌-◌, ◌*◌, ◌%◌
 use Rattle.std.proofs.lemmas.Nat.{shl_whole, one_shl, pow_pos}
 use Rattle.axp_base.specs.Masks.{IsSize, span_of}
 use Rattle.axp_base.specs.declared.lines.TheConstants.{LINE_BYTES}
+use Rattle.axp_base.specs.declared.parts.TheConstants.{QUADWORD_BYTES}
 
 pub ends_inside : (a s : ℕ) → IsSize s → a % s ≡ 0 → a % LINE_BYTES + s ≤ LINE_BYTES
 ends_inside a s (inl e) h = omega arith
 ends_inside a s (inr (inl e)) h = let k = rw e at h in omega arith
 ends_inside a s (inr (inr (inl e))) h = let k = rw e at h in omega arith
 ends_inside a s (inr (inr (inr e))) h = let k = rw e at h in omega arith
+
+-- an access lies in one aligned quadword
+pub ends_in_quadword : (a s : ℕ) → IsSize s → a % s ≡ 0 → a % QUADWORD_BYTES + s ≤ QUADWORD_BYTES
+ends_in_quadword a s (inl e) h = omega arith
+ends_in_quadword a s (inr (inl e)) h = let k = rw e at h in omega arith
+ends_in_quadword a s (inr (inr (inl e))) h = let k = rw e at h in omega arith
+ends_in_quadword a s (inr (inr (inr e))) h = let k = rw e at h in omega arith
 
 size_bounds : (s : ℕ) → IsSize s → (0 < s) × (s < 64)
 size_bounds s (inl e) = (omega arith, omega arith)

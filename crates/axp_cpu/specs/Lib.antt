@@ -5,6 +5,7 @@ pub mod Rows
 pub mod Refusals
 pub mod Phases
 pub mod Seats
+pub mod Following
 pub mod Soundness
 pub mod Stands
 pub mod Actors

@@ -2,6 +2,10 @@
 -- the entries that wait, the banks with what is held, the bus with turns, late pairs, locks and memory.
 use Rattle.std.specs.Prelude.{◌≡◌, ℕ, ◌-◌, ◌%◌, ◌==◌, ◌&&◌, Bool, true, false, List, [], ◌∷◌, map, length, slice_get, slice_index, Option, Some, None, is_some}
 use Rattle.std.specs.List.{find, list_any}
+use Rattle.axp_access.specs.declared.Intent.{Intent}
+use Rattle.axp_cpu.specs.Actors.{about}
+use Rattle.axp_image.specs.Contents.{Contents}
+use Rattle.axp_world.specs.Worlds.{world}
 use Rattle.axp_base.specs.Lines.{line_number}
 use Rattle.axp_base.specs.Masks.{has_bit}
 use Rattle.axp_base.specs.Parts.{byte}
@@ -30,8 +34,12 @@ use Rattle.axp_model.specs.Memory.{memory_byte, newest_waiting}
 use Rattle.axp_model.specs.Accesses.{accesses}
 use Rattle.axp_access.specs.Numbering.{Item, cpu_of}
 use Rattle.axp_access.specs.Kinds.{has_byte, is_memory_write}
-use Rattle.axp_model.specs.Records as records
+use Rattle.axp_base.specs.Lines as lines
 use Rattle.axp_model.specs.Turns.{turns, stamp, barrier, code_stamp}
+
+-- what a processor of the world is about to do after a history
+abbrev pub world_intent : Contents → ℕ → ℕ → List Record → Intent
+world_intent image budget p h = about ((world image budget h).actors p)
 
 -- an entry of the buffer is the one that waits under this number
 pub record IsEntryOf (e : Pending) (w : Waiting) : Type 0 where
@@ -66,8 +74,8 @@ byte_or (Some u) at other = byte u.access.value (at - u.access.address)
 -- what the entries of a buffer have of each byte of their lines
 pub record HasBytesOf (p : ℕ) (h : List Record) (e : Pending) : Type 0 where
   pub whole : length e.bytes ≡ LINE_BYTES
-  pub has : (at : ℕ) → records.line_of at ≡ e.line → has_bit e.bits (at % LINE_BYTES) ≡ is_some (newest_in p e.number at h)
-  pub bytes : (at : ℕ) → records.line_of at ≡ e.line → has_bit e.bits (at % LINE_BYTES) ≡ true → slice_index e.bytes (at % LINE_BYTES) ≡ byte_or (newest_in p e.number at h) at 0
+  pub has : (at : ℕ) → lines.line_of at ≡ e.line → has_bit e.bits (at % LINE_BYTES) ≡ is_some (newest_in p e.number at h)
+  pub bytes : (at : ℕ) → lines.line_of at ≡ e.line → has_bit e.bits (at % LINE_BYTES) ≡ true → slice_index e.bytes (at % LINE_BYTES) ≡ byte_or (newest_in p e.number at h) at 0
 
 -- what a processor's buffer is to the entries that wait
 pub record BufferAgrees (p : ℕ) (h : List Record) (b : pending.Buffer) : Type 0 where
@@ -78,12 +86,12 @@ pub record BufferAgrees (p : ℕ) (h : List Record) (b : pending.Buffer) : Type 
   pub closed : list_any (is_before b.newest) b.kept ≡ has_closed (buffer p h).age (buffer p h).waiting
   pub none : (length b.kept == 0) ≡ is_empty (buffer p h).waiting
   pub bytes : (k : ℕ) (e : Pending) → slice_get (oldest_group b.kept) k ≡ Some e → HasBytesOf p h e
-  pub over : (at : ℕ) (line : List ℕ) → length line ≡ LINE_BYTES → slice_index (overlaid (records.line_of at) b.kept line) (at % LINE_BYTES) ≡ byte_or (newest_waiting p at h) at (slice_index line (at % LINE_BYTES))
+  pub over : (at : ℕ) (line : List ℕ) → length line ≡ LINE_BYTES → slice_index (overlaid (lines.line_of at) b.kept line) (at % LINE_BYTES) ≡ byte_or (newest_waiting p at h) at (slice_index line (at % LINE_BYTES))
 
 -- the copy of a line has what memory had after so many turns
 abbrev pub HasMemory : (ℕ → ℕ) → List Record → ℕ → Option (ℕ × LineData) → ℕ → Type 0
 HasMemory image h l None turn = Unit {0}
-HasMemory image h l (Some (stamp, d)) turn = (stamp ≡ turn) × ((at : ℕ) → records.line_of at ≡ l → slice_index (bytes_of_line d) (at % LINE_BYTES) ≡ memory_byte image h turn at)
+HasMemory image h l (Some (stamp, d)) turn = (stamp ≡ turn) × ((at : ℕ) → lines.line_of at ≡ l → slice_index (bytes_of_line d) (at % LINE_BYTES) ≡ memory_byte image h turn at)
 
 -- what a processor's banks are to the lines that it holds
 pub record BanksAgree (image : ℕ → ℕ) (p : ℕ) (h : List Record) (k : Kept) : Type 0 where

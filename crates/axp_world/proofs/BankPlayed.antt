@@ -1,7 +1,10 @@
 -- The banks of a processor are the copies of the lines that it holds, by the history's words.
+use Rattle.axp_world.proofs.Agreement.{world_intent, BanksAgree, BusAgrees, HasMemory}
+use Rattle.axp_laws.proofs.RunRecords.{bank_own}
+use Rattle.axp_model.specs.Legal.{may_now}
+use Rattle.std.proofs.lemmas.Bool.{cases_Bool, eqb-true}
 use Rattle.std.proofs.Common.{◌≡◌, ℕ, Bool, true, false, cond, ◌&&◌, List, [], ◌∷◌, map, Option, Some, None, refl, sym, ap, ◌∙◌, subst, ⊎_elim}
 use Rattle.std.specs.Prelude.{Ok}
-use Rattle.std.proofs.lemmas.Bool.{cases_Bool, eqb-true}
 use Rattle.axp_access.specs.declared.Act.{Act}
 use Rattle.axp_access.specs.declared.Outcome.{Outcome}
 use Rattle.axp_access.specs.declared.Record.{Record}
@@ -22,15 +25,12 @@ use Rattle.axp_lsu.specs.Keeping.{Kept, data_copies}
 use Rattle.axp_lsu.specs.declared.asks.Ask2.{Ask2}
 use Rattle.axp_model.specs.Late.{code_copies, code_held, copies, held}
 use Rattle.axp_laws.specs.LateLaws.{ListsExactly}
-use Rattle.axp_model.specs.Legal.{may_now}
 use Rattle.axp_model.specs.Processors.{WantsInLine}
 use Rattle.axp_model.specs.Records.{by}
 use Rattle.axp_model.specs.Turns.{code_stamp, stamp}
 use Rattle.axp_laws.proofs.CopyLists.{code_copies_exactly, copies_exactly}
-use Rattle.axp_laws.proofs.RunRecords.{bank_own}
 use Rattle.axp_laws.proofs.RunFacts.{Fitting}
-use Rattle.axp_world.specs.Worlds.{World, answer_of, calls_for, image_bytes, intents, reply_at, reply_for, world}
-use Rattle.axp_world.proofs.Agreement.{BanksAgree, BusAgrees, HasMemory}
+use Rattle.axp_world.specs.Worlds.{World, answer_of, calls_for, image_bytes, reply_at, reply_for, world}
 use Rattle.axp_world.proofs.BankActs.{Goes, act_goes, of_act}
 use Rattle.axp_world.proofs.BankChanges.{held_in, is_held_by, shown_in}
 use Rattle.axp_world.proofs.BankLeaves.{other_leaves_barrier, other_leaves_code, other_leaves_data}
@@ -73,7 +73,7 @@ unfolding request_of ask_of
 act_asked a e q asks = may_act (may_now e (about a).finished a.kept.since.filled) (act_ask e (about a) a.kept) q (asked_act (ask_of e (about a) a.kept) (is_built e a) q asks)
 
 -- the processor that acted
-own_step : (image : Contents) (budget : ℕ) (r : Record) (h : List Record) → WantsInLine (intents image budget (cpu_number r.event.cpu) h).wanted → Shown image (world image budget h) r.event r.outcome → Fitting (r ∷ h)
+own_step : (image : Contents) (budget : ℕ) (r : Record) (h : List Record) → WantsInLine (world_intent image budget (cpu_number r.event.cpu) h).wanted → Shown image (world image budget h) r.event r.outcome → Fitting (r ∷ h)
     → BusAgrees (image_bytes image) h (world image budget h).calls → BusAgrees (image_bytes image) (r ∷ h) (world image budget (r ∷ h)).calls → Banked (image_bytes image) (cpu_number r.event.cpu) h ((world image budget h).actors (cpu_number r.event.cpu)).kept
     → Banked (image_bytes image) (cpu_number r.event.cpu) (r ∷ h) (advanced ((world image budget h).actors (cpu_number r.event.cpu)) r.event.act (reply_at image (world image budget h) r.event)).kept
 unfolding advanced going.advanced outcome_of going.outcome_of
@@ -94,7 +94,7 @@ other_step : (image : ℕ → ℕ) (p : ℕ) (r : Record) (h : List Record) (u :
 other_step image p r h u other fit was =
     nothing_changed image (r ∷ h) p r h u (other_leaves_data p r h other) (other_leaves_code p r h other) (other_leaves_barrier p r h other) (carried image p r h u fit was)
 
-pub banks_step : (image : Contents) (cpus budget : ℕ) (r : Record) (h : List Record) → WantsInLine (intents image budget (cpu_number r.event.cpu) h).wanted → answer_of image cpus (world image budget h) r.event ≡ Ok r.outcome → Fitting (r ∷ h)
+pub banks_step : (image : Contents) (cpus budget : ℕ) (r : Record) (h : List Record) → WantsInLine (world_intent image budget (cpu_number r.event.cpu) h).wanted → answer_of image cpus (world image budget h) r.event ≡ Ok r.outcome → Fitting (r ∷ h)
     → BusAgrees (image_bytes image) h (world image budget h).calls → BusAgrees (image_bytes image) (r ∷ h) (world image budget (r ∷ h)).calls
     → (p : ℕ) → Banked (image_bytes image) p h ((world image budget h).actors p).kept → Banked (image_bytes image) p (r ∷ h) ((world image budget (r ∷ h)).actors p).kept
 banks_step image cpus budget r h inside played fit before after p was =

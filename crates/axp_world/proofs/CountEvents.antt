@@ -70,7 +70,7 @@ first_counted image cpus budget =
     }
 
 -- the event's processor is one of those that are there
-numbered : (image : Contents) (cpus : ℕ) (w : World) (e : Event) (o : Outcome) → answer_of image cpus w e ≡ Ok o → cpu_number e.cpu < cpus
+pub numbered : (image : Contents) (cpus : ℕ) (w : World) (e : Event) (o : Outcome) → answer_of image cpus w e ≡ Ok o → cpu_number e.cpu < cpus
 unfolding answer_of
 numbered image cpus w e o h =
     ⊎_elim

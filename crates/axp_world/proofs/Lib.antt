@@ -39,6 +39,7 @@ pub mod BankPlayed
 pub mod BankRooms
 
 -- a played history is a run of the memory model
+pub mod RunSeats
 pub mod RunWants
 pub mod RunValues
 pub mod RunOutcomes

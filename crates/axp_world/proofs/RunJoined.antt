@@ -1,4 +1,11 @@
 -- Every played history is a run of the memory model, and the world after it is what the model says.
+use Rattle.axp_cpu.specs.Following.{processors, seat_in}
+use Rattle.axp_base.specs.declared.processors.TheConstants.{MAX_CPUS}
+use Rattle.axp_world.proofs.Agreement.{BusAgrees, SinceAgrees}
+use Rattle.axp_world.proofs.RunSeats.{cpu_small, seats_agree}
+use Rattle.axp_world.proofs.RunWants.{in_line, intents_in_line, intents_name_targets}
+use Rattle.axp_laws.proofs.RunRecords.{run_fits}
+use Rattle.axp_model.specs.Legal.{legal}
 use Rattle.std.proofs.Common.{◌≡◌, ℕ, ◌<◌, false, not, List, [], ◌∷◌, refl, sym, ap, ◌∙◌}
 use Rattle.std.specs.Prelude.{Result, Ok, Err}
 use Rattle.axp_access.specs.declared.Event.{Event}
@@ -8,44 +15,44 @@ use Rattle.axp_base.specs.Cpus.{cpu_number}
 use Rattle.axp_cpu.specs.declared.refusals.Refusal.{Refusal}
 use Rattle.axp_cpu.specs.declared.refusals.Refusal.TheVariants.{NotLegal, NotBuilt}
 use Rattle.axp_image.specs.Contents.{Contents, IsValid}
-use Rattle.axp_model.specs.Legal.{legal}
-use Rattle.axp_laws.proofs.RunRecords.{run_fits}
 use Rattle.axp_model.specs.Processors.{AreInLine}
 use Rattle.axp_model.specs.Outcomes.{IsRun, outcome_of}
 use Rattle.axp_world.specs.RunLaws.{IsBuilt, is_not_legal}
-use Rattle.axp_world.specs.Worlds.{IsPlayed, answer_of, image_bytes, intents, world}
-use Rattle.axp_world.proofs.Agreement.{BusAgrees, SinceAgrees}
+use Rattle.axp_world.specs.Worlds.{IsPlayed, answer_of, image_bytes, world}
 use Rattle.axp_world.proofs.BankPlayed.{Banked, banks_agree, banks_start, banks_step}
 use Rattle.axp_world.proofs.BufferPlayed.{IsBuffered, buffer_agrees, buffer_start, buffer_step}
 use Rattle.axp_world.proofs.BusRecords.{bus_start, bus_step}
 use Rattle.axp_world.proofs.RunRefusals.{refused_agrees}
 use Rattle.axp_world.proofs.RunPlayed.{Agrees, played_outcome, run_goes_on}
 use Rattle.axp_world.proofs.SinceSteps.{since_start, since_agrees_step}
-use Rattle.axp_world.proofs.RunWants.{intents_in_line, intents_name_targets}
 
 -- what the world after a history has of it
-pub record Joined (image : Contents) (budget : ℕ) (h : List Record) : Type 0 where
+pub record Joined (image : Contents) (cpus budget : ℕ) (h : List Record) : Type 0 where
+  pub seats : (p : ℕ) → p < MAX_CPUS → seat_in image budget p h ≡ ((world image budget h).actors p).seat
   pub buffers : (p : ℕ) → IsBuffered p h ((world image budget h).actors p).kept.buffer
   pub banks : (p : ℕ) → Banked (image_bytes image) p h ((world image budget h).actors p).kept
   pub since : (p : ℕ) → SinceAgrees p h ((world image budget h).actors p).kept
   pub bus : BusAgrees (image_bytes image) h (world image budget h).calls
-  pub run : IsRun (image_bytes image) (intents image budget) h
+  pub run : IsRun (image_bytes image) (processors image cpus budget) h
 
 -- so has each processor
-pub agrees : (image : Contents) (budget : ℕ) (h : List Record) → Joined image budget h → (p : ℕ) → Agrees image budget h p
-agrees image budget h is p = record {
+pub agrees : (image : Contents) (cpus budget : ℕ) (h : List Record) → Joined image cpus budget h → (p : ℕ) → p < MAX_CPUS → Agrees image budget h p
+agrees image cpus budget h is p less = record {
+  seat = is.seats p less;
   buffer = buffer_agrees p h ((world image budget h).actors p).kept.buffer (is.buffers p);
   banks = banks_agree (image_bytes image) p h ((world image budget h).actors p).kept (is.banks p);
   since = is.since p;
 }
 
-joined_step : (image : Contents) (cpus budget : ℕ) (r : Record) (h : List Record) → IsValid image → answer_of image cpus (world image budget h) r.event ≡ Ok r.outcome → Joined image budget h → Joined image budget (r ∷ h)
-joined_step image cpus budget r h valid played is =
+joined_step : (image : Contents) (cpus budget : ℕ) (r : Record) (h : List Record) → IsValid image → IsPlayed image cpus budget (r ∷ h) → Joined image cpus budget h → Joined image cpus budget (r ∷ h)
+joined_step image cpus budget r h valid plays is =
     let p : ℕ = cpu_number r.event.cpu in
-    let run : IsRun (image_bytes image) (intents image budget) (r ∷ h) = run_goes_on image cpus budget r h valid played (agrees image budget h is p) is.bus is.run in
-    let fit = run_fits (image_bytes image) (intents image budget) (r ∷ h) (intents_in_line image budget valid) run in
-    let bus : BusAgrees (image_bytes image) (r ∷ h) (world image budget (r ∷ h)).calls = bus_step image cpus budget r h played fit (agrees image budget h is p).buffer is.bus in
+    let played : answer_of image cpus (world image budget h) r.event ≡ Ok r.outcome = plays.0 in
+    let run : IsRun (image_bytes image) (processors image cpus budget) (r ∷ h) = run_goes_on image cpus budget r h valid played (agrees image cpus budget h is p (cpu_small r.event.cpu)) is.bus is.run in
+    let fit = run_fits (image_bytes image) (processors image cpus budget) (r ∷ h) (in_line image cpus budget valid) run in
+    let bus : BusAgrees (image_bytes image) (r ∷ h) (world image budget (r ∷ h)).calls = bus_step image cpus budget r h played fit (agrees image cpus budget h is p (cpu_small r.event.cpu)).buffer is.bus in
     record {
+      seats = seats_agree image cpus budget (r ∷ h) plays;
       buffers = buffer_step image cpus budget r h played fit is.buffers;
       banks = λ q. banks_step image cpus budget r h (intents_in_line image budget valid p h) played fit is.bus bus q (is.banks q);
       since = λ q. since_agrees_step image budget r h q (is.since q);
@@ -53,40 +60,41 @@ joined_step image cpus budget r h valid played is =
       run = run;
     }
 
-pub joined : (image : Contents) (cpus budget : ℕ) (h : List Record) → IsValid image → IsPlayed image cpus budget h → Joined image budget h
+pub joined : (image : Contents) (cpus budget : ℕ) (h : List Record) → IsValid image → IsPlayed image cpus budget h → Joined image cpus budget h
 joined image cpus budget [] valid played = record {
+  seats = seats_agree image cpus budget [] played;
   buffers = buffer_start image budget;
   banks = banks_start image budget;
   since = since_start image budget;
   bus = bus_start (image_bytes image);
   run = tt;
 }
-joined image cpus budget (r ∷ h) valid played = joined_step image cpus budget r h valid played.0 (joined image cpus budget h valid played.1)
+joined image cpus budget (r ∷ h) valid played = joined_step image cpus budget r h valid played (joined image cpus budget h valid played.1)
 
 -- an event is refused as not legal exactly where it is not
-pub refused : (image : Contents) (cpus budget : ℕ) (h : List Record) (e : Event) → IsValid image → IsPlayed image cpus budget h → cpu_number e.cpu < cpus
-    → is_not_legal (answer_of image cpus (world image budget h) e) ≡ not (legal (intents image budget (cpu_number e.cpu) h) h e)
-refused image cpus budget h e valid played below =
-    let is : Joined image budget h = joined image cpus budget h valid played in
-    refused_agrees image cpus budget h e below (agrees image budget h is (cpu_number e.cpu)) is.bus
+pub refused : (image : Contents) (cpus budget : ℕ) (h : List Record) (e : Event) → IsValid image → IsPlayed image cpus budget h
+    → is_not_legal (answer_of image cpus (world image budget h) e) ≡ not (legal (processors image cpus budget) h e)
+refused image cpus budget h e valid played =
+    let is : Joined image cpus budget h = joined image cpus budget h valid played in
+    refused_agrees image cpus budget h e (agrees image cpus budget h is (cpu_number e.cpu) (cpu_small e.cpu)) is.bus
 
 -- a legal event that comes to nothing that is not built has the model's outcome
-answered_by : (image : Contents) (cpus budget : ℕ) (r : Record) (h : List Record) (a : Result Outcome Refusal) → IsValid image → Joined image budget h → answer_of image cpus (world image budget h) r.event ≡ a
-    → is_not_legal a ≡ false → (a ≡ Err NotBuilt → ⊥) → r.outcome ≡ outcome_of (image_bytes image) (intents image budget (cpu_number r.event.cpu) h) h r.event → a ≡ Ok r.outcome
+answered_by : (image : Contents) (cpus budget : ℕ) (r : Record) (h : List Record) (a : Result Outcome Refusal) → IsValid image → Joined image cpus budget h → answer_of image cpus (world image budget h) r.event ≡ a
+    → is_not_legal a ≡ false → (a ≡ Err NotBuilt → ⊥) → r.outcome ≡ outcome_of (image_bytes image) (processors image cpus budget) h r.event → a ≡ Ok r.outcome
 answered_by image cpus budget r h (Ok o) valid is answer able built same =
-    let inside : AreInLine (intents image budget) = intents_in_line image budget valid in
-    let fit = run_fits (image_bytes image) (intents image budget) h inside is.run in
+    let inside : AreInLine (processors image cpus budget) = in_line image cpus budget valid in
+    let fit = run_fits (image_bytes image) (processors image cpus budget) h inside is.run in
     let p : ℕ = cpu_number r.event.cpu in
-    let says : o ≡ outcome_of (image_bytes image) (intents image budget p h) h r.event =
-    played_outcome image cpus budget (record { event = r.event; outcome = o }) h answer fit (inside p h) (intents_name_targets image budget valid p h) (agrees image budget h is p) is.bus in
+    let says : o ≡ outcome_of (image_bytes image) (processors image cpus budget) h r.event =
+    played_outcome image cpus budget (record { event = r.event; outcome = o }) h answer fit (intents_in_line image budget valid p h) (intents_name_targets image budget valid p h) (agrees image cpus budget h is p (cpu_small r.event.cpu)) is.bus in
     ap (λ (x : Outcome). Ok x) (says ∙ sym same)
 answered_by image cpus budget r h (Err NotLegal) valid is answer able built same = cc
 answered_by image cpus budget r h (Err NotBuilt) valid is answer able built same = absurd (built refl)
 
-pub runs_are_played : (image : Contents) (cpus budget : ℕ) (h : List Record) → IsValid image → IsRun (image_bytes image) (intents image budget) h → IsBuilt image cpus budget h → IsPlayed image cpus budget h
+pub runs_are_played : (image : Contents) (cpus budget : ℕ) (h : List Record) → IsValid image → IsRun (image_bytes image) (processors image cpus budget) h → IsBuilt image cpus budget h → IsPlayed image cpus budget h
 runs_are_played image cpus budget [] valid run built = tt
 runs_are_played image cpus budget (r ∷ h) valid run built =
-    let played : IsPlayed image cpus budget h = runs_are_played image cpus budget h valid run.2 built.2 in
-    let is : Joined image budget h = joined image cpus budget h valid played in
-    let able : is_not_legal (answer_of image cpus (world image budget h) r.event) ≡ false = refused image cpus budget h r.event valid played built.0 ∙ ap not run.0 in
-    (answered_by image cpus budget r h (answer_of image cpus (world image budget h) r.event) valid is refl able built.1 run.1, played)
+    let played : IsPlayed image cpus budget h = runs_are_played image cpus budget h valid run.2 built.1 in
+    let is : Joined image cpus budget h = joined image cpus budget h valid played in
+    let able : is_not_legal (answer_of image cpus (world image budget h) r.event) ≡ false = refused image cpus budget h r.event valid played ∙ ap not run.0 in
+    (answered_by image cpus budget r h (answer_of image cpus (world image budget h) r.event) valid is refl able built.0 run.1, played)

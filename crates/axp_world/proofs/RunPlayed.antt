@@ -1,7 +1,16 @@
 -- A record that was played is legal after those before it, and has its outcome by the memory model.
+use Rattle.axp_cpu.specs.Following.{processors, seat_in}
+use Rattle.axp_cpu.specs.Seats.{intent_of}
+use Rattle.axp_access.specs.declared.Intent.{Intent}
+use Rattle.axp_world.proofs.Agreement.{world_intent, BanksAgree, BufferAgrees, BusAgrees, SinceAgrees}
+use Rattle.axp_world.proofs.RunSeats.{legal_by}
+use Rattle.axp_world.proofs.RunWants.{in_line, intents_in_line, intents_name_targets}
+use Rattle.axp_world.proofs.CountEvents.{numbered}
+use Rattle.axp_laws.proofs.RunRecords.{legal_parts, run_fits}
+use Rattle.axp_model.specs.Legal.{may_act, legal, may, may_now, since_step}
+use Rattle.std.proofs.lemmas.Bool.{lt-ltb, cases_Bool, and_parts}
 use Rattle.std.proofs.Common.{true, false, ℕ, ◌≡◌, ⊎_elim, eqb, not, List, [], ◌∷◌, Option, Some, is_some, refl, sym, ap, ◌∙◌, subst}
 use Rattle.std.specs.Prelude.{Ok}
-use Rattle.std.proofs.lemmas.Bool.{cases_Bool, and_parts}
 use Rattle.axp_base.specs.Cpus.{cpu_number}
 use Rattle.axp_base.specs.declared.lines.Bank.{Bank}
 use Rattle.axp_base.specs.declared.lines.Bank.TheVariants.{Even, Odd, Code}
@@ -10,7 +19,6 @@ use Rattle.axp_base.specs.declared.processors.Cpu.{Cpu}
 use Rattle.axp_base.proofs.CpuLemmas.{cpu_of_number}
 use Rattle.axp_access.specs.declared.Act.{Act}
 use Rattle.axp_access.specs.declared.Act.TheVariants as act
-use Rattle.axp_access.specs.declared.Intent.{Intent}
 use Rattle.axp_access.specs.declared.Record.{Record}
 use Rattle.axp_cpu.specs.Actors.{Actor, about, advanced, is_built, outcome_of, request_of}
 use Rattle.axp_image.specs.Contents.{Contents, IsValid}
@@ -25,21 +33,17 @@ use Rattle.axp_lsu.specs.Keeping.{Kept}
 use Rattle.axp_line.specs.BusCalls as calls
 use Rattle.axp_line.specs.BusCalls.{BusCall}
 use Rattle.axp_line.specs.BusReply.{first_late, reply_by}
-use Rattle.axp_model.specs.Legal.{legal, may, may_now, since_step}
 use Rattle.axp_base.specs.Lists.{is_empty}
 use Rattle.axp_access.specs.Acts.{is_fill}
 use Rattle.axp_model.specs.Processors.{AreInLine, WantsInLine}
 use Rattle.axp_model.specs.Outcomes as model
 use Rattle.axp_model.specs.Outcomes.{IsRun}
-use Rattle.axp_laws.proofs.RunRecords.{run_fits}
 use Rattle.axp_laws.proofs.RunFacts.{Fitting}
-use Rattle.axp_world.specs.Worlds.{World, answer_of, cpu_or_first, image_bytes, intents, reply_at, world}
-use Rattle.axp_world.proofs.Agreement.{BanksAgree, BufferAgrees, BusAgrees, SinceAgrees}
+use Rattle.axp_world.specs.Worlds.{World, answer_of, cpu_or_first, image_bytes, reply_at, world}
 use Rattle.axp_world.proofs.BusRecords.{asked_act, asked_ok}
 use Rattle.axp_world.proofs.RunLegality.{has_late, legal_agrees}
 use Rattle.axp_world.proofs.PlayedRecords.{actor_other, actor_own, shown}
 use Rattle.axp_world.proofs.RunOutcomes.{WantsTarget, answer, outcome_agrees}
-use Rattle.axp_world.proofs.RunWants.{intents_in_line, intents_name_targets}
 
 -- a processor keeps its number
 goes_on_as : (a : Actor) (e : Act) (r : Option Reply) → (advanced a e r).cpu ≡ a.cpu
@@ -82,14 +86,14 @@ asked_is a e z is = asked_ok (ask_of e (about a) a.kept) (is_built e a) z is
 
 -- what each processor has of the world, after a history
 pub record Agrees (image : Contents) (budget : ℕ) (h : List Record) (p : ℕ) : Type 0 where
+  pub seat : seat_in image budget p h ≡ ((world image budget h).actors p).seat
   pub buffer : BufferAgrees p h ((world image budget h).actors p).kept.buffer
   pub banks : BanksAgree (image_bytes image) p h ((world image budget h).actors p).kept
   pub since : SinceAgrees p h ((world image budget h).actors p).kept
 
 -- a played record is legal
 pub played_legal : (image : Contents) (cpus budget : ℕ) (r : Record) (h : List Record) → answer_of image cpus (world image budget h) r.event ≡ Ok r.outcome → Agrees image budget h (cpu_number r.event.cpu) → BusAgrees (image_bytes image) h (world image budget h).calls
-    → legal (intents image budget (cpu_number r.event.cpu) h) h r.event ≡ true
-unfolding legal
+    → legal (processors image cpus budget) h r.event ≡ true
 played_legal image cpus budget r h played agrees bus =
     let w : World = world image budget h in
     let a : Actor = w.actors (cpu_number r.event.cpu) in
@@ -97,37 +101,41 @@ played_legal image cpus budget r h played agrees bus =
     let something : answer (image_bytes image) w.calls r.event.cpu s.ask ≡ Some reply.Nothing → ⊥ = λ x. s.something (s.answered ∙ x) in
     let asks : is_some (ask_of r.event.act (about a) a.kept) ≡ true = ap is_some (asked_is a r.event.act s.ask s.asked) in
     let late : has_late r.event.act w.calls (cpu_number r.event.cpu) ≡ true = act_some r.event.act (about a) a.kept (image_bytes image) w.calls r.event.cpu s.ask something (asked_act a r.event.act s.ask s.asked).0 in
-    sym (legal_agrees (image_bytes image) (cpu_number r.event.cpu) h (about a) a.kept w.calls r.event.act agrees.buffer agrees.banks agrees.since bus) ∙ rw (asks, late) refl
+    legal_by (processors image cpus budget) h r.event (about a) (numbered image cpus w r.event r.outcome played) (ap intent_of agrees.seat)
+    ∙ (sym (legal_agrees (image_bytes image) (cpu_number r.event.cpu) h (about a) a.kept w.calls r.event.act agrees.buffer agrees.banks agrees.since bus) ∙ rw (asks, late) refl)
 
 -- and has its outcome
 pub played_outcome : (image : Contents) (cpus budget : ℕ) (r : Record) (h : List Record) → answer_of image cpus (world image budget h) r.event ≡ Ok r.outcome → Fitting h
-    → WantsInLine (intents image budget (cpu_number r.event.cpu) h).wanted → WantsTarget (intents image budget (cpu_number r.event.cpu) h).wanted
+    → WantsInLine (world_intent image budget (cpu_number r.event.cpu) h).wanted → WantsTarget (world_intent image budget (cpu_number r.event.cpu) h).wanted
     → Agrees image budget h (cpu_number r.event.cpu) → BusAgrees (image_bytes image) h (world image budget h).calls
-    → r.outcome ≡ model.outcome_of (image_bytes image) (intents image budget (cpu_number r.event.cpu) h) h r.event
-unfolding outcome_of going.outcome_of model.outcome_of legal
+    → r.outcome ≡ model.outcome_of (image_bytes image) (processors image cpus budget) h r.event
+unfolding outcome_of going.outcome_of model.outcome_of
 played_outcome image cpus budget r h played fit inside target agrees bus =
     let w : World = world image budget h in
     let p : ℕ = cpu_number r.event.cpu in
     let a : Actor = w.actors p in
     let s = shown image cpus w r.event r.outcome played in
     let something : answer (image_bytes image) w.calls r.event.cpu s.ask ≡ Some reply.Nothing → ⊥ = λ x. s.something (s.answered ∙ x) in
-    let able : may r.event.act (about a) p h ≡ true = (and_parts (may r.event.act (about a) p h) (may_now r.event.act (about a).finished (since_step is_fill p h)) (played_legal image cpus budget r h played agrees bus)).0 in
+    let own : may_act r.event.act (about a) p h ≡ true =
+    sym (legal_by (processors image cpus budget) h r.event (about a) (numbered image cpus w r.event r.outcome played) (ap intent_of agrees.seat)) ∙ played_legal image cpus budget r h played agrees bus in
+    let able : may r.event.act (about a) p h ≡ true = (and_parts (may r.event.act (about a) p h) (may_now r.event.act (about a).finished (since_step is_fill p h)) own).0 in
     s.outcome
     ∙ ap (going.outcome_by r.event.act a.cpu (about a) a.kept) s.answered
     ∙ ap (λ c. going.outcome_by r.event.act c (about a) a.kept (answer (image_bytes image) w.calls r.event.cpu s.ask)) (actor_cpu image budget h r.event.cpu)
     ∙ outcome_agrees (image_bytes image) h r.event.act r.event.cpu (about a) a.kept w.calls s.ask fit agrees.buffer agrees.banks bus inside target something (asked_act a r.event.act s.ask s.asked).0 able
+    ∙ ap (λ i. model.outcome_by r.event.act (image_bytes image) i r.event.cpu h) (sym (ap intent_of agrees.seat))
 
 -- so a history goes on as a run
 pub played_is_run : (image : Contents) (cpus budget : ℕ) (r : Record) (h : List Record) → answer_of image cpus (world image budget h) r.event ≡ Ok r.outcome → Fitting h
-    → WantsInLine (intents image budget (cpu_number r.event.cpu) h).wanted → WantsTarget (intents image budget (cpu_number r.event.cpu) h).wanted
-    → Agrees image budget h (cpu_number r.event.cpu) → BusAgrees (image_bytes image) h (world image budget h).calls → IsRun (image_bytes image) (intents image budget) h
-    → IsRun (image_bytes image) (intents image budget) (r ∷ h)
+    → WantsInLine (world_intent image budget (cpu_number r.event.cpu) h).wanted → WantsTarget (world_intent image budget (cpu_number r.event.cpu) h).wanted
+    → Agrees image budget h (cpu_number r.event.cpu) → BusAgrees (image_bytes image) h (world image budget h).calls → IsRun (image_bytes image) (processors image cpus budget) h
+    → IsRun (image_bytes image) (processors image cpus budget) (r ∷ h)
 played_is_run image cpus budget r h played fit inside target agrees bus run =
     (played_legal image cpus budget r h played agrees bus, played_outcome image cpus budget r h played fit inside target agrees bus, run)
 
 -- so does every played history over a valid image
 pub run_goes_on : (image : Contents) (cpus budget : ℕ) (r : Record) (h : List Record) → IsValid image → answer_of image cpus (world image budget h) r.event ≡ Ok r.outcome → Agrees image budget h (cpu_number r.event.cpu) → BusAgrees (image_bytes image) h (world image budget h).calls
-    → IsRun (image_bytes image) (intents image budget) h → IsRun (image_bytes image) (intents image budget) (r ∷ h)
+    → IsRun (image_bytes image) (processors image cpus budget) h → IsRun (image_bytes image) (processors image cpus budget) (r ∷ h)
 run_goes_on image cpus budget r h valid played agrees bus run =
-    let inside : AreInLine (intents image budget) = intents_in_line image budget valid in
-    played_is_run image cpus budget r h played (run_fits (image_bytes image) (intents image budget) h inside run) (inside (cpu_number r.event.cpu) h) (intents_name_targets image budget valid (cpu_number r.event.cpu) h) agrees bus run
+    let inside : AreInLine (processors image cpus budget) = in_line image cpus budget valid in
+    played_is_run image cpus budget r h played (run_fits (image_bytes image) (processors image cpus budget) h inside run) (intents_in_line image budget valid (cpu_number r.event.cpu) h) (intents_name_targets image budget valid (cpu_number r.event.cpu) h) agrees bus run

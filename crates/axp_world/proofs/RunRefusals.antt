@@ -1,7 +1,12 @@
 -- An event is refused as not legal exactly where the memory model says that it is not.
-use Rattle.std.proofs.Common.{true, false, ℕ, ◌<◌, ◌≡◌, cond, Bool, not, ◌&&◌, List, [], ◌∷◌, slice_get, Option, Some, None, is_some, refl, sym, ap, ◌∙◌}
+use Rattle.axp_cpu.specs.Following.{processors}
+use Rattle.axp_cpu.specs.Seats.{intent_of}
+use Rattle.axp_access.specs.declared.Intent.{Intent}
+use Rattle.axp_world.proofs.Agreement.{BusAgrees}
+use Rattle.axp_model.specs.Legal.{legal, may_now}
+use Rattle.std.proofs.lemmas.Bool.{cases_Bool, ltb-true, lt-ltb, false≢true}
+use Rattle.std.proofs.Common.{ltb, ⊎_elim, true, false, ℕ, ◌<◌, ◌≡◌, cond, Bool, not, ◌&&◌, List, [], ◌∷◌, slice_get, Option, Some, None, is_some, refl, sym, ap, ◌∙◌}
 use Rattle.std.specs.Prelude.{Ok}
-use Rattle.std.proofs.lemmas.Bool.{lt-ltb, false≢true}
 use Rattle.axp_bank.specs.Copies.{is_held}
 use Rattle.axp_base.specs.Cpus.{cpu_number, cpu_of}
 use Rattle.axp_base.specs.Lines.{line_number, line_at, line_numbered, line_of}
@@ -12,7 +17,6 @@ use Rattle.axp_base.specs.declared.processors.Cpu.{Cpu}
 use Rattle.axp_access.specs.declared.Act.{Act}
 use Rattle.axp_access.specs.declared.Act.TheVariants as act
 use Rattle.axp_access.specs.declared.Event.{Event}
-use Rattle.axp_access.specs.declared.Intent.{Intent}
 use Rattle.axp_access.specs.declared.Outcome.{Outcome}
 use Rattle.axp_access.specs.declared.Record.{Record}
 use Rattle.axp_access.specs.declared.Wanted.{Wanted}
@@ -31,17 +35,16 @@ use Rattle.axp_lsu.specs.Keeping.{Kept, copies_of, data_copies, has_dropped}
 use Rattle.axp_line.specs.BusCalls as calls
 use Rattle.axp_line.specs.BusCalls.{BusCall, Written}
 use Rattle.axp_line.specs.BusReply.{Front, first_late, reply_by, tried}
-use Rattle.axp_model.specs.Legal.{legal, may_now}
 use Rattle.axp_base.specs.Lists.{is_empty}
 use Rattle.axp_regs.specs.declared.asks.Kind.{Kind}
 use Rattle.axp_regs.specs.declared.asks.Kind.TheVariants as kind
 use Rattle.axp_wbuf.specs.Drains.{oldest_group}
 use Rattle.axp_wbuf.specs.Pending.{Pending}
 use Rattle.axp_world.specs.RunLaws.{is_not_legal}
-use Rattle.axp_world.specs.Worlds.{World, answer_by, answer_of, image_bytes, intents, reply_at, reply_for, world}
-use Rattle.axp_world.proofs.Agreement.{BusAgrees}
+use Rattle.axp_world.specs.Worlds.{World, answer_by, answer_of, image_bytes, reply_at, reply_for, world}
 use Rattle.axp_world.proofs.BusRecords.{some_if}
 use Rattle.axp_world.proofs.RunLegality.{has_late, legal_agrees}
+use Rattle.axp_world.proofs.RunSeats.{legal_by}
 use Rattle.axp_world.proofs.RunPlayed.{Agrees}
 use Rattle.axp_world.proofs.RunOutcomes.{answer}
 
@@ -145,13 +148,24 @@ ask_act : (now : Bool) (o : Option Ask2) (z : Ask2) → cond now o None ≡ Some
 ask_act true o z is = is
 ask_act false o z is = cc
 
-pub refused_agrees : (image : Contents) (cpus budget : ℕ) (h : List Record) (e : Event) → cpu_number e.cpu < cpus → Agrees image budget h (cpu_number e.cpu) → BusAgrees (image_bytes image) h (world image budget h).calls
-    → is_not_legal (answer_of image cpus (world image budget h) e) ≡ not (legal (intents image budget (cpu_number e.cpu) h) h e)
-unfolding answer_of request_of ask_of legal
-refused_agrees image cpus budget h e below agrees bus =
+below_agrees : (image : Contents) (cpus budget : ℕ) (h : List Record) (e : Event) → cpu_number e.cpu < cpus → Agrees image budget h (cpu_number e.cpu) → BusAgrees (image_bytes image) h (world image budget h).calls
+    → is_not_legal (answer_of image cpus (world image budget h) e) ≡ not (legal (processors image cpus budget) h e)
+unfolding answer_of request_of ask_of
+below_agrees image cpus budget h e below agrees bus =
     let w : World = world image budget h in
     let a : Actor = w.actors (cpu_number e.cpu) in
     rw (lt-ltb (cpu_number e.cpu) cpus below)
     (by_ask (ask_of e.act (about a) a.kept) (is_built e.act a) (has_late e.act w.calls (cpu_number e.cpu)) (image_bytes image) w.calls e.cpu (outcome_of a e.act (reply_at image w e)) (unbuilt_late e.act a w.calls (cpu_number e.cpu))
     (λ z is. act_nothing e.act (about a) a.kept (image_bytes image) w.calls e.cpu z (ask_act (may_now e.act (about a).finished a.kept.since.filled) (act_ask e.act (about a) a.kept) z is))
-    ∙ ap not (legal_agrees (image_bytes image) (cpu_number e.cpu) h (about a) a.kept w.calls e.act agrees.buffer agrees.banks agrees.since bus))
+    ∙ ap not (legal_agrees (image_bytes image) (cpu_number e.cpu) h (about a) a.kept w.calls e.act agrees.buffer agrees.banks agrees.since bus)
+    ∙ ap not (sym (legal_by (processors image cpus budget) h e (about a) below (ap intent_of agrees.seat))))
+
+-- an event of a processor that there is not is not legal
+pub refused_agrees : (image : Contents) (cpus budget : ℕ) (h : List Record) (e : Event) → Agrees image budget h (cpu_number e.cpu) → BusAgrees (image_bytes image) h (world image budget h).calls
+    → is_not_legal (answer_of image cpus (world image budget h) e) ≡ not (legal (processors image cpus budget) h e)
+unfolding answer_of legal
+refused_agrees image cpus budget h e agrees bus =
+    ⊎_elim
+    (λ (below : ltb (cpu_number e.cpu) cpus ≡ true). below_agrees image cpus budget h e (ltb-true (cpu_number e.cpu) cpus below) agrees bus)
+    (λ (above : ltb (cpu_number e.cpu) cpus ≡ false). rw above refl)
+    (cases_Bool (ltb (cpu_number e.cpu) cpus))

@@ -1,16 +1,22 @@
 -- What processors want along a history lies in lines, and names processors.
 use Rattle.std.proofs.Common.{true, false, ℕ, ◌%◌, ◌≤◌, ◌≡◌, ⊎_elim, eqb, cond, Bool, List, [], ◌∷◌, ◌++◌, Option, Some, None, refl, sym, subst, arith}
-use Rattle.std.proofs.lemmas.Bool.{cases_Bool}
+use Rattle.std.proofs.lemmas.Bool.{cases_Bool, cond_both}
 use Rattle.axp_base.specs.Cpus.{cpu_number, cpu_of}
-use Rattle.axp_base.proofs.MaskLemmas.{ends_inside}
+use Rattle.axp_base.proofs.MaskLemmas.{ends_in_quadword, ends_inside}
 use Rattle.axp_access.specs.declared.Act.{Act}
 use Rattle.axp_access.specs.declared.Act.TheVariants as act
 use Rattle.axp_access.specs.declared.Record.{Record}
 use Rattle.axp_access.specs.declared.Wanted.{Wanted}
 use Rattle.axp_cpu.specs.Actors.{Actor, about, advanced, moved_by, seat_after}
+use Rattle.axp_access.specs.declared.Outcome.{Outcome}
+use Rattle.axp_access.specs.declared.Outcome.TheVariants as outcome
+use Rattle.axp_cpu.specs.Following as following
+use Rattle.axp_cpu.specs.Following.{processors, seat_after_step, seat_in, value_shown}
+use Rattle.axp_model.specs.Records.{by}
+use Rattle.axp_world.proofs.Agreement.{world_intent}
 use Rattle.axp_cpu.specs.Plans.{Plan, End, Want, Unbuilt, along}
 use Rattle.axp_cpu.specs.Rows.{group}
-use Rattle.axp_cpu.specs.Seats.{Seat, first_seat, first_table, is_finished, moved, plan_now, wanted, wanted_by}
+use Rattle.axp_cpu.specs.Seats.{Seat, first_seat, first_table, is_finished, moved, plan_now, stepped, wanted, wanted_by}
 use Rattle.axp_cpu.specs.Soundness.{IsSound, IsSoundAs}
 use Rattle.axp_cpu.proofs.PlanLemmas.{along_sound, group_sound}
 use Rattle.axp_cpu.proofs.SeatLemmas.{first_stands}
@@ -24,7 +30,7 @@ use Rattle.axp_access.specs.Kinds.{is_poll}
 use Rattle.axp_regs.specs.States.{pc_of}
 use Rattle.axp_regs.specs.declared.asks.Kind.{Kind}
 use Rattle.axp_regs.specs.declared.asks.Kind.TheVariants as kind
-use Rattle.axp_world.specs.Worlds.{World, cpu_or_first, intents, reply_at, world}
+use Rattle.axp_world.specs.Worlds.{World, cpu_or_first, reply_at, world}
 use Rattle.axp_world.proofs.PlayedRecords.{actor_other, actor_own}
 use Rattle.axp_world.proofs.RunOutcomes.{WantsTarget}
 
@@ -74,10 +80,10 @@ seated image budget valid (r ∷ h) p =
 memory_in_line : (size : ℕ) (w : Wanted) → size ≤ MAX_MEMORY → IsInMemory size w → IsInLine w.address w.size
 memory_in_line size w most inside =
     let within = inside.within in
-    record { within = ends_inside w.address w.size inside.sized inside.aligned; addressed = omega (arith, most, within) }
+    record { quadword = ends_in_quadword w.address w.size inside.sized inside.aligned; within = ends_inside w.address w.size inside.sized inside.aligned; addressed = omega (arith, most, within) }
 
 bare_in_line : (a s : ℕ) → a ≡ 0 → s ≡ 0 → IsInLine a s
-bare_in_line a s address size = record { within = omega (arith, address, size); addressed = omega (arith, address) }
+bare_in_line a s address size = record { quadword = omega (arith, address, size); within = omega (arith, address, size); addressed = omega (arith, address) }
 
 kind_in_line : (k : Kind) (size : ℕ) (w : Wanted) → size ≤ MAX_MEMORY → IsSoundAs size k w → IsInLine w.address w.size
 kind_in_line kind.Fetch size w most sound = memory_in_line size w most sound.inside
@@ -128,11 +134,34 @@ seat_wants s seated = by_finished (is_finished s) (wanted_by (plan_now s)) (plan
   by_finished true o wants = (tt, tt, refl)
   by_finished false o wants = wants
 
-pub intents_in_line : (image : Contents) (budget : ℕ) → IsValid image → AreInLine (intents image budget)
+pub intents_in_line : (image : Contents) (budget : ℕ) → IsValid image → (p : ℕ) (h : List Record) → WantsInLine (world_intent image budget p h).wanted
 intents_in_line image budget valid p h = (seat_wants ((world image budget h).actors p).seat (seated image budget valid h p)).0
 
-pub intents_name_targets : (image : Contents) (budget : ℕ) → IsValid image → (p : ℕ) (h : List Record) → WantsTarget (intents image budget p h).wanted
+pub intents_name_targets : (image : Contents) (budget : ℕ) → IsValid image → (p : ℕ) (h : List Record) → WantsTarget (world_intent image budget p h).wanted
 intents_name_targets image budget valid p h = (seat_wants ((world image budget h).actors p).seat (seated image budget valid h p)).1
 
-pub intents_want_no_poll : (image : Contents) (budget : ℕ) → IsValid image → (p : ℕ) (h : List Record) → wants_poll (intents image budget p h).wanted ≡ false
+pub intents_want_no_poll : (image : Contents) (budget : ℕ) → IsValid image → (p : ℕ) (h : List Record) → wants_poll (world_intent image budget p h).wanted ≡ false
 intents_want_no_poll image budget valid p h = (seat_wants ((world image budget h).actors p).seat (seated image budget valid h p)).2
+
+-- the same by the records alone
+step_seated : (s : Seat) (v : ℕ) → IsSeated s → IsSeated (stepped s v)
+step_seated s v seated =
+    let values : List ℕ = s.values ++ v ∷ [] in
+    moved_seated s values (along values (group s.size s.start)) seated (along_sound s.size values (group s.size s.start) (group_sound s.size s.start seated.pages seated.pc))
+
+shown_seated : (o : Outcome) (s : Seat) → IsSeated s → IsSeated (seat_after_step o s)
+shown_seated (outcome.Access a) s seated = step_seated s (value_shown a) seated
+shown_seated _ s seated = seated
+
+record_seated : (e : Act) (o : Outcome) (s : Seat) → IsSeated s → IsSeated (following.seat_after e o s)
+record_seated act.Step o s seated = shown_seated o s seated
+record_seated _ o s seated = seated
+
+followed_seated : (image : Contents) (budget : ℕ) → IsValid image → (h : List Record) (p : ℕ) → IsSeated (seat_in image budget p h)
+followed_seated image budget valid [] p = first_seated image budget p valid
+followed_seated image budget valid (r ∷ h) p =
+    cond_both (by p r) (following.seat_after r.event.act r.outcome (seat_in image budget p h)) (seat_in image budget p h) IsSeated
+    (λ own. record_seated r.event.act r.outcome (seat_in image budget p h) (followed_seated image budget valid h p)) (λ other. followed_seated image budget valid h p)
+
+pub in_line : (image : Contents) (cpus budget : ℕ) → IsValid image → AreInLine (processors image cpus budget)
+in_line image cpus budget valid p h = (seat_wants (seat_in image budget p h) (followed_seated image budget valid h p)).0

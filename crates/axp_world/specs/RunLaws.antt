@@ -16,13 +16,11 @@ is_not_legal (Ok o) = false
 is_not_legal (Err NotLegal) = true
 is_not_legal (Err NotBuilt) = false
 
--- each event of a history is of a processor that there is, and came to nothing that is not built
+-- no event of a history came to what is not built
 abbrev pub IsBuilt : Contents → ℕ → ℕ → List Record → Type 0
 IsBuilt image cpus budget [] = Unit {0}
 IsBuilt image cpus budget (r ∷ h) =
-    (cpu_number r.event.cpu < cpus)
-    × (answer_of image cpus (world image budget h) r.event ≡ Err NotBuilt → ⊥)
-    × IsBuilt image cpus budget h
+    (answer_of image cpus (world image budget h) r.event ≡ Err NotBuilt → ⊥) × IsBuilt image cpus budget h
 
 -- an act by which a processor comes nearer to its end: it steps, or makes way for a Step
 abbrev pub is_progress : Act → Bool

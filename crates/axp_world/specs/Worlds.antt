@@ -8,7 +8,7 @@ use Rattle.axp_base.specs.Cpus.{cpu_number, cpu_of}
 use Rattle.axp_base.specs.declared.processors.Cpu.{Cpu}
 use Rattle.axp_cpu.specs.declared.refusals.Refusal.{Refusal}
 use Rattle.axp_cpu.specs.declared.refusals.Refusal.TheVariants.{NotLegal}
-use Rattle.axp_cpu.specs.Actors.{Actor, about, first_actor, request_of, advanced, outcome_of}
+use Rattle.axp_cpu.specs.Actors.{Actor, first_actor, request_of, advanced, outcome_of}
 use Rattle.axp_image.specs.Contents.{Contents, byte_in}
 use Rattle.axp_line.specs.declared.messages.Reply.{Reply}
 use Rattle.axp_line.specs.declared.messages.Reply.TheVariants as reply
@@ -16,7 +16,6 @@ use Rattle.axp_lsu.specs.declared.asks.Ask2.{Ask2}
 use Rattle.axp_lsu.specs.declared.asks.Ask2.TheVariants as ask
 use Rattle.axp_line.specs.BusCalls.{BusCall}
 use Rattle.axp_line.specs.BusReply.{bus_reply}
-use Rattle.axp_model.specs.Outcomes.{Intents}
 
 pub record World : Type 0 where
   pub actors : ℕ → Actor
@@ -80,7 +79,3 @@ world image budget (r ∷ h) = after_event image (world image budget h) r.event
 abbrev pub IsPlayed : Contents → ℕ → ℕ → List Record → Type 0
 IsPlayed image cpus budget [] = Unit {0}
 IsPlayed image cpus budget (r ∷ h) = (answer_of image cpus (world image budget h) r.event ≡ Ok r.outcome) × IsPlayed image cpus budget h
-
--- what each processor is about to do after a history
-abbrev pub intents : Contents → ℕ → Intents
-intents image budget p h = about ((world image budget h).actors p)

@@ -16,30 +16,30 @@ ghost use Rattle.axp_model.specs.Processors.{AreInLine};
 ghost use Rattle.axp_model.specs.Outcomes.{IsRun};
 ghost use Rattle.axp_model.specs.Turns.{turns};
 ghost use Rattle.axp_world.specs.RunLaws.{IsBuilt, is_not_legal, is_progress};
-ghost use Rattle.axp_world.specs.Worlds.{IsPlayed, answer_of, image_bytes, intents, world};
+ghost use Rattle.axp_cpu.specs.Following.{processors};
+ghost use Rattle.axp_world.specs.Worlds.{IsPlayed, answer_of, image_bytes, world};
 
 /// Every history that processors play over the bus is a run of the memory model: each event was legal
 /// after the records before it, and has the outcome that the model says. What processors want lies
 /// within a line each, so all laws of the model hold of it. Its turns and its memory are the bus's.
 pub fn played_histories_are_runs()
-    ensures in_line { (image : Contents) (budget : ℕ) → IsValid image → AreInLine (intents image budget) }
-    ensures run { (image : Contents) (cpus budget : ℕ) (h : List Record) → IsValid image → IsPlayed image cpus budget h → IsRun (image_bytes image) (intents image budget) h }
+    ensures in_line { (image : Contents) (cpus budget : ℕ) → IsValid image → AreInLine (processors image cpus budget) }
+    ensures run { (image : Contents) (cpus budget : ℕ) (h : List Record) → IsValid image → IsPlayed image cpus budget h → IsRun (image_bytes image) (processors image cpus budget) h }
     ensures turns { (image : Contents) (cpus budget : ℕ) (h : List Record) → IsValid image → IsPlayed image cpus budget h → calls.turns (world image budget h).calls ≡ turns h }
     ensures memory { (image : Contents) (cpus budget : ℕ) (h : List Record) → IsValid image → IsPlayed image cpus budget h → (at : ℕ)
         → calls.memory (image_bytes image) (world image budget h).calls at ≡ memory_byte (image_bytes image) h (turns h) at }
 {}
 
-/// After a played history an event of a processor that there is gets refused as not legal exactly where
-/// the memory model says that it is not.
+/// After a played history an event is refused as not legal exactly where the memory model says that it is
+/// not: so it is with every event of a processor that there is not.
 pub fn refused_where_not_legal()
-    ensures { (image : Contents) (cpus budget : ℕ) (h : List Record) (e : Event) → IsValid image → IsPlayed image cpus budget h → cpu_number e.cpu < cpus
-        → is_not_legal (answer_of image cpus (world image budget h) e) ≡ not (legal (intents image budget (cpu_number e.cpu) h) h e) }
+    ensures { (image : Contents) (cpus budget : ℕ) (h : List Record) (e : Event) → IsValid image → IsPlayed image cpus budget h
+        → is_not_legal (answer_of image cpus (world image budget h) e) ≡ not (legal (processors image cpus budget) h e) }
 {}
 
-/// Every run of the memory model is played, where each event is of a processor that there is and comes
-/// to nothing that is not built.
+/// Every run of the memory model is played, where no event comes to what is not built.
 pub fn runs_are_played()
-    ensures { (image : Contents) (cpus budget : ℕ) (h : List Record) → IsValid image → IsRun (image_bytes image) (intents image budget) h → IsBuilt image cpus budget h → IsPlayed image cpus budget h }
+    ensures { (image : Contents) (cpus budget : ℕ) (h : List Record) → IsValid image → IsRun (image_bytes image) (processors image cpus budget) h → IsBuilt image cpus budget h → IsPlayed image cpus budget h }
 {}
 
 /// No processor is stuck after a played history: one that is not finished has a legal Step, Fill, Drain
@@ -47,9 +47,9 @@ pub fn runs_are_played()
 /// a legal Step that comes to what is not built is refused all the same.
 pub fn processors_are_never_stuck()
     ensures acts { (image : Contents) (cpus budget : ℕ) (h : List Record) (c : Cpu) → IsValid image → IsPlayed image cpus budget h
-        → (intents image budget (cpu_number c) h).finished ≡ false
-        → (a : Act) × (is_progress a ≡ true) × (legal (intents image budget (cpu_number c) h) h (record { cpu = c; act = a }) ≡ true) }
+        → cpu_number c < cpus → ((processors image cpus budget).intent (cpu_number c) h).finished ≡ false
+        → (a : Act) × (is_progress a ≡ true) × (legal (processors image cpus budget) h (record { cpu = c; act = a }) ≡ true) }
     ensures drains { (image : Contents) (cpus budget : ℕ) (h : List Record) (c : Cpu) → IsValid image → IsPlayed image cpus budget h
-        → (intents image budget (cpu_number c) h).finished ≡ true → is_empty (buffer (cpu_number c) h).waiting ≡ false
-        → legal (intents image budget (cpu_number c) h) h (record { cpu = c; act = act.Drain 0 }) ≡ true }
+        → cpu_number c < cpus → ((processors image cpus budget).intent (cpu_number c) h).finished ≡ true → is_empty (buffer (cpu_number c) h).waiting ≡ false
+        → legal (processors image cpus budget) h (record { cpu = c; act = act.Drain 0 }) ≡ true }
 {}

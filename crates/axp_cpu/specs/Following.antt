@@ -1,0 +1,47 @@
+-- One processor by the records of a history alone: what it is about to do is the instruction table
+-- applied to the values that its own accesses show.
+use Rattle.std.specs.Prelude.{ℕ, if◌then◌else◌, List, [], ◌∷◌}
+use Rattle.axp_access.specs.declared.Access.{Access}
+use Rattle.axp_access.specs.declared.Act.{Act}
+use Rattle.axp_access.specs.declared.Act.TheVariants as act
+use Rattle.axp_access.specs.declared.Outcome.{Outcome}
+use Rattle.axp_access.specs.declared.Outcome.TheVariants as outcome
+use Rattle.axp_access.specs.declared.Record.{Record}
+use Rattle.axp_image.specs.Contents.{Contents}
+use Rattle.axp_model.specs.Processors.{Processors}
+use Rattle.axp_model.specs.Records.{by}
+use Rattle.axp_regs.specs.declared.asks.Kind.{Kind}
+use Rattle.axp_regs.specs.declared.asks.Kind.TheVariants.{Fetch, Read, Locked, Conditional}
+use Rattle.axp_cpu.specs.Seats.{Seat, first_seat, intent_of, stepped}
+
+-- the value that an access of this kind gives to its instruction, as its record shows it: what was
+-- read, or whether a store-conditional succeeded; 0 where it gives none
+abbrev pub value_by : Kind → Access → ℕ
+value_by Fetch a = a.value
+value_by Read a = a.value
+value_by Locked a = a.value
+value_by Conditional a = if a.yes then 1 else 0
+value_by _ a = 0
+
+abbrev pub value_shown : Access → ℕ
+value_shown a = value_by a.kind a
+
+-- a Step goes on with the value of the access that it shows
+abbrev pub seat_after_step : Outcome → Seat → Seat
+seat_after_step (outcome.Access a) s = stepped s (value_shown a)
+seat_after_step _ s = s
+
+-- no other act moves a processor: interrupts are not built
+abbrev pub seat_after : Act → Outcome → Seat → Seat
+seat_after act.Step o s = seat_after_step o s
+seat_after _ o s = s
+
+-- where processor p stands after a history
+abbrev pub seat_in : Contents → ℕ → ℕ → List Record → Seat
+seat_in image budget p [] = first_seat image budget p
+seat_in image budget p (r ∷ h) =
+    if by p r then seat_after r.event.act r.outcome (seat_in image budget p h) else seat_in image budget p h
+
+-- so many processors over an image, each with a budget of steps, as the memory model asks of them
+abbrev pub processors : Contents → ℕ → ℕ → Processors
+processors image cpus budget = record { count = cpus; intent = λ p h. intent_of (seat_in image budget p h) }

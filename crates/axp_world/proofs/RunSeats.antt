@@ -1,0 +1,92 @@
+-- After a played history each processor stands where its records say: the value that a record shows is the
+-- value that its processor went on with.
+use Rattle.std.proofs.Common.{◌≡◌, ℕ, ◌<◌, true, false, ⊎_elim, ltb, Bool, List, [], ◌∷◌, Option, Some, None, refl, sym, ap, ◌∙◌}
+use Rattle.std.proofs.lemmas.Bool.{cases_Bool, eqb-true, ltb-true, lt-ltb}
+use Rattle.axp_access.specs.declared.Act.{Act}
+use Rattle.axp_access.specs.declared.Act.TheVariants as act
+use Rattle.axp_access.specs.declared.Event.{Event}
+use Rattle.axp_access.specs.declared.Place.{Place}
+use Rattle.axp_access.specs.declared.Record.{Record}
+use Rattle.axp_access.specs.declared.Wanted.{Wanted}
+use Rattle.axp_base.specs.Cpus.{cpu_by, cpu_number, cpu_of}
+use Rattle.axp_base.specs.Lines.{line_of}
+use Rattle.axp_base.specs.declared.processors.Cpu.{Cpu}
+use Rattle.axp_base.specs.declared.processors.TheConstants.{MAX_CPUS}
+use Rattle.axp_cpu.specs.Actors.{Actor, about, advanced, first_actor, outcome_of}
+use Rattle.axp_cpu.specs.Actors as actors
+use Rattle.axp_cpu.specs.Following as following
+use Rattle.axp_cpu.specs.Following.{processors, seat_in}
+use Rattle.axp_cpu.specs.Seats.{first_seat, intent_of, stepped}
+use Rattle.axp_image.specs.Contents.{Contents}
+use Rattle.axp_line.specs.declared.messages.Reply.{Reply}
+use Rattle.axp_lsu.specs.Going as going
+use Rattle.axp_lsu.specs.Going.{shown_by, success_by}
+use Rattle.axp_lsu.specs.Keeping.{Kept}
+use Rattle.axp_access.specs.declared.Intent.{Intent}
+use Rattle.axp_model.specs.Legal.{legal, may_act}
+use Rattle.axp_model.specs.Processors.{Processors}
+use Rattle.axp_model.specs.Records.{by}
+use Rattle.axp_regs.specs.declared.asks.Kind.{Kind}
+use Rattle.axp_regs.specs.declared.asks.Kind.TheVariants as kind
+use Rattle.axp_world.specs.Worlds.{IsPlayed, World, cpu_or_first, reply_at, world}
+use Rattle.axp_world.proofs.Agreement.{world_intent}
+use Rattle.axp_world.proofs.PlayedRecords.{actor_other, actor_own, shown}
+
+-- what a record shows of an access is what its instruction got
+value_same : (k : Kind) (c : Cpu) (w : Wanted) (u : Kept) (r : Option Reply) (at : Place)
+    → following.value_by k (record { cpu = c; kind = k; address = w.address; size = w.size; value = shown_by k w u r; yes = success_by k r; place = at }) ≡ going.value_by k w u r
+value_same kind.Fetch c w u r at = refl
+value_same kind.Read c w u r at = refl
+value_same kind.Locked c w u r at = refl
+value_same kind.Conditional c w u r at = refl
+value_same _ c w u r at = refl
+
+step_same : (o : Option Wanted) (c : Cpu) (r : Option Reply) (a : Actor) → following.seat_after_step (going.step_outcome c o a.kept r) a.seat ≡ actors.moved_by o r a
+unfolding going.value_of
+step_same None c r a = refl
+step_same (Some w) c r a = ap (stepped a.seat) (value_same w.kind c w a.kept r (going.place_by w.kind (line_of w.address) a.kept r))
+
+act_same : (e : Act) (c : Cpu) (r : Option Reply) (a : Actor) → following.seat_after e (going.outcome_by e c (about a) a.kept r) a.seat ≡ actors.seat_after e r a
+act_same act.Step c r a = step_same (about a).wanted c r a
+act_same _ c r a = refl
+
+-- so a processor that acts is moved as its record says
+own_same : (a : Actor) (e : Act) (r : Option Reply) → following.seat_after e (outcome_of a e r) a.seat ≡ (advanced a e r).seat
+unfolding advanced outcome_of going.outcome_of
+own_same a e r = act_same e a.cpu r a
+
+-- at the start
+start_same : (image : Contents) (budget p : ℕ) → p < MAX_CPUS → first_seat image budget p ≡ (first_actor image budget (cpu_or_first (cpu_of p))).seat
+start_same image budget p less = numbered (ltb p MAX_CPUS) refl (lt-ltb p MAX_CPUS less) where
+  numbered : (b : Bool) (tested : ltb p MAX_CPUS ≡ b) → b ≡ true → first_seat image budget p ≡ (first_actor image budget (cpu_or_first (cpu_by p b tested))).seat
+  numbered true tested is = refl
+  numbered false tested is = cc
+
+pub seats_agree : (image : Contents) (cpus budget : ℕ) (h : List Record) → IsPlayed image cpus budget h → (p : ℕ) → p < MAX_CPUS → seat_in image budget p h ≡ ((world image budget h).actors p).seat
+seats_agree image cpus budget [] played p less = start_same image budget p less
+seats_agree image cpus budget (r ∷ h) played p less =
+    let w : World = world image budget h in
+    let before : seat_in image budget p h ≡ (w.actors p).seat = seats_agree image cpus budget h played.1 p less in
+    ⊎_elim
+    (λ (own : by p r ≡ true).
+    let same : cpu_number r.event.cpu ≡ p = eqb-true (cpu_number r.event.cpu) p own in
+    let s = shown image cpus w r.event r.outcome played.0 in
+    let gave : r.outcome ≡ outcome_of (w.actors p) r.event.act (reply_at image w r.event) = s.outcome ∙ ap (λ n. outcome_of (w.actors n) r.event.act (reply_at image w r.event)) same in
+    rw own (ap (λ x. following.seat_after r.event.act r.outcome x) before
+    ∙ ap (λ o. following.seat_after r.event.act o (w.actors p).seat) gave
+    ∙ own_same (w.actors p) r.event.act (reply_at image w r.event)
+    ∙ ap (λ (a : Actor). a.seat) (sym (actor_own image w r.event p own))))
+    (λ (other : by p r ≡ false). rw other (before ∙ ap (λ (a : Actor). a.seat) (sym (actor_other image w r.event p other))))
+    (cases_Bool (by p r))
+
+pub intents_agree : (image : Contents) (cpus budget : ℕ) (h : List Record) → IsPlayed image cpus budget h → (p : ℕ) → p < MAX_CPUS → (processors image cpus budget).intent p h ≡ world_intent image budget p h
+intents_agree image cpus budget h played p less = ap intent_of (seats_agree image cpus budget h played p less)
+
+-- the number of a processor is one
+pub cpu_small : (c : Cpu) → cpu_number c < MAX_CPUS
+cpu_small c = ltb-true (cpu_number c) MAX_CPUS c.below
+
+-- an event of a processor that there is is legal exactly where its act may be made by its intent
+pub legal_by : (ps : Processors) (h : List Record) (e : Event) (i : Intent) → cpu_number e.cpu < ps.count → ps.intent (cpu_number e.cpu) h ≡ i → legal ps h e ≡ may_act e.act i (cpu_number e.cpu) h
+unfolding legal
+legal_by ps h e i below same = rw (lt-ltb (cpu_number e.cpu) ps.count below, same) refl
