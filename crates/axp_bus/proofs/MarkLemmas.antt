@@ -9,6 +9,7 @@ use Rattle.axp_base.specs.Lines.{line_number, line_of}
 use Rattle.axp_base.specs.Masks.{has_bit}
 use Rattle.axp_base.specs.declared.lines.TheConstants.{LINE_BYTES}
 use Rattle.axp_base.specs.declared.parts.TheConstants.{QUADWORD_BYTES}
+use Rattle.axp_line.proofs.QuadwordLemmas.{one_bit_more}
 use Rattle.axp_line.specs.BusCalls.{Written}
 use Rattle.axp_bus.specs.Marks.{LINE_QUADWORDS, has_first, has_part, Marked, MarkedBelow}
 
@@ -18,34 +19,8 @@ first_none bits k =
     let none : bits / 2 ^ (k * QUADWORD_BYTES) % 2 ^ 0 ≡ 0 = omega arith in
     rw none refl
 
-bits_joined : (high low p : ℕ) → 0 < p → high < 2 → not (high * p + low == 0) ≡ (not (low == 0) || (high == 1))
-bits_joined high low p pos small =
-    ⊎_elim
-    (λ (set : high ≡ 1). rw set (
-    let some : (1 * p + low ≡ 0 → ⊥) = (λ e. omega (arith, e)) in
-    rw (ne_eqb (1 * p + low) 0 some) (either (not (low == 0)))))
-    (λ (other : high ≡ 1 → ⊥).
-    let clear : high ≡ 0 = omega (arith, other) in
-    let same : 0 * p + low ≡ low = omega arith in
-    rw (clear, same) (right (not (low == 0))))
-    (cases_eq high 1)
-  where
-    either : (b : Bool) → true ≡ (b || true)
-    either true = refl
-    either false = refl
-
-    right : (b : Bool) → b ≡ (b || false)
-    right true = refl
-    right false = refl
-
 pub first_more : (bits k n : ℕ) → has_first bits k (n + 1) ≡ (has_first bits k n || has_bit bits (k * QUADWORD_BYTES + n))
-first_more bits k n =
-    let from = bits / 2 ^ (k * QUADWORD_BYTES) in
-    let turned : n + 1 ≡ 1 + n = omega arith in
-    let split : from % 2 ^ (n + 1) ≡ (from / 2 ^ n % 2) * 2 ^ n + from % 2 ^ n = ap (λ e. from % 2 ^ e) turned ∙ mod-pow-add from 1 n in
-    let place : from / 2 ^ n ≡ bits / 2 ^ (k * QUADWORD_BYTES + n) = div-div-eq-div-mul bits (2 ^ (k * QUADWORD_BYTES)) (2 ^ n) ∙ ap (λ p. bits / p) (sym (pow-add 2 (k * QUADWORD_BYTES) n)) in
-    ap (λ x. not (x == 0)) split ∙ bits_joined (from / 2 ^ n % 2) (from % 2 ^ n) (2 ^ n) (pow_pos n) (omega arith)
-    ∙ ap (λ x. not (from % 2 ^ n == 0) || (x % 2 == 1)) place
+first_more bits k n = one_bit_more bits (k * QUADWORD_BYTES) n
 
 pub other_way : (a b : Bool) → (a || b) ≡ (b || a)
 other_way true true = refl

@@ -1,6 +1,6 @@
 -- The history of the bus: the list of the calls that processors made, the newest first, and what each
 -- left behind.
-use Rattle.std.specs.Prelude.{ℕ, ◌+◌, ◌*◌, ◌/◌, ◌%◌, ◌^◌, ◌==◌, Bool, true, false, not, ◌&&◌, ◌||◌, if◌then◌else◌, List, [], ◌∷◌, ◌++◌, replicate, slice_index, Option, Some, None}
+use Rattle.std.specs.Prelude.{ℕ, zero, suc, ◌+◌, ◌*◌, ◌/◌, ◌%◌, ◌^◌, ◌==◌, Bool, true, false, not, ◌&&◌, ◌||◌, if◌then◌else◌, List, [], ◌∷◌, ◌++◌, replicate, slice_index, Option, Some, None}
 use Rattle.axp_base.specs.Cpus.{cpu_number}
 use Rattle.axp_base.specs.Lines.{line_number, line_of, line_at, same_bank}
 use Rattle.axp_base.specs.Masks.{has_bit, mask_bits, span_of}
@@ -46,6 +46,15 @@ wrote q _ = None
 abbrev pub line_written : Option Written → Option Line
 line_written None = None
 line_written (Some w) = Some w.line
+
+-- a turn writes the byte at an address, one of the n bytes from an address on
+abbrev pub writes_byte : ℕ → Option Written → Bool
+writes_byte at None = false
+writes_byte at (Some w) = (line_of at == line_number w.line) && has_bit w.bits (at % LINE_BYTES)
+
+abbrev pub writes_bytes : ℕ → ℕ → Option Written → Bool
+writes_bytes at zero w = false
+writes_bytes at (suc n) w = writes_bytes at n w || writes_byte (at + n) w
 
 -- memory, a byte at each address, after a turn
 abbrev pub overwritten : Option Written → (ℕ → ℕ) → ℕ → ℕ

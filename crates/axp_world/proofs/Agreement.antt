@@ -119,4 +119,5 @@ pub record BusAgrees (image : ℕ → ℕ) (h : List Record) (cs : List BusCall)
   pub pairs : (p : ℕ) (b : Bank) → calls.late p b cs ≡ late p b h
   pub block : (p : ℕ) → calls.register p cs ≡ lock p h
   pub requested : (p : ℕ) → calls.pending p cs ≡ signalled p h
-  pub bytes : (at : ℕ) → calls.memory image cs at ≡ memory_byte image h (turns h) at
+  -- whatever bytes memory had at the start
+  pub bytes : (first : ℕ → ℕ) (at : ℕ) → calls.memory first cs at ≡ memory_byte first h (turns h) at

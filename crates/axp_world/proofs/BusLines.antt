@@ -42,5 +42,5 @@ pub bus_line : (image : ℕ → ℕ) (h : List Record) (cs : List BusCall) (line
     → HasMemory image h l (Some (turn, d)) (turns h)
 bus_line image h cs line l turn d agrees is count shows = (
   count ∙ agrees.count,
-  λ at on. ap (λ (x : LineData). slice_index (bytes_of_line x) (at % LINE_BYTES)) shows ∙ line_byte (calls.memory image cs) line at (on ∙ sym is) ∙ agrees.bytes at,
+  λ at on. ap (λ (x : LineData). slice_index (bytes_of_line x) (at % LINE_BYTES)) shows ∙ line_byte (calls.memory image cs) line at (on ∙ sym is) ∙ agrees.bytes image at,
 )

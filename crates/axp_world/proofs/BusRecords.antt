@@ -68,7 +68,7 @@ pub record Matches (image : ℕ → ℕ) (e : Event) (o : Outcome) (h : List Rec
   pub block : (block : Option ℕ) → calls.lock_by_own q block ≡ lock_by_own o block
   pub signal : (p : ℕ) → calls.signals p q ≡ signals p o
   pub taken : cond (calls.takes_interrupt q) false (signalled (cpu_number e.cpu) h) ≡ cond (enters o) false (signalled (cpu_number e.cpu) h)
-  pub bytes : (at : ℕ) → calls.overwritten (calls.wrote q a) (memory_byte image h (turns h)) at ≡ memory_byte image (record { event = e; outcome = o } ∷ h) (turns (record { event = e; outcome = o } ∷ h)) at
+  pub bytes : (first : ℕ → ℕ) (at : ℕ) → calls.overwritten (calls.wrote q a) (memory_byte first h (turns h)) at ≡ memory_byte first (record { event = e; outcome = o } ∷ h) (turns (record { event = e; outcome = o } ∷ h)) at
 
 -- a record that made no call leaves all
 pub record Stays (image : ℕ → ℕ) (e : Event) (o : Outcome) (h : List Record) : Type 0 where
@@ -78,7 +78,7 @@ pub record Stays (image : ℕ → ℕ) (e : Event) (o : Outcome) (h : List Recor
   pub block : (block : Option ℕ) → lock_by_own o block ≡ block
   pub signal : (p : ℕ) → signals p o ≡ false
   pub taken : enters o ≡ false
-  pub bytes : (at : ℕ) → memory_byte image h (turns h) at ≡ memory_byte image (record { event = e; outcome = o } ∷ h) (turns (record { event = e; outcome = o } ∷ h)) at
+  pub bytes : (first : ℕ → ℕ) (at : ℕ) → memory_byte first h (turns h) at ≡ memory_byte first (record { event = e; outcome = o } ∷ h) (turns (record { event = e; outcome = o } ∷ h)) at
 
 abbrev pub Follows : (ℕ → ℕ) → List BusCall → Event → Outcome → List Record → Ask2 → Type 0
 Follows image cs e o h ask.Private = Stays image e o h
@@ -122,7 +122,7 @@ signal_leads image cs e c a s v u h k (Some target) is fit =
       block = λ block. refl;
       signal = λ p. ap (λ n. eqb n p) number;
       taken = refl;
-      bytes = λ at. sym (ap (byte_of_source image at) (memory_left e (record { cpu = c; kind = kind.Signal; address = a; size = s; value = v; yes = false; place = At (calls.turns cs + 1) }) h (turns h + 1) at k refl (omega arith)));
+      bytes = λ first at. sym (ap (byte_of_source first at) (memory_left e (record { cpu = c; kind = kind.Signal; address = a; size = s; value = v; yes = false; place = At (calls.turns cs + 1) }) h (turns h + 1) at k refl (omega arith)));
     }
 
 -- a store-conditional by its answer
@@ -136,7 +136,7 @@ tried_matches image f e c a s v armed u h k true fit = record {
   block = λ block. refl;
   signal = λ p. refl;
   taken = refl;
-  bytes = λ at. stored_memory image e (record { cpu = c; kind = kind.Conditional; address = a; size = s; value = v; yes = true; place = At (f.turns + 1) }) h at fit.1 k refl fit.2.0;
+  bytes = λ first at. stored_memory first e (record { cpu = c; kind = kind.Conditional; address = a; size = s; value = v; yes = true; place = At (f.turns + 1) }) h at fit.1 k refl fit.2.0;
 }
 tried_matches image f e c a s v armed u h k false fit = record {
   turn = refl;
@@ -145,7 +145,7 @@ tried_matches image f e c a s v armed u h k false fit = record {
   block = λ block. refl;
   signal = λ p. refl;
   taken = refl;
-  bytes = λ at. quiet_bytes image e (going.step_outcome c (Some (want kind.Conditional a s v)) u (Some (tried false f (calls.would_write (request.Conditional a s v armed)) (line_at a)))) h at fit k refl;
+  bytes = λ first at. quiet_bytes first e (going.step_outcome c (Some (want kind.Conditional a s v)) u (Some (tried false f (calls.would_write (request.Conditional a s v armed)) (line_at a)))) h at fit k refl;
 }
 
 -- the Step of a wanted access, by its kind
@@ -161,7 +161,7 @@ step_leads kind.Fetch image cs e c a s v armed u h k fit = record {
   block = λ block. refl;
   signal = λ p. refl;
   taken = refl;
-  bytes = λ at. quiet_bytes image e (going.step_outcome c (Some (want kind.Fetch a s v)) u None) h at fit k refl;
+  bytes = λ first at. quiet_bytes first e (going.step_outcome c (Some (want kind.Fetch a s v)) u None) h at fit k refl;
 }
 step_leads kind.Read image cs e c a s v armed u h k fit = record {
   turn = refl;
@@ -170,7 +170,7 @@ step_leads kind.Read image cs e c a s v armed u h k fit = record {
   block = λ block. refl;
   signal = λ p. refl;
   taken = refl;
-  bytes = λ at. quiet_bytes image e (going.step_outcome c (Some (want kind.Read a s v)) u None) h at fit k refl;
+  bytes = λ first at. quiet_bytes first e (going.step_outcome c (Some (want kind.Read a s v)) u None) h at fit k refl;
 }
 step_leads kind.Write image cs e c a s v armed u h k fit = record {
   turn = refl;
@@ -179,7 +179,7 @@ step_leads kind.Write image cs e c a s v armed u h k fit = record {
   block = λ block. refl;
   signal = λ p. refl;
   taken = refl;
-  bytes = λ at. quiet_bytes image e (going.step_outcome c (Some (want kind.Write a s v)) u None) h at fit k refl;
+  bytes = λ first at. quiet_bytes first e (going.step_outcome c (Some (want kind.Write a s v)) u None) h at fit k refl;
 }
 step_leads kind.WriteBarrier image cs e c a s v armed u h k fit = record {
   turn = refl;
@@ -188,7 +188,7 @@ step_leads kind.WriteBarrier image cs e c a s v armed u h k fit = record {
   block = λ block. refl;
   signal = λ p. refl;
   taken = refl;
-  bytes = λ at. quiet_bytes image e (going.step_outcome c (Some (want kind.WriteBarrier a s v)) u None) h at fit k refl;
+  bytes = λ first at. quiet_bytes first e (going.step_outcome c (Some (want kind.WriteBarrier a s v)) u None) h at fit k refl;
 }
 step_leads kind.Poll image cs e c a s v armed u h k fit = record {
   turn = refl;
@@ -197,7 +197,7 @@ step_leads kind.Poll image cs e c a s v armed u h k fit = record {
   block = λ block. refl;
   signal = λ p. refl;
   taken = refl;
-  bytes = λ at. quiet_bytes image e (going.step_outcome c (Some (want kind.Poll a s v)) u None) h at fit k refl;
+  bytes = λ first at. quiet_bytes first e (going.step_outcome c (Some (want kind.Poll a s v)) u None) h at fit k refl;
 }
 step_leads kind.Locked image cs e c a s v armed u h k fit = record {
   turn = refl;
@@ -206,7 +206,7 @@ step_leads kind.Locked image cs e c a s v armed u h k fit = record {
   block = λ block. refl;
   signal = λ p. refl;
   taken = refl;
-  bytes = λ at. quiet_bytes image e (going.step_outcome c (Some (want kind.Locked a s v)) u (answered image cs e (ask.Bus (request.Locked a)))) h at fit k refl;
+  bytes = λ first at. quiet_bytes first e (going.step_outcome c (Some (want kind.Locked a s v)) u (answered image cs e (ask.Bus (request.Locked a)))) h at fit k refl;
 }
 step_leads kind.Barrier image cs e c a s v armed u h k fit = record {
   turn = refl;
@@ -215,7 +215,7 @@ step_leads kind.Barrier image cs e c a s v armed u h k fit = record {
   block = λ block. refl;
   signal = λ p. refl;
   taken = refl;
-  bytes = λ at. quiet_bytes image e (going.step_outcome c (Some (want kind.Barrier a s v)) u (answered image cs e (ask.Bus (request.Barrier (held_pairs u))))) h at fit k refl;
+  bytes = λ first at. quiet_bytes first e (going.step_outcome c (Some (want kind.Barrier a s v)) u (answered image cs e (ask.Bus (request.Barrier (held_pairs u))))) h at fit k refl;
 }
 step_leads kind.CodeBarrier image cs e c a s v armed u h k fit = record {
   turn = refl;
@@ -224,7 +224,7 @@ step_leads kind.CodeBarrier image cs e c a s v armed u h k fit = record {
   block = λ block. refl;
   signal = λ p. refl;
   taken = refl;
-  bytes = λ at. quiet_bytes image e (going.step_outcome c (Some (want kind.CodeBarrier a s v)) u (answered image cs e (ask.Bus (request.CodeBarrier (held_pairs u))))) h at fit k refl;
+  bytes = λ first at. quiet_bytes first e (going.step_outcome c (Some (want kind.CodeBarrier a s v)) u (answered image cs e (ask.Bus (request.CodeBarrier (held_pairs u))))) h at fit k refl;
 }
 step_leads kind.Console image cs e c a s v armed u h k fit = record {
   turn = refl;
@@ -233,7 +233,7 @@ step_leads kind.Console image cs e c a s v armed u h k fit = record {
   block = λ block. refl;
   signal = λ p. refl;
   taken = refl;
-  bytes = λ at. quiet_bytes image e (going.step_outcome c (Some (want kind.Console a s v)) u (answered image cs e (ask.Bus (request.Console (v % 2 ^ 8))))) h at fit k refl;
+  bytes = λ first at. quiet_bytes first e (going.step_outcome c (Some (want kind.Console a s v)) u (answered image cs e (ask.Bus (request.Console (v % 2 ^ 8))))) h at fit k refl;
 }
 
 wanted_leads : (boundary : Bool) (o : Option Wanted) (armed : Bool) (image : ℕ → ℕ) (cs : List BusCall) (e : Event) (c : Cpu) (u : Kept) (h : List Record) (z : Ask2) → model.Kept h → step_ask boundary o armed u ≡ Some z
@@ -247,7 +247,7 @@ wanted_leads boundary None armed image cs e c u h z k is =
       block = λ block. refl;
       signal = λ p. refl;
       taken = refl;
-      bytes = λ at. quiet_bytes image e outcome.NoAccess h at fit k refl;
+      bytes = λ first at. quiet_bytes first e outcome.NoAccess h at fit k refl;
     })
 wanted_leads boundary (Some w) armed image cs e c u h z k is =
     subst (Leads image cs e h (going.step_outcome c (Some w) u)) (some_if (ready w.kind (line_of w.address) u) (access_ask w.kind w armed u) z is)
@@ -263,7 +263,7 @@ copy_leads image cs e w h k line fit = record {
   block = λ block. refl;
   signal = λ p. refl;
   taken = refl;
-  bytes = λ at. quiet_bytes image e (going.fill_outcome (Some w) (answered image cs e (ask.Bus (request.Fill line)))) h at fit k refl;
+  bytes = λ first at. quiet_bytes first e (going.fill_outcome (Some w) (answered image cs e (ask.Bus (request.Fill line)))) h at fit k refl;
 }
 
 code_copy_leads : (image : ℕ → ℕ) (cs : List BusCall) (e : Event) (w : Wanted) (h : List Record) → model.Kept h → (line : Line) → Leads image cs e h (going.fill_outcome (Some w)) (ask.Bus (request.FillCode line))
@@ -275,7 +275,7 @@ code_copy_leads image cs e w h k line fit = record {
   block = λ block. refl;
   signal = λ p. refl;
   taken = refl;
-  bytes = λ at. quiet_bytes image e (going.fill_outcome (Some w) (answered image cs e (ask.Bus (request.FillCode line)))) h at fit k refl;
+  bytes = λ first at. quiet_bytes first e (going.fill_outcome (Some w) (answered image cs e (ask.Bus (request.FillCode line)))) h at fit k refl;
 }
 
 fill_for_leads : (k : Kind) (image : ℕ → ℕ) (cs : List BusCall) (e : Event) (w : Wanted) (u : Kept) (h : List Record) (z : Ask2) → model.Kept h → fill_for k w u ≡ Some z → Leads image cs e h (going.fill_outcome (Some w)) z
@@ -302,7 +302,7 @@ entry_leads image cs ev e n b h before agrees is fit =
       block = λ block. refl;
       signal = λ p. refl;
       taken = refl;
-      bytes = λ at. drained_memory image ev (calls.turns cs + 1) (line_numbered e.line) e waits.0 h at (fit, before) waits.2 (entry_line e waits.0 waits.2) (agrees.bytes n e is);
+      bytes = λ first at. drained_memory first ev (calls.turns cs + 1) (line_numbered e.line) e waits.0 h at (fit, before) waits.2 (entry_line e waits.0 waits.2) (agrees.bytes n e is);
     }
 
 drain_leads : (o : Option Pending) (image : ℕ → ℕ) (cs : List BusCall) (e : Event) (n : ℕ) (b : Buffer) (h : List Record) (z : Ask2) → Fitting h → BufferAgrees (cpu_number e.cpu) h b → slice_get (oldest_group b.kept) n ≡ o → drain_ask o ≡ Some z
@@ -334,7 +334,7 @@ first_matches image e bank u h k ((line, turn) ∷ pairs) banked something fit =
   block = λ block. refl;
   signal = λ p. refl;
   taken = refl;
-  bytes = λ at. quiet_bytes image e (going.take_outcome u (Some (reply.Late line turn))) h at fit k refl;
+  bytes = λ first at. quiet_bytes first e (going.take_outcome u (Some (reply.Late line turn))) h at fit k refl;
 }
 
 take_leads : (bank : Bank) (image : ℕ → ℕ) (cs : List BusCall) (e : Event) (u : Kept) (h : List Record) (z : Ask2) → model.Kept h → ((b : Bank) → calls.late (cpu_number e.cpu) b cs ≡ late (cpu_number e.cpu) b h)
@@ -366,7 +366,7 @@ poll_leads low image cs e h k same fit = record {
   block = λ block. refl;
   signal = λ p. refl;
   taken = poll_taken low (signalled (cpu_number e.cpu) h) ∙ ap (λ b. cond (b && low) false (signalled (cpu_number e.cpu) h)) (sym same);
-  bytes = λ at. quiet_bytes image e (going.poll_outcome low (answered image cs e (ask.Bus (request.Poll low)))) h at fit k refl;
+  bytes = λ first at. quiet_bytes first e (going.poll_outcome low (answered image cs e (ask.Bus (request.Poll low)))) h at fit k refl;
 }
 
 -- a Drop or a Tick
@@ -378,7 +378,7 @@ done_leads image cs e h k fit = record {
   block = λ block. refl;
   signal = λ p. refl;
   taken = refl;
-  bytes = λ at. quiet_bytes image e outcome.Done h at fit k refl;
+  bytes = λ first at. quiet_bytes first e outcome.Done h at fit k refl;
 }
 
 -- every act
@@ -410,7 +410,7 @@ stays_after image cs e o h s bus = record {
       (λ (other : eqb (cpu_number e.cpu) p ≡ false). rw other (rw s.line (bus.block p)))
       (cases_Bool (eqb (cpu_number e.cpu) p));
   requested = λ p. rw (s.signal p) (rw s.taken (bus.requested p ∙ sym (never (eqb (cpu_number e.cpu) p) (signalled p h))));
-  bytes = λ at. bus.bytes at ∙ s.bytes at;
+  bytes = λ first at. bus.bytes first at ∙ s.bytes first at;
 } where
   never : (b s : Bool) → cond (b && false) false s ≡ s
   never true s = refl
@@ -435,7 +435,7 @@ matches_after image cs e o h q a m bus = record {
       (λ (own : eqb (cpu_number e.cpu) p ≡ true). rw own (ap (cond (signals p o) true) (subst (λ n. cond (calls.takes_interrupt q) false (signalled n h) ≡ cond (enters o) false (signalled n h)) (eqb-true (cpu_number e.cpu) p own) m.taken)))
       (λ (other : eqb (cpu_number e.cpu) p ≡ false). rw other refl)
       (cases_Bool (eqb (cpu_number e.cpu) p)));
-  bytes = λ at. ap (λ memory. calls.overwritten (calls.wrote q a) memory at) (λ i x. bus.bytes x i) ∙ m.bytes at;
+  bytes = λ first at. ap (λ memory. calls.overwritten (calls.wrote q a) memory at) (λ i x. bus.bytes first x i) ∙ m.bytes first at;
 }
 
 follows_after : (image : ℕ → ℕ) (cs : List BusCall) (e : Event) (o : Outcome) (h : List Record) (z : Ask2) → Follows image cs e o h z → BusAgrees image h cs → BusAgrees image (record { event = e; outcome = o } ∷ h) (calls_for image cs e.cpu (Ok z))
@@ -457,7 +457,7 @@ asked_act a e z is = chosen (may_now e (about a).finished a.kept.since.filled) (
 
 -- the first world has no calls
 pub bus_start : (image : ℕ → ℕ) → BusAgrees image [] []
-bus_start image = record { count = refl; pairs = λ p b. refl; block = λ p. refl; requested = λ p. refl; bytes = λ at. refl }
+bus_start image = record { count = refl; pairs = λ p b. refl; block = λ p. refl; requested = λ p. refl; bytes = λ first at. refl }
 
 pub bus_step : (image : Contents) (cpus budget : ℕ) (r : Record) (h : List Record) → answer_of image cpus (world image budget h) r.event ≡ Ok r.outcome → Fitting (r ∷ h)
     → BufferAgrees (cpu_number r.event.cpu) h ((world image budget h).actors (cpu_number r.event.cpu)).kept.buffer → BusAgrees (image_bytes image) h (world image budget h).calls

@@ -27,6 +27,7 @@ pub mod BusLines
 pub mod BusMemory
 pub mod BusWrites
 pub mod BusRecords
+pub mod BusTouched
 
 -- the banks keep the lines that are held
 pub mod BankSpares

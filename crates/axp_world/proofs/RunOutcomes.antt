@@ -101,7 +101,7 @@ step_gives kind.Read image cs c a s v armed u h fit buffers banks bus inside tar
     (ap (λ t. At (max t u.barrier)) (stamp_agrees image (cpu_number c) (line_of a) h u banks able) ∙ ap (λ t. At (max (stamp (cpu_number c) (line_of a) h) t)) banks.barrier)
 step_gives kind.Locked image cs c a s v armed u h fit buffers banks bus inside target able =
     let none = not-true (has_line (line_of a) (buffer (cpu_number c) h).waiting) (and_parts (not (has_line (line_of a) (buffer (cpu_number c) h).waiting)) _ able).0 in
-    access_same c kind.Locked a s _ _ false _ (At (turns h)) (locked_agrees image (calls.memory image cs) c (want kind.Locked a s v) h fit inside none bus.bytes) (ap (λ t. At t) bus.count)
+    access_same c kind.Locked a s _ _ false _ (At (turns h)) (locked_agrees image (calls.memory image cs) c (want kind.Locked a s v) h fit inside none (bus.bytes image)) (ap (λ t. At t) bus.count)
 step_gives kind.Conditional image cs c a s v armed u h fit buffers banks bus inside target able =
     tried_same (front image cs (cpu_number c)) c a s v (turns h) u (calls.would_write (request.Conditional a s v armed)) (line_at a) bus.count (armed && is_allowed a (calls.register (cpu_number c) cs))
     ∙ ap (λ b. model.tried c (want kind.Conditional a s v) (armed && is_allowed a b) (turns h)) (bus.block (cpu_number c))

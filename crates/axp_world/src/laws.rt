@@ -5,29 +5,35 @@ ghost use Rattle.axp_access.specs.declared.Act.TheVariants as act;
 ghost use Rattle.axp_access.specs.declared.Event.{Event};
 ghost use Rattle.axp_access.specs.declared.Record.{Record};
 ghost use Rattle.axp_base.specs.Cpus.{cpu_number};
+ghost use Rattle.axp_base.specs.declared.processors.TheConstants.{MAX_CPUS};
 ghost use Rattle.axp_base.specs.declared.processors.Cpu.{Cpu};
 ghost use Rattle.axp_image.specs.Contents.{Contents, IsValid};
 ghost use Rattle.axp_line.specs.BusCalls as calls;
 ghost use Rattle.axp_model.specs.Entries.{buffer};
 ghost use Rattle.axp_model.specs.Legal.{legal};
 ghost use Rattle.axp_base.specs.Lists.{is_empty};
-ghost use Rattle.axp_model.specs.Memory.{memory_byte};
+ghost use Rattle.axp_model.specs.Memory.{final_byte, is_touched};
 ghost use Rattle.axp_model.specs.Processors.{AreInLine};
 ghost use Rattle.axp_model.specs.Outcomes.{IsRun};
 ghost use Rattle.axp_model.specs.Turns.{turns};
 ghost use Rattle.axp_world.specs.RunLaws.{IsBuilt, is_not_legal, is_progress};
-ghost use Rattle.axp_cpu.specs.Following.{processors};
+ghost use Rattle.axp_cpu.specs.Following.{processors, seat_in};
 ghost use Rattle.axp_world.specs.Worlds.{IsPlayed, answer_of, image_bytes, world};
 
 /// Every history that processors play over the bus is a run of the memory model: each event was legal
 /// after the records before it, and has the outcome that the model says. What processors want lies
-/// within a line each, so all laws of the model hold of it. Its turns and its memory are the bus's.
+/// within a quadword each, so all laws of the model hold of it. Its turns, its memory and the quadwords
+/// that were written are the bus's, and each processor stands where its records say.
 pub fn played_histories_are_runs()
     ensures in_line { (image : Contents) (cpus budget : ℕ) → IsValid image → AreInLine (processors image cpus budget) }
     ensures run { (image : Contents) (cpus budget : ℕ) (h : List Record) → IsValid image → IsPlayed image cpus budget h → IsRun (image_bytes image) (processors image cpus budget) h }
     ensures turns { (image : Contents) (cpus budget : ℕ) (h : List Record) → IsValid image → IsPlayed image cpus budget h → calls.turns (world image budget h).calls ≡ turns h }
     ensures memory { (image : Contents) (cpus budget : ℕ) (h : List Record) → IsValid image → IsPlayed image cpus budget h → (at : ℕ)
-        → calls.memory (image_bytes image) (world image budget h).calls at ≡ memory_byte (image_bytes image) h (turns h) at }
+        → calls.memory (image_bytes image) (world image budget h).calls at ≡ final_byte (image_bytes image) h at }
+    ensures touched { (image : Contents) (cpus budget : ℕ) (h : List Record) → IsValid image → IsPlayed image cpus budget h → (q : ℕ)
+        → calls.is_touched q (world image budget h).calls ≡ is_touched h q }
+    ensures seats { (image : Contents) (cpus budget : ℕ) (h : List Record) → IsValid image → IsPlayed image cpus budget h → (p : ℕ) → p < MAX_CPUS
+        → seat_in image budget p h ≡ ((world image budget h).actors p).seat }
 {}
 
 /// After a played history an event is refused as not legal exactly where the memory model says that it is
