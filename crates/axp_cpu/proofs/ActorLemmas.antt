@@ -131,9 +131,9 @@ fits_is p e r i x is =
     subst (λ o. Fits2 o r) (sym asked) x.fits
 
 -- a processor at the start
-pub first_at : (image : Contents) (budget : ℕ) (cpu : Cpu) (q : Sequencer) (u : Kept) → Stands q (first_seat image budget (cpu_number cpu)) → u ≡ none_kept → budget ≤ MAX_BUDGET
-    → IsAt (record { cpu = cpu; sequencer = q; unit = u }) (first_actor image budget cpu)
-first_at image budget cpu q u stands none few = record {
+pub first_at : (image : Contents) (cpus budget : ℕ) (cpu : Cpu) (q : Sequencer) (u : Kept) → Stands q (first_seat image cpus budget (cpu_number cpu)) → u ≡ none_kept → budget ≤ MAX_BUDGET
+    → IsAt (record { cpu = cpu; sequencer = q; unit = u }) (first_actor image cpus budget cpu)
+first_at image cpus budget cpu q u stands none few = record {
   cpu = refl;
   seat = stands;
   kept = none;

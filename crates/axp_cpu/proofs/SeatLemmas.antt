@@ -42,8 +42,8 @@ seat_sound p s stands = along_sound s.size s.values (group s.size s.start) (grou
 
 -- the processor after a step that led to a phase, over this table state
 abbrev pub moved_on : Sequencer → Table → Phase → Option Sequencer
-moved_on p t (phase.Makes w next) = Some (record { size = p.size; budget = p.budget; table = t; making = Some (w, next); steps = p.steps + 1 })
-moved_on p t (phase.Ends u) = Some (record { size = p.size; budget = p.budget; table = u; making = None; steps = p.steps + 1 })
+moved_on p t (phase.Makes w next) = Some (record { size = p.size; cpus = p.cpus; budget = p.budget; table = t; making = Some (w, next); steps = p.steps + 1 })
+moved_on p t (phase.Ends u) = Some (record { size = p.size; cpus = p.cpus; budget = p.budget; table = u; making = None; steps = p.steps + 1 })
 moved_on p t phase.NotBuilt = None
 
 -- a processor goes on to a phase as its seat does with the value
@@ -53,10 +53,11 @@ goes_on p s w next v t (phase.Makes w' next') stands left plan same fits =
     let vs = s.values ++ v ∷ [] in
     let wants : Want w (after p.size p.table next) ≡ plan_now s = left ∙ stands.plan in
     let comes : plan_of p.size t (phase.Makes w' next') ≡ along vs (group s.size s.start) = plan ∙ ap (given v) wants ∙ sym (along-more s.values v (group s.size s.start)) in
-    let there : stepped s v ≡ record { size = s.size; budget = s.budget; start = s.start; values = vs; steps = s.steps + 1 } = ap (moved s vs) (sym comes) in (
+    let there : stepped s v ≡ record { size = s.size; cpus = s.cpus; budget = s.budget; start = s.start; values = vs; steps = s.steps + 1 } = ap (moved s vs) (sym comes) in (
       sym (ap (leads_by v) wants) ∙ sym (ap (λ q. is_built q) plan),
-      subst (λ (x : Seat). Stands (record { size = p.size; budget = p.budget; table = t; making = Some (w', next'); steps = p.steps + 1 }) x) (sym there) (record {
+      subst (λ (x : Seat). Stands (record { size = p.size; cpus = p.cpus; budget = p.budget; table = t; making = Some (w', next'); steps = p.steps + 1 }) x) (sym there) (record {
         size = stands.size;
+        cpus = stands.cpus;
         budget = stands.budget;
         core = same ∙ stands.core;
         plan = comes;
@@ -72,11 +73,12 @@ goes_on p s w next v t (phase.Ends u) stands left plan same fits =
     let vs = s.values ++ v ∷ [] in
     let wants : Want w (after p.size p.table next) ≡ plan_now s = left ∙ stands.plan in
     let comes : End u ≡ along vs (group s.size s.start) = plan ∙ ap (given v) wants ∙ sym (along-more s.values v (group s.size s.start)) in
-    let there : stepped s v ≡ record { size = s.size; budget = s.budget; start = u; values = []; steps = s.steps + 1 } = ap (moved s vs) (sym comes) in
+    let there : stepped s v ≡ record { size = s.size; cpus = s.cpus; budget = s.budget; start = u; values = []; steps = s.steps + 1 } = ap (moved s vs) (sym comes) in
     let sound : IsSound s.size (End u) = subst (IsSound s.size) (sym comes) (along_sound s.size vs (group s.size s.start) (group_sound s.size s.start stands.pages stands.pc)) in (
       sym (ap (leads_by v) wants) ∙ sym (ap (λ q. is_built q) plan),
-      subst (λ (x : Seat). Stands (record { size = p.size; budget = p.budget; table = u; making = None; steps = p.steps + 1 }) x) (sym there) (record {
+      subst (λ (x : Seat). Stands (record { size = p.size; cpus = p.cpus; budget = p.budget; table = u; making = None; steps = p.steps + 1 }) x) (sym there) (record {
         size = stands.size;
+        cpus = stands.cpus;
         budget = stands.budget;
         core = refl;
         plan = ap (λ n. group n u) stands.size;
@@ -99,10 +101,11 @@ makeable p s w next stands left fits =
     record { inside = sound.0; small = fits.value }
 
 -- a processor at the start
-pub first_stands : (image : Contents) (budget n size : ℕ) (t : Table) → size ≡ image.size → t ≡ first_table image n → IsValid image
-    → Stands (record { size = size; budget = budget; table = t; making = None; steps = 0 }) (first_seat image budget n)
-first_stands image budget n size t is first valid = record {
+pub first_stands : (image : Contents) (cpus budget n size : ℕ) (t : Table) → size ≡ image.size → t ≡ first_table image n → IsValid image
+    → Stands (record { size = size; cpus = cpus; budget = budget; table = t; making = None; steps = 0 }) (first_seat image cpus budget n)
+first_stands image cpus budget n size t is first valid = record {
   size = is;
+  cpus = refl;
   budget = refl;
   core = ap core first;
   plan = ap (λ m. group m t) is ∙ ap (group image.size) first;

@@ -24,8 +24,8 @@ pub record Actor : Type 0 where
   pub kept : Kept
 
 -- at the start
-abbrev pub first_actor : Contents → ℕ → Cpu → Actor
-first_actor image budget cpu = record { cpu = cpu; seat = first_seat image budget (cpu_number cpu); kept = none_kept }
+abbrev pub first_actor : Contents → ℕ → ℕ → Cpu → Actor
+first_actor image cpus budget cpu = record { cpu = cpu; seat = first_seat image cpus budget (cpu_number cpu); kept = none_kept }
 
 -- what it is about to do
 abbrev pub about : Actor → Intent

@@ -37,11 +37,11 @@ seat_after act.Step o s = seat_after_step o s
 seat_after _ o s = s
 
 -- where processor p stands after a history
-abbrev pub seat_in : Contents → ℕ → ℕ → List Record → Seat
-seat_in image budget p [] = first_seat image budget p
-seat_in image budget p (r ∷ h) =
-    if by p r then seat_after r.event.act r.outcome (seat_in image budget p h) else seat_in image budget p h
+abbrev pub seat_in : Contents → ℕ → ℕ → ℕ → List Record → Seat
+seat_in image cpus budget p [] = first_seat image cpus budget p
+seat_in image cpus budget p (r ∷ h) =
+    if by p r then seat_after r.event.act r.outcome (seat_in image cpus budget p h) else seat_in image cpus budget p h
 
 -- so many processors over an image, each with a budget of steps, as the memory model asks of them
 abbrev pub processors : Contents → ℕ → ℕ → Processors
-processors image cpus budget = record { count = cpus; intent = λ p h. intent_of (seat_in image budget p h) }
+processors image cpus budget = record { count = cpus; intent = λ p h. intent_of (seat_in image cpus budget p h) }

@@ -10,10 +10,11 @@ use Rattle.axp_cpu.specs.declared.tables.Table.{Table}
 use Rattle.axp_cpu.specs.Plans.{Plan, End, Want, Unbuilt, along, is_built}
 use Rattle.axp_cpu.specs.Rows.{group}
 
--- where a processor stands: the size of memory, the budget of steps, the table state at the start of its
+-- where a processor stands: the size of memory, how many processors there are, the budget of steps, the table state at the start of its
 -- group, the values that the group's accesses gave so far, and the steps made
 pub record Seat : Type 0 where
   pub size : ℕ
+  pub cpus : ℕ
   pub budget : ℕ
   pub start : Table
   pub values : List ℕ
@@ -26,8 +27,8 @@ first_table image p = record {
   halted = None;
 }
 
-abbrev pub first_seat : Contents → ℕ → ℕ → Seat
-first_seat image budget p = record { size = image.size; budget = budget; start = first_table image p; values = []; steps = 0 }
+abbrev pub first_seat : Contents → ℕ → ℕ → ℕ → Seat
+first_seat image cpus budget p = record { size = image.size; cpus = cpus; budget = budget; start = first_table image p; values = []; steps = 0 }
 
 -- what the group still has to do
 abbrev pub plan_now : Seat → Plan
@@ -58,9 +59,9 @@ leads s v = leads_by v (plan_now s)
 
 -- after a step that gave the group its values and left this plan
 abbrev pub moved : Seat → List ℕ → Plan → Seat
-moved s values (End t) = record { size = s.size; budget = s.budget; start = t; values = []; steps = s.steps + 1 }
-moved s values (Want w k) = record { size = s.size; budget = s.budget; start = s.start; values = values; steps = s.steps + 1 }
-moved s values Unbuilt = record { size = s.size; budget = s.budget; start = s.start; values = values; steps = s.steps + 1 }
+moved s values (End t) = record { size = s.size; cpus = s.cpus; budget = s.budget; start = t; values = []; steps = s.steps + 1 }
+moved s values (Want w k) = record { size = s.size; cpus = s.cpus; budget = s.budget; start = s.start; values = values; steps = s.steps + 1 }
+moved s values Unbuilt = record { size = s.size; cpus = s.cpus; budget = s.budget; start = s.start; values = values; steps = s.steps + 1 }
 
 -- after a step whose access gave this value
 abbrev pub stepped : Seat → ℕ → Seat

@@ -29,6 +29,7 @@ MakesFit (Some (w, next)) = Fits w next
 -- the processor is at this seat
 pub record Stands (p : Sequencer) (s : Seat) : Type 0 where
   pub size : p.size ≡ s.size
+  pub cpus : p.cpus ≡ s.cpus
   pub budget : p.budget ≡ s.budget
   pub core : core p.table ≡ core s.start
   pub plan : plan_left p ≡ plan_now s

@@ -1,6 +1,7 @@
-ghost use Rattle.std.specs.Prelude.{◌≡◌, ◌==◌, ◌≤◌, IfOk, length};
+ghost use Rattle.std.specs.Prelude.{◌≡◌, ◌==◌, ◌<◌, ◌≤◌, IfOk, length};
 ghost use Rattle.axp_access.specs.declared.Act.TheVariants.{Step};
-ghost use Rattle.axp_base.specs.declared.processors.TheConstants.{MAX_BUDGET};
+ghost use Rattle.axp_base.specs.declared.processors.TheConstants.{MAX_BUDGET, MAX_CPUS, MIN_CPUS};
+ghost use Rattle.axp_base.specs.Cpus.{cpu_number};
 ghost use Rattle.axp_lsu.specs.Fitting.{ShowsFitting};
 ghost use Rattle.axp_lsu.specs.Within.{IsAskWithin};
 ghost use Rattle.axp_cpu.specs.Actors.{Actor, about, advanced, first_actor, is_built, moved_by, outcome_of, request_of, seat_after, step_built};
@@ -28,15 +29,20 @@ pub struct Processor {
 }
 
 impl Processor {
-    /// A processor of a machine at the start, with a budget of steps: R16 is its number, R30 the
-    /// image's stack word, the program counter the image's entry; its buffer and banks are empty.
-    pub fn start(cpu: Cpu, image: &Image, budget: u32) -> Processor
-        requires { budget ≤ MAX_BUDGET }
-        ensures { IsAt result (first_actor image.now budget cpu) }
+    /// Processor `cpu` of a machine of `cpus` processors, 2 to 8, at the start, with a budget of
+    /// steps, 1 to 32,768: R16 is its number, R30 the image's stack word, the program counter the
+    /// image's entry; its buffer and banks are empty.
+    pub fn start(cpu: Cpu, cpus: u8, image: &Image, budget: u32) -> Processor
+        requires below { cpu_number cpu < cpus }
+        requires least_cpus { MIN_CPUS ≤ cpus }
+        requires most_cpus { cpus ≤ MAX_CPUS }
+        requires least_budget { 1 ≤ budget }
+        requires most_budget { budget ≤ MAX_BUDGET }
+        ensures { IsAt result (first_actor image.now cpus budget cpu) }
     {
         Processor {
             cpu,
-            sequencer: Sequencer::start(cpu, image, budget),
+            sequencer: Sequencer::start(cpu, cpus, image, budget),
             unit: Lsu::empty(),
         }
     }

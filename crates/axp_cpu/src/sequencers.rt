@@ -17,6 +17,7 @@ use axp_regs::State;
 #[derive(Clone, Copy, Debug)]
 pub struct Sequencer {
     size: u64,
+    cpus: u8,
     budget: u32,
     table: Table,
     making: Option<(Wanted, Then)>,
@@ -26,8 +27,8 @@ pub struct Sequencer {
 impl Sequencer {
     /// A processor of a machine at the start, with a budget of steps: R16 is its number, R30 the
     /// image's stack word, the program counter the image's entry.
-    pub fn start(cpu: Cpu, image: &Image, budget: u32) -> Sequencer
-        ensures { Stands result (first_seat image.now budget (cpu_number cpu)) }
+    pub fn start(cpu: Cpu, cpus: u8, image: &Image, budget: u32) -> Sequencer
+        ensures { Stands result (first_seat image.now cpus budget (cpu_number cpu)) }
     {
         let number = cpu.number();
         let mut state = State::new(number);
@@ -37,6 +38,7 @@ impl Sequencer {
         state.set_ptbr(image.table());
         Sequencer {
             size: image.size(),
+            cpus,
             budget,
             table: Table {
                 state,

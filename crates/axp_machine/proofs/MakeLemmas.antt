@@ -81,7 +81,7 @@ has_room a e q ties is =
     let short : length (history a) + 1 ≤ EVENTS_PER_STEP * cpus * a.budget = omega (arith, long) in
     let most = room_most cpus a.budget ties.most_cpus ties.most_budget in
     let turned : a.bus.turns ≤ length (history a) = omega (arith, ties.bus.turns, turns_are_few a.image cpus a.budget (history a) ties.run, steps_few (history a)) in
-    let printed : length a.bus.printed ≤ length (history a) = omega (arith, ap (λ (xs : List ℕ). length xs) ties.bus.printed, console_few a.image a.budget (history a)) in
+    let printed : length a.bus.printed ≤ length (history a) = omega (arith, ap (λ (xs : List ℕ). length xs) ties.bus.printed, console_few a.image (length a.processors.items) a.budget (history a)) in
     record {
       records = omega (arith, short, length-reverse a.records.items, ties.room);
       turns = omega (arith, short, turned, ties.bus_room);
@@ -92,7 +92,7 @@ has_room a e q ties is =
 -- the bus may be asked
 may_answer : (a : Inside) (e : Event) (q : Ask2) (p : Processor) → Ties a → IsGranted (seen a) e q → IsAskWithin a.image.size q → IsAt p (actor_of (seen a) (cpu_number e.cpu)) → MayAnswer a.bus e.cpu q
 may_answer a e q p ties is inside at =
-    let size = seat_size a.image a.budget (history a) (cpu_number e.cpu) in
+    let size = seat_size a.image (length a.processors.items) a.budget (history a) (cpu_number e.cpu) in
     let room = has_room a e q ties is in
     record {
       below = subst (λ n. cpu_number e.cpu < n) (sym ties.lanes) is.below;
@@ -146,13 +146,13 @@ pub is_spelled : (a : Inside) (e : Event) (q : Ask2) (p : Processor) (r : Option
     → o ≡ outcome_of (actor_of (seen a) (cpu_number e.cpu)) e.act r → ShowsFitting o → Spells e o
 is_spelled a e q p r o ties is at answer gives fits =
     let x : Actor = actor_of (seen a) (cpu_number e.cpu) in
-    let size = seat_size a.image a.budget (history a) (cpu_number e.cpu) in
+    let size = seat_size a.image (length a.processors.items) a.budget (history a) (cpu_number e.cpu) in
     let calls : List BusCall = (world_of (seen a)).calls in
     let told : IsToldWithin x.seat.size r = rw (size, answer) (told_within a.image.size (image_bytes a.image) calls (cpu_number e.cpu) q ties.asked) in
     let tidy : IsTidy x.kept.buffer = ((joined a.image (length a.processors.items) a.budget (history a) ties.valid ties.run).buffers (cpu_number e.cpu)).alike.tidy in
     let asked : ask_of e.act (about x) x.kept ≡ Some q = (was_asked x e.act q is.asked).0 in
     subst (λ (z : Outcome). Spells e z) (sym gives)
-    (spells p x e r at (actor_cpu a.image a.budget (history a) e.cpu) tidy (subst (λ (z : Option Ask2). Fits2 z r) (sym asked) (answer_fits a e q r ties is answer)) told (subst (λ (z : Outcome). ShowsFitting z) gives fits))
+    (spells p x e r at (actor_cpu a.image (length a.processors.items) a.budget (history a) e.cpu) tidy (subst (λ (z : Option Ask2). Fits2 z r) (sym asked) (answer_fits a e q r ties is answer)) told (subst (λ (z : Outcome). ShowsFitting z) gives fits))
 
 -- what a list has after one of its elements was set
 slice_get-set_here : {A : Type 0} (xs : List A) (c : ℕ) (new y : A) → slice_get (set xs c new) c ≡ Some y → new ≡ y
@@ -166,11 +166,11 @@ slice_get-set_other xs c p new y apart at =
     slice_get-get_or xs p y within ∙ ap Some (sym (get_or-set_other xs c p new y apart) ∙ get_or_from_slice_get (set xs c new) p y y at)
 
 -- all processors are the world's after one of them went on
-seats_step : (image : Contents) (budget : ℕ) (ps : List Processor) (h : List Record) (r : Record) (new : Processor)
-    → IsAt new (advanced ((world image budget h).actors (cpu_number r.event.cpu)) r.event.act (reply_at image (world image budget h) r.event)) → AreSeated (world image budget h) ps
-    → AreSeated (world image budget (r ∷ h)) (set ps (cpu_number r.event.cpu) new)
-seats_step image budget ps h r new goes seated p x at =
-    let w : World = world image budget h in
+seats_step : (image : Contents) (cpus budget : ℕ) (ps : List Processor) (h : List Record) (r : Record) (new : Processor)
+    → IsAt new (advanced ((world image cpus budget h).actors (cpu_number r.event.cpu)) r.event.act (reply_at image (world image cpus budget h) r.event)) → AreSeated (world image cpus budget h) ps
+    → AreSeated (world image cpus budget (r ∷ h)) (set ps (cpu_number r.event.cpu) new)
+seats_step image cpus budget ps h r new goes seated p x at =
+    let w : World = world image cpus budget h in
     ⊎_elim
     (λ (own : eqb (cpu_number r.event.cpu) p ≡ true).
     let same : cpu_number r.event.cpu ≡ p = eqb-true (cpu_number r.event.cpu) p own in
@@ -217,7 +217,7 @@ ties_made a b e q new ties is inside makes =
     let count = count_made a b e q new makes in
     record {
       valid = rw makes.image ties.valid;
-      seats = rw (makes.image, makes.budget, past, makes.processors) (seats_step a.image a.budget a.processors.items (history a) (made (seen a) e) new makes.at ties.seats);
+      seats = rw (makes.image, makes.budget, past, makes.processors) (seats_step a.image (length a.processors.items) a.budget a.processors.items (history a) (made (seen a) e) new makes.at ties.seats);
       bus = rw (makes.image, makes.budget, past) (subst (λ cs. bus.Stands b.bus (image_bytes a.image) cs) (sym (calls_made a.image (world_of (seen a)) e q is.asked)) makes.bus);
       asked = rw (makes.image, makes.budget, past) (subst (AreAskedWithin a.image.size) (sym (calls_made a.image (world_of (seen a)) e q is.asked)) (asked_made a.image.size (image_bytes a.image) (world_of (seen a)).calls e.cpu q inside ties.asked));
       size = makes.size ∙ ties.size ∙ ap (λ (i : Contents). i.size) (sym makes.image);
@@ -243,7 +243,7 @@ pub makes_of : (a b : Inside) (e : Event) (q : Ask2) (new : Processor) (r : Opti
     → r ≡ reply_for (image_bytes a.image) (world_of (seen a)).calls (cpu_number e.cpu) (Ok q) → IsAt new (advanced (actor_of (seen a) (cpu_number e.cpu)) e.act r) → o ≡ outcome_of (actor_of (seen a) (cpu_number e.cpu)) e.act r
     → bus.Stands b.bus (image_bytes a.image) (calls_for (image_bytes a.image) (world_of (seen a)).calls e.cpu (Ok q)) → length b.bus.memory ≡ length a.bus.memory → length b.bus.lanes ≡ length a.bus.lanes → b.bus.room ≡ a.bus.room
     → b.records.items ≡ a.records.items ++ record { event = e; outcome = o } ∷ [] → vec_capacity b.records ≡ vec_capacity a.records → Makes a b e q new × (o ≡ outcome_in (seen a) e)
-makes_of a b e q new r o is image budget processors answered at gives stands size lanes room records capacity =
+makes_of a b e q new r o is image cpus budget processors answered at gives stands size lanes room records capacity =
     let told : r ≡ reply_at a.image (world_of (seen a)) e = answered ∙ ap (reply_for (image_bytes a.image) (world_of (seen a)).calls (cpu_number e.cpu)) (sym is.asked) in
     let same : o ≡ outcome_in (seen a) e = gives ∙ ap (outcome_of (actor_of (seen a) (cpu_number e.cpu)) e.act) told in (
       record {

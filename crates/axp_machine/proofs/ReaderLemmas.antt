@@ -17,7 +17,7 @@ use Rattle.axp_world.specs.declared.lengths.TheConstants.{EVENTS_PER_STEP}
 use Rattle.axp_world.specs.Worlds.{cpu_or_first, image_bytes, world}
 
 -- the processor at a place of the list is the world's
-pub seated_at : (a : Inside) (c i : ℕ) (x : Processor) → Ties a → i ≡ c → c < length a.processors.items → x ≡ get_or a.processors.items i x → IsAt x ((world a.image a.budget (history a)).actors c)
+pub seated_at : (a : Inside) (c i : ℕ) (x : Processor) → Ties a → i ≡ c → c < length a.processors.items → x ≡ get_or a.processors.items i x → IsAt x ((world a.image (length a.processors.items) a.budget (history a)).actors c)
 seated_at a c i x ties is below at =
     ties.seats c x (slice_get-get_or a.processors.items c x below ∙ ap Some (sym (at ∙ ap (λ j. get_or a.processors.items j x) is)))
 
@@ -26,7 +26,7 @@ below_seen a m c shown below = subst (λ (s : Seen). c < s.cpus) (sym shown) bel
 
 -- one more processor looked at
 pub done_more : (a : Inside) (m : Seen) (ps : List Processor) (n : ℕ) (d : Processor) (so_far tested : Bool) → Ties a → seen a ≡ m → ps ≡ a.processors.items → n < length ps
-    → (IsAt (get_or ps n d) ((world a.image a.budget (history a)).actors n) → tested ≡ is_done ((world a.image a.budget (history a)).actors n)) → so_far ≡ are_done n m
+    → (IsAt (get_or ps n d) ((world a.image (length a.processors.items) a.budget (history a)).actors n) → tested ≡ is_done ((world a.image (length a.processors.items) a.budget (history a)).actors n)) → so_far ≡ are_done n m
     → so_far && tested ≡ are_done (n + 1) m
 done_more a m ps n d so_far tested ties shown is below tests so_far_is =
     let at : slice_get a.processors.items n ≡ Some (get_or ps n d) = subst (λ (qs : List Processor). slice_get qs n ≡ Some (get_or ps n d)) is (slice_get-get_or ps n d below) in
@@ -42,14 +42,14 @@ pushed P (y ∷ ps) new here first zero x at = first 0 x at
 pushed P (y ∷ ps) new here first (suc p) x at = pushed (λ q z. P (suc q) z) ps new here (λ q z e. first (suc q) z e) p x at
 
 -- one more processor started
-pub started_more : (image : Contents) (budget : ℕ) (ps qs : List Processor) (new : Processor) (n : ℕ) → StartsAll image budget n ps → IsAt new (first_actor image budget (cpu_or_first (cpu_of n))) → qs ≡ ps ++ new ∷ [] → StartsAll image budget (n + 1) qs
-started_more image budget ps qs new n starts at pushes = rw pushes (record {
+pub started_more : (image : Contents) (cpus budget : ℕ) (ps qs : List Processor) (new : Processor) (n : ℕ) → StartsAll image cpus budget n ps → IsAt new (first_actor image cpus budget (cpu_or_first (cpu_of n))) → qs ≡ ps ++ new ∷ [] → StartsAll image cpus budget (n + 1) qs
+started_more image cpus budget ps qs new n starts at pushes = rw pushes (record {
   count = length-append ps (new ∷ []) ∙ omega (arith, starts.count);
-  each = pushed (λ p x. IsAt x (first_actor image budget (cpu_or_first (cpu_of p)))) ps new (rw starts.count at) starts.each;
+  each = pushed (λ p x. IsAt x (first_actor image cpus budget (cpu_or_first (cpu_of p)))) ps new (rw starts.count at) starts.each;
 })
 
 -- a machine's parts at the start
-pub ties_start : (a : Inside) (cpus : ℕ) → IsValid a.image → StartsAll a.image a.budget cpus a.processors.items → bus.Stands a.bus (image_bytes a.image) [] → length a.bus.memory ≡ a.image.size → length a.bus.lanes ≡ cpus → a.records.items ≡ []
+pub ties_start : (a : Inside) (cpus : ℕ) → IsValid a.image → StartsAll a.image (length a.processors.items) a.budget cpus a.processors.items → bus.Stands a.bus (image_bytes a.image) [] → length a.bus.memory ≡ a.image.size → length a.bus.lanes ≡ cpus → a.records.items ≡ []
     → MIN_CPUS ≤ cpus → cpus ≤ MAX_CPUS → 1 ≤ a.budget → a.budget ≤ MAX_BUDGET → vec_capacity a.records ≡ EVENTS_PER_STEP * cpus * a.budget → a.bus.room ≡ EVENTS_PER_STEP * cpus * a.budget
     → Ties a
 ties_start a cpus valid starts stands size lanes none least most some few room bus_room =

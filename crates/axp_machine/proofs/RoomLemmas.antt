@@ -49,13 +49,13 @@ size_advanced : (a : Actor) (e : Act) (r : Option Reply) → (advanced a e r).se
 unfolding advanced
 size_advanced a e r = size_after e r a
 
-pub seat_size : (image : Contents) (budget : ℕ) (h : List Record) (p : ℕ) → ((world image budget h).actors p).seat.size ≡ image.size
-seat_size image budget [] p = refl
-seat_size image budget (r ∷ h) p =
-    let w : World = world image budget h in
+pub seat_size : (image : Contents) (cpus budget : ℕ) (h : List Record) (p : ℕ) → ((world image cpus budget h).actors p).seat.size ≡ image.size
+seat_size image cpus budget [] p = refl
+seat_size image cpus budget (r ∷ h) p =
+    let w : World = world image cpus budget h in
     ⊎_elim
-    (λ (own : eqb (cpu_number r.event.cpu) p ≡ true). ap (λ (a : Actor). a.seat.size) (actor_own image w r.event p own) ∙ size_advanced (w.actors p) r.event.act (reply_at image w r.event) ∙ seat_size image budget h p)
-    (λ (other : eqb (cpu_number r.event.cpu) p ≡ false). ap (λ (a : Actor). a.seat.size) (actor_other image w r.event p other) ∙ seat_size image budget h p)
+    (λ (own : eqb (cpu_number r.event.cpu) p ≡ true). ap (λ (a : Actor). a.seat.size) (actor_own image w r.event p own) ∙ size_advanced (w.actors p) r.event.act (reply_at image w r.event) ∙ seat_size image cpus budget h p)
+    (λ (other : eqb (cpu_number r.event.cpu) p ≡ false). ap (λ (a : Actor). a.seat.size) (actor_other image w r.event p other) ∙ seat_size image cpus budget h p)
     (cases_Bool (eqb (cpu_number r.event.cpu) p))
 
 -- no more steps than records
@@ -77,9 +77,9 @@ console_by image cs cpu (Err refusal) n few = omega (arith, few)
 console_by image cs cpu (Ok ask.Private) n few = omega (arith, few)
 console_by image cs cpu (Ok (ask.Bus q)) n few = let sum = length-append (console cs) (printed_by q) in let one = printed_one q in omega (arith, sum, one, few)
 
-pub console_few : (image : Contents) (budget : ℕ) (h : List Record) → length (console (world image budget h).calls) ≤ length h
+pub console_few : (image : Contents) (cpus budget : ℕ) (h : List Record) → length (console (world image cpus budget h).calls) ≤ length h
 unfolding after_event
-console_few image budget [] = omega arith
-console_few image budget (r ∷ h) =
-    let w : World = world image budget h in
-    let one = console_by (image_bytes image) w.calls r.event.cpu (asked w r.event) (length h) (console_few image budget h) in omega (arith, one)
+console_few image cpus budget [] = omega arith
+console_few image cpus budget (r ∷ h) =
+    let w : World = world image cpus budget h in
+    let one = console_by (image_bytes image) w.calls r.event.cpu (asked w r.event) (length h) (console_few image cpus budget h) in omega (arith, one)

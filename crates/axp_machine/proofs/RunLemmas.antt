@@ -59,7 +59,7 @@ pub run_is : (image : Contents) (cpus budget : ℕ) (es : List Event) → IsRun 
 run_is image cpus budget [] = tt
 run_is image cpus budget (e ∷ es) = event_runs (run (started image cpus budget) es) e (run_is image cpus budget es)
 
-pub run_models : (m : Seen) → IsValid m.image → IsRun m → model.IsRun (image_bytes m.image) (intents m.image m.budget) m.records
+pub run_models : (m : Seen) → IsValid m.image → IsRun m → model.IsRun (image_bytes m.image) (intents m.image m.cpus m.budget) m.records
 run_models m valid is = (joined m.image m.cpus m.budget m.records valid is).run
 
 -- a run after fewer of its events
@@ -79,8 +79,8 @@ keeps_polls image intent k inside is later e pending entered turn h at =
 pub keeps_constraints : (m : Seen) → IsValid m.image → IsRun m → KeepsConstraints m
 keeps_constraints m valid is =
     let image : ℕ → ℕ = image_bytes m.image in
-    let intent : Intents = intents m.image m.budget in
-    let inside : AreInLine intent = intents_in_line m.image m.budget valid in
+    let intent : Intents = intents m.image m.cpus m.budget in
+    let inside : AreInLine intent = intents_in_line m.image m.cpus m.budget valid in
     let run : model.IsRun image intent m.records = run_models m valid is in
     record {
       model = run;
@@ -94,14 +94,14 @@ keeps_constraints m valid is =
     }
 
 -- an event is refused as not legal exactly where it is not
-pub refused_exactly : (m : Seen) (e : Event) (a : Result Outcome Refusal) → a ≡ answer_of m e → IsValid m.image → IsRun m → cpu_number e.cpu < m.cpus → is_not_legal a ≡ not (legal (intents m.image m.budget (cpu_number e.cpu) m.records) m.records e)
+pub refused_exactly : (m : Seen) (e : Event) (a : Result Outcome Refusal) → a ≡ answer_of m e → IsValid m.image → IsRun m → cpu_number e.cpu < m.cpus → is_not_legal a ≡ not (legal (intents m.image m.cpus m.budget (cpu_number e.cpu) m.records) m.records e)
 unfolding answer_of
 refused_exactly m e a is valid run below = ap is_not_legal is ∙ refused m.image m.cpus m.budget m.records e valid run below
 
 -- a machine is complete in the model's words too
-drained_of : (m : Seen) (n : ℕ) → Joined m.image m.budget m.records → are_done n m ≡ are_drained n m
+drained_of : (m : Seen) (n : ℕ) → Joined m.image m.cpus m.budget m.records → are_done n m ≡ are_drained n m
 drained_of m zero is = refl
-drained_of m (suc n) is = rw (drained_of m n is, (agrees m.image m.budget m.records is n).buffer.none) refl
+drained_of m (suc n) is = rw (drained_of m n is, (agrees m.image m.cpus m.budget m.records is n).buffer.none) refl
 
 pub complete_words : (m : Seen) → IsValid m.image → IsRun m → is_complete m ≡ are_drained m.cpus m
 complete_words m valid run = drained_of m m.cpus (joined m.image m.cpus m.budget m.records valid run)

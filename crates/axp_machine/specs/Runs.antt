@@ -29,7 +29,7 @@ started image cpus budget = record { image = image; cpus = cpus; budget = budget
 
 -- the processors and the bus after its records
 abbrev pub world_of : Seen → World
-world_of m = world m.image m.budget m.records
+world_of m = world m.image m.cpus m.budget m.records
 
 -- what an event gives, or why it is refused
 unfoldable pub answer_of : Seen → Event → Result Outcome Refusal
@@ -82,7 +82,7 @@ is_complete m = are_done m.cpus m
 -- the same in the memory model's words: every processor below n is finished, and no entry of it waits
 abbrev pub are_drained : ℕ → Seen → Bool
 are_drained zero m = true
-are_drained (suc n) m = are_drained n m && ((intents m.image m.budget n m.records).finished && is_empty (buffer n m.records).waiting)
+are_drained (suc n) m = are_drained n m && ((intents m.image m.cpus m.budget n m.records).finished && is_empty (buffer n m.records).waiting)
 
 -- the table state of a processor, as its last group left it
 abbrev pub table_of : Seen → ℕ → Table

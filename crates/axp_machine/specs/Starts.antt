@@ -8,6 +8,6 @@ use Rattle.axp_image.specs.Contents.{Contents}
 use Rattle.axp_world.specs.Worlds.{cpu_or_first}
 
 -- processors 0 to n - 1, each at the start
-pub record StartsAll (image : Contents) (budget n : ℕ) (ps : List Processor) : Type 0 where
+pub record StartsAll (image : Contents) (cpus budget n : ℕ) (ps : List Processor) : Type 0 where
   pub count : length ps ≡ n
-  pub each : (p : ℕ) (x : Processor) → slice_get ps p ≡ Some x → IsAt x (first_actor image budget (cpu_or_first (cpu_of p)))
+  pub each : (p : ℕ) (x : Processor) → slice_get ps p ≡ Some x → IsAt x (first_actor image cpus budget (cpu_or_first (cpu_of p)))

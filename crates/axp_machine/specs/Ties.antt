@@ -32,9 +32,9 @@ AreAskedWithin size cs = AllByRecursion (λ (c : BusCall). IsRequestWithin size 
 
 pub record Ties (a : Inside) : Type 0 where
   pub valid : IsValid a.image
-  pub seats : AreSeated (world a.image a.budget (history a)) a.processors.items
-  pub bus : bus.Stands a.bus (image_bytes a.image) (world a.image a.budget (history a)).calls
-  pub asked : AreAskedWithin a.image.size (world a.image a.budget (history a)).calls
+  pub seats : AreSeated (world a.image (length a.processors.items) a.budget (history a)) a.processors.items
+  pub bus : bus.Stands a.bus (image_bytes a.image) (world a.image (length a.processors.items) a.budget (history a)).calls
+  pub asked : AreAskedWithin a.image.size (world a.image (length a.processors.items) a.budget (history a)).calls
   pub size : length a.bus.memory ≡ a.image.size
   pub lanes : length a.bus.lanes ≡ length a.processors.items
   pub run : IsPlayed a.image (length a.processors.items) a.budget (history a)

@@ -14,7 +14,7 @@ ghost use Rattle.axp_world.specs.Worlds.{IsPlayed, image_bytes, intents};
 pub fn records_are_a_run()
     ensures again { (m : Seen) → IsRun m → run (started m.image m.cpus m.budget) (events_of m.records) ≡ m }
     ensures from_start { (image : Contents) (cpus budget : ℕ) (events : List Event) → IsRun (run (started image cpus budget) events) }
-    ensures model { (m : Seen) → IsValid m.image → IsRun m → model.IsRun (image_bytes m.image) (intents m.image m.budget) m.records }
+    ensures model { (m : Seen) → IsValid m.image → IsRun m → model.IsRun (image_bytes m.image) (intents m.image m.cpus m.budget) m.records }
 {}
 
 /// A machine is complete exactly where, in the memory model's words, every processor is finished after its

@@ -1,6 +1,6 @@
 ghost use Rattle.std.specs.Prelude.{◌≡◌, ◌+◌, ◌≤◌, ◌<◌, ◌^◌, ℕ, List, length, IfOk, Ok};
 ghost use Rattle.axp_base.specs.Cpus.{cpu_number};
-ghost use Rattle.axp_base.specs.declared.processors.TheConstants.{MAX_BUDGET, MAX_CPUS};
+ghost use Rattle.axp_base.specs.declared.processors.TheConstants.{MAX_BUDGET, MAX_CPUS, MIN_CPUS};
 ghost use Rattle.axp_bus.specs.BusStands.{Stands};
 ghost use Rattle.axp_line.specs.BusCalls.{BusCall};
 ghost use Rattle.axp_world.specs.Worlds.{calls_for, reply_for};
@@ -191,7 +191,7 @@ impl Machine {
     pub fn event(&mut self, event: Event) -> Result<Outcome, Refusal>
         ensures answer { result ≡ answer_of self.old event }
         ensures legal { cpu_number event.cpu < self.old.cpus → is_not_legal result
-            ≡ not (legal (intents self.old.image self.old.budget (cpu_number event.cpu) self.old.records) self.old.records event) }
+            ≡ not (legal (intents self.old.image self.old.cpus self.old.budget (cpu_number event.cpu) self.old.records) self.old.records event) }
         ensures after { self.new ≡ after_event self.old event }
         ensures run { IsRun self.new }
         ensures constraints { KeepsConstraints self.new }
@@ -286,16 +286,18 @@ fn start_all(
     budget: u32,
     cpus: u8,
 ) -> Result<Vec<Processor>, NoMemory>
-    requires cpus { cpus ≤ MAX_CPUS }
-    requires budget { budget ≤ MAX_BUDGET }
-    ensures { IfOk result (λ ps. StartsAll image.now budget cpus ps.items) }
+    requires least_cpus { MIN_CPUS ≤ cpus }
+    requires most_cpus { cpus ≤ MAX_CPUS }
+    requires least_budget { 1 ≤ budget }
+    requires most_budget { budget ≤ MAX_BUDGET }
+    ensures { IfOk result (λ ps. StartsAll image.now cpus budget cpus ps.items) }
 {
     let mut processors = Vec::with_capacity(alloc, usize::from(cpus))?;
     for n in 0..cpus {
         let Some(cpu) = Cpu::new(n) else {
             unreachable!()
         };
-        processors.push(Processor::start(cpu, image, budget))?;
+        processors.push(Processor::start(cpu, cpus, image, budget))?;
     }
     Ok(processors)
 }

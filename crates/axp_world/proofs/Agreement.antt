@@ -38,8 +38,8 @@ use Rattle.axp_base.specs.Lines as lines
 use Rattle.axp_model.specs.Turns.{turns, stamp, barrier, code_stamp}
 
 -- what a processor of the world is about to do after a history
-abbrev pub world_intent : Contents → ℕ → ℕ → List Record → Intent
-world_intent image budget p h = about ((world image budget h).actors p)
+abbrev pub world_intent : Contents → ℕ → ℕ → ℕ → List Record → Intent
+world_intent image cpus budget p h = about ((world image cpus budget h).actors p)
 
 -- an entry of the buffer is the one that waits under this number
 pub record IsEntryOf (e : Pending) (w : Waiting) : Type 0 where

@@ -50,8 +50,8 @@ and_false : (b : Bool) → (b && false) ≡ false
 and_false true = refl
 and_false false = refl
 
-pub banks_start : (image : Contents) (budget p : ℕ) → Banked (image_bytes image) p [] ((world image budget []).actors p).kept
-banks_start image budget p = record {
+pub banks_start : (image : Contents) (cpus budget p : ℕ) → Banked (image_bytes image) p [] ((world image cpus budget []).actors p).kept
+banks_start image cpus budget p = record {
   even = none_shown (image_bytes image) (λ l. in_bank Even l && held p l []) (λ l. stamp p l []) (λ l. and_false (in_bank Even l));
   odd = none_shown (image_bytes image) (λ l. in_bank Odd l && held p l []) (λ l. stamp p l []) (λ l. and_false (in_bank Odd l));
   code = none_shown (image_bytes image) (λ l. code_held p l []) (λ l. code_stamp p l []) (λ l. refl);
@@ -73,12 +73,12 @@ unfolding request_of ask_of
 act_asked a e q asks = may_act (may_now e (about a).finished a.kept.since.filled) (act_ask e (about a) a.kept) q (asked_act (ask_of e (about a) a.kept) (is_built e a) q asks)
 
 -- the processor that acted
-own_step : (image : Contents) (budget : ℕ) (r : Record) (h : List Record) → WantsInLine (world_intent image budget (cpu_number r.event.cpu) h).wanted → Shown image (world image budget h) r.event r.outcome → Fitting (r ∷ h)
-    → BusAgrees (image_bytes image) h (world image budget h).calls → BusAgrees (image_bytes image) (r ∷ h) (world image budget (r ∷ h)).calls → Banked (image_bytes image) (cpu_number r.event.cpu) h ((world image budget h).actors (cpu_number r.event.cpu)).kept
-    → Banked (image_bytes image) (cpu_number r.event.cpu) (r ∷ h) (advanced ((world image budget h).actors (cpu_number r.event.cpu)) r.event.act (reply_at image (world image budget h) r.event)).kept
+own_step : (image : Contents) (cpus budget : ℕ) (r : Record) (h : List Record) → WantsInLine (world_intent image cpus budget (cpu_number r.event.cpu) h).wanted → Shown image (world image cpus budget h) r.event r.outcome → Fitting (r ∷ h)
+    → BusAgrees (image_bytes image) h (world image cpus budget h).calls → BusAgrees (image_bytes image) (r ∷ h) (world image cpus budget (r ∷ h)).calls → Banked (image_bytes image) (cpu_number r.event.cpu) h ((world image cpus budget h).actors (cpu_number r.event.cpu)).kept
+    → Banked (image_bytes image) (cpu_number r.event.cpu) (r ∷ h) (advanced ((world image cpus budget h).actors (cpu_number r.event.cpu)) r.event.act (reply_at image (world image cpus budget h) r.event)).kept
 unfolding advanced going.advanced outcome_of going.outcome_of
-own_step image budget r h inside s fit before after was =
-    let w : World = world image budget h in
+own_step image cpus budget r h inside s fit before after was =
+    let w : World = world image cpus budget h in
     let p : ℕ = cpu_number r.event.cpu in
     let a : Actor = w.actors p in
     let bus : BusAgrees (image_bytes image) (r ∷ h) (calls_for (image_bytes image) w.calls r.event.cpu (Ok s.ask)) = subst (λ cs. BusAgrees (image_bytes image) (r ∷ h) cs) (calls_after image w r.event r.outcome s) after in
@@ -94,17 +94,17 @@ other_step : (image : ℕ → ℕ) (p : ℕ) (r : Record) (h : List Record) (u :
 other_step image p r h u other fit was =
     nothing_changed image (r ∷ h) p r h u (other_leaves_data p r h other) (other_leaves_code p r h other) (other_leaves_barrier p r h other) (carried image p r h u fit was)
 
-pub banks_step : (image : Contents) (cpus budget : ℕ) (r : Record) (h : List Record) → WantsInLine (world_intent image budget (cpu_number r.event.cpu) h).wanted → answer_of image cpus (world image budget h) r.event ≡ Ok r.outcome → Fitting (r ∷ h)
-    → BusAgrees (image_bytes image) h (world image budget h).calls → BusAgrees (image_bytes image) (r ∷ h) (world image budget (r ∷ h)).calls
-    → (p : ℕ) → Banked (image_bytes image) p h ((world image budget h).actors p).kept → Banked (image_bytes image) p (r ∷ h) ((world image budget (r ∷ h)).actors p).kept
+pub banks_step : (image : Contents) (cpus budget : ℕ) (r : Record) (h : List Record) → WantsInLine (world_intent image cpus budget (cpu_number r.event.cpu) h).wanted → answer_of image cpus (world image cpus budget h) r.event ≡ Ok r.outcome → Fitting (r ∷ h)
+    → BusAgrees (image_bytes image) h (world image cpus budget h).calls → BusAgrees (image_bytes image) (r ∷ h) (world image cpus budget (r ∷ h)).calls
+    → (p : ℕ) → Banked (image_bytes image) p h ((world image cpus budget h).actors p).kept → Banked (image_bytes image) p (r ∷ h) ((world image cpus budget (r ∷ h)).actors p).kept
 banks_step image cpus budget r h inside played fit before after p was =
-    let w : World = world image budget h in
+    let w : World = world image cpus budget h in
     ⊎_elim
     (λ (own : by p r ≡ true).
     let same : cpu_number r.event.cpu ≡ p = eqb-true (cpu_number r.event.cpu) p own in
     let mine : Banked (image_bytes image) (cpu_number r.event.cpu) h (w.actors (cpu_number r.event.cpu)).kept = subst (λ n. Banked (image_bytes image) n h (w.actors n).kept) (sym same) was in
     let gone : Banked (image_bytes image) (cpu_number r.event.cpu) (r ∷ h) (advanced (w.actors (cpu_number r.event.cpu)) r.event.act (reply_at image w r.event)).kept =
-    own_step image budget r h inside (shown image cpus w r.event r.outcome played) fit before after mine in
+    own_step image cpus budget r h inside (shown image cpus w r.event r.outcome played) fit before after mine in
     subst (λ (a : Actor). Banked (image_bytes image) p (r ∷ h) a.kept) (sym (actor_own image w r.event p own))
     (subst (λ n. Banked (image_bytes image) n (r ∷ h) (advanced (w.actors n) r.event.act (reply_at image w r.event)).kept) same gone))
     (λ (other : by p r ≡ false).

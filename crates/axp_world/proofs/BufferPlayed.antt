@@ -175,13 +175,13 @@ actor_step x t q e o h asked is fits was =
     (subst (λ z. IsBuffered (cpu_number e.cpu) (by_event e z ∷ h) (kept_after e.act (about x) t x.kept).buffer) (sym same) now)
 
 -- at the start, and by a record that is played
-pub buffer_start : (image : Contents) (budget p : ℕ) → IsBuffered p [] ((world image budget []).actors p).kept.buffer
-buffer_start image budget p = record { fits = tt; alike = alike_none; bytes = tt }
+pub buffer_start : (image : Contents) (cpus budget p : ℕ) → IsBuffered p [] ((world image cpus budget []).actors p).kept.buffer
+buffer_start image cpus budget p = record { fits = tt; alike = alike_none; bytes = tt }
 
-pub buffer_step : (image : Contents) (cpus budget : ℕ) (r : Record) (h : List Record) → answer_of image cpus (world image budget h) r.event ≡ Ok r.outcome → Fitting (r ∷ h) → ((p : ℕ) → IsBuffered p h ((world image budget h).actors p).kept.buffer)
-    → (p : ℕ) → IsBuffered p (r ∷ h) ((world image budget (r ∷ h)).actors p).kept.buffer
+pub buffer_step : (image : Contents) (cpus budget : ℕ) (r : Record) (h : List Record) → answer_of image cpus (world image cpus budget h) r.event ≡ Ok r.outcome → Fitting (r ∷ h) → ((p : ℕ) → IsBuffered p h ((world image cpus budget h).actors p).kept.buffer)
+    → (p : ℕ) → IsBuffered p (r ∷ h) ((world image cpus budget (r ∷ h)).actors p).kept.buffer
 buffer_step image cpus budget r h played fits was p =
-    let w : World = world image budget h in
+    let w : World = world image cpus budget h in
     let s = shown image cpus w r.event r.outcome played in
     ⊎_elim
     (λ (own : eqb (cpu_number r.event.cpu) p ≡ true).

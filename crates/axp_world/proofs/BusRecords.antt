@@ -459,12 +459,12 @@ asked_act a e z is = chosen (may_now e (about a).finished a.kept.since.filled) (
 pub bus_start : (image : ℕ → ℕ) → BusAgrees image [] []
 bus_start image = record { count = refl; pairs = λ p b. refl; block = λ p. refl; requested = λ p. refl; bytes = λ first at. refl }
 
-pub bus_step : (image : Contents) (cpus budget : ℕ) (r : Record) (h : List Record) → answer_of image cpus (world image budget h) r.event ≡ Ok r.outcome → Fitting (r ∷ h)
-    → BufferAgrees (cpu_number r.event.cpu) h ((world image budget h).actors (cpu_number r.event.cpu)).kept.buffer → BusAgrees (image_bytes image) h (world image budget h).calls
-    → BusAgrees (image_bytes image) (r ∷ h) (world image budget (r ∷ h)).calls
+pub bus_step : (image : Contents) (cpus budget : ℕ) (r : Record) (h : List Record) → answer_of image cpus (world image cpus budget h) r.event ≡ Ok r.outcome → Fitting (r ∷ h)
+    → BufferAgrees (cpu_number r.event.cpu) h ((world image cpus budget h).actors (cpu_number r.event.cpu)).kept.buffer → BusAgrees (image_bytes image) h (world image cpus budget h).calls
+    → BusAgrees (image_bytes image) (r ∷ h) (world image cpus budget (r ∷ h)).calls
 unfolding outcome_of going.outcome_of
 bus_step image cpus budget r h played fit buffers bus =
-    let w : World = world image budget h in
+    let w : World = world image cpus budget h in
     let a : Actor = w.actors (cpu_number r.event.cpu) in
     let s = shown image cpus w r.event r.outcome played in
     let given : r.outcome ≡ going.outcome_by r.event.act a.cpu (about a) a.kept (answered (image_bytes image) w.calls r.event s.ask) = s.outcome ∙ ap (going.outcome_by r.event.act a.cpu (about a) a.kept) s.answered in

@@ -46,7 +46,7 @@ pub record IsCounted (cpus budget : ℕ) (actors : ℕ → Actor) (cs : List Bus
   pub steps : sum_below (λ p. (tally p h).steps) cpus ≡ steps_in h
   pub turned : sum_below (λ p. own_turns p cs) cpus ≡ turns cs
 
-first_counted : (image : Contents) (cpus budget : ℕ) → IsCounted cpus budget (world image budget []).actors (world image budget []).calls []
+first_counted : (image : Contents) (cpus budget : ℕ) → IsCounted cpus budget (world image cpus budget []).actors (world image cpus budget []).calls []
 first_counted image cpus budget =
     record {
       bounded = λ p. record {
@@ -154,10 +154,10 @@ counted_after image cpus budget w r h below s was =
       turned = omega (arith, was.turned, turns_after bytes w.calls r.event.cpu s.ask, sum_raised (λ p. own_turns p w.calls) (λ p. own_turns p (calls_for bytes w.calls r.event.cpu (Ok s.ask))) cpu (turned (reply_for bytes w.calls cpu (Ok s.ask))) cpus below (own_after bytes w.calls r.event.cpu cpu s.ask own) (λ p other. other_after bytes w.calls r.event.cpu p s.ask other));
     })
 
-pub played_is_counted : (image : Contents) (cpus budget : ℕ) (h : List Record) → IsPlayed image cpus budget h → IsCounted cpus budget (world image budget h).actors (world image budget h).calls h
+pub played_is_counted : (image : Contents) (cpus budget : ℕ) (h : List Record) → IsPlayed image cpus budget h → IsCounted cpus budget (world image cpus budget h).actors (world image cpus budget h).calls h
 played_is_counted image cpus budget [] played = first_counted image cpus budget
 played_is_counted image cpus budget (r ∷ h) played =
-    let w = world image budget h in
+    let w = world image cpus budget h in
     counted_after image cpus budget w r h (numbered image cpus w r.event r.outcome played.0) (shown image cpus w r.event r.outcome played.0) (played_is_counted image cpus budget h played.1)
 
 -- so many events, where there are so many processors
@@ -182,17 +182,17 @@ events_most (suc n) events turned budget within few =
     rw same (few_events n events turned budget within few)
 
 -- the seat of a processor counts its Steps, which are within its budget
-pub steps_are_counted : (image : Contents) (cpus budget : ℕ) (h : List Record) → IsPlayed image cpus budget h → (p : ℕ) → ((world image budget h).actors p).seat.steps ≡ steps_of p h
+pub steps_are_counted : (image : Contents) (cpus budget : ℕ) (h : List Record) → IsPlayed image cpus budget h → (p : ℕ) → ((world image cpus budget h).actors p).seat.steps ≡ steps_of p h
 steps_are_counted image cpus budget h played p = ((played_is_counted image cpus budget h played).bounded p).made ∙ sym (steps_tallied p h)
 
 pub steps_are_few : (image : Contents) (cpus budget : ℕ) (h : List Record) → IsPlayed image cpus budget h → (p : ℕ) → steps_of p h ≤ budget
 steps_are_few image cpus budget h played p = omega (arith, steps_tallied p h, steps_bounded budget _ _ _ ((played_is_counted image cpus budget h played).bounded p))
 
 -- turns are no more than Steps
-pub turns_are_few : (image : Contents) (cpus budget : ℕ) (h : List Record) → IsPlayed image cpus budget h → turns (world image budget h).calls ≤ steps_in h
+pub turns_are_few : (image : Contents) (cpus budget : ℕ) (h : List Record) → IsPlayed image cpus budget h → turns (world image cpus budget h).calls ≤ steps_in h
 turns_are_few image cpus budget h played =
     let all = played_is_counted image cpus budget h played in
-    omega (arith, all.steps, all.turned, sum_under (λ p. own_turns p (world image budget h).calls) (λ p. (tally p h).steps) cpus (λ p. turns_bounded budget _ _ _ (all.bounded p)))
+    omega (arith, all.steps, all.turned, sum_under (λ p. own_turns p (world image cpus budget h).calls) (λ p. (tally p h).steps) cpus (λ p. turns_bounded budget _ _ _ (all.bounded p)))
 
 pub all_steps_are_few : (image : Contents) (cpus budget : ℕ) (h : List Record) → IsPlayed image cpus budget h → steps_in h ≤ cpus * budget
 all_steps_are_few image cpus budget h played =
@@ -202,8 +202,8 @@ all_steps_are_few image cpus budget h played =
 pub events_are_few : (image : Contents) (cpus budget : ℕ) (h : List Record) → IsPlayed image cpus budget h → length h ≤ events_per_step cpus * (cpus * budget)
 events_are_few image cpus budget h played =
     let all = played_is_counted image cpus budget h played in
-    let made = turns (world image budget h).calls in
-    let own = λ (p : ℕ). own_turns p (world image budget h).calls in
+    let made = turns (world image cpus budget h).calls in
+    let own = λ (p : ℕ). own_turns p (world image cpus budget h).calls in
     events_most cpus (length h) made budget
     (omega (
       arith,

@@ -47,17 +47,17 @@ unasked act.Tick cs p goes = cc
 
 -- what a processor may do now, as far as it knows, is legal
 asked_is_legal : (image : Contents) (cpus budget : ℕ) (h : List Record) (c : Cpu) (a : Act) → cpu_number c < cpus → Joined image cpus budget h → is_progress a ≡ true
-    → may_now a (about ((world image budget h).actors (cpu_number c))).finished ((world image budget h).actors (cpu_number c)).kept.since.filled ≡ true
-    → is_some (act_ask a (about ((world image budget h).actors (cpu_number c))) ((world image budget h).actors (cpu_number c)).kept) ≡ true
+    → may_now a (about ((world image cpus budget h).actors (cpu_number c))).finished ((world image cpus budget h).actors (cpu_number c)).kept.since.filled ≡ true
+    → is_some (act_ask a (about ((world image cpus budget h).actors (cpu_number c))) ((world image cpus budget h).actors (cpu_number c)).kept) ≡ true
     → legal (processors image cpus budget) h (record { cpu = c; act = a }) ≡ true
 unfolding ask_of
 asked_is_legal image cpus budget h c a below is goes now asks =
     let p : ℕ = cpu_number c in
-    let who : Actor = (world image budget h).actors p in
-    let agree : Agrees image budget h p = agrees image cpus budget h is p (cpu_small c) in
+    let who : Actor = (world image cpus budget h).actors p in
+    let agree : Agrees image cpus budget h p = agrees image cpus budget h is p (cpu_small c) in
     legal_by (processors image cpus budget) h (record { cpu = c; act = a }) (about who) below (ap intent_of agree.seat)
-    ∙ (sym (legal_agrees (image_bytes image) p h (about who) who.kept (world image budget h).calls a agree.buffer agree.banks agree.since is.bus)
-    ∙ rw (now, asks, unasked a (world image budget h).calls p goes) refl)
+    ∙ (sym (legal_agrees (image_bytes image) p h (about who) who.kept (world image cpus budget h).calls a agree.buffer agree.banks agree.since is.bus)
+    ∙ rw (now, asks, unasked a (world image cpus budget h).calls p goes) refl)
 
 -- finished, with a write that waits
 pub finished_drains : (image : Contents) (cpus budget : ℕ) (h : List Record) (c : Cpu) → IsValid image → IsPlayed image cpus budget h → cpu_number c < cpus → ((processors image cpus budget).intent (cpu_number c) h).finished ≡ true → is_empty (buffer (cpu_number c) h).waiting ≡ false
@@ -65,7 +65,7 @@ pub finished_drains : (image : Contents) (cpus budget : ℕ) (h : List Record) (
 finished_drains image cpus budget h c valid played below finished some =
     let p : ℕ = cpu_number c in
     let is : Joined image cpus budget h = joined image cpus budget h valid played in
-    asked_is_legal image cpus budget h c (act.Drain 0) below is refl (rw (sym (ap (λ (i : Intent). i.finished) (ap intent_of (agrees image cpus budget h is p (cpu_small c)).seat)) ∙ finished) refl) (first_leaves ((world image budget h).actors p).kept.buffer.kept ((agrees image cpus budget h is p (cpu_small c)).buffer.none ∙ some))
+    asked_is_legal image cpus budget h c (act.Drain 0) below is refl (rw (sym (ap (λ (i : Intent). i.finished) (ap intent_of (agrees image cpus budget h is p (cpu_small c)).seat)) ∙ finished) refl) (first_leaves ((world image cpus budget h).actors p).kept.buffer.kept ((agrees image cpus budget h is p (cpu_small c)).buffer.none ∙ some))
 
 -- what lets a processor go on, and stays so by all that is played
 record GoesOn (a : Actor) : Type 0 where
@@ -74,20 +74,20 @@ record GoesOn (a : Actor) : Type 0 where
   wants : WantsWithin a.seat
 
 -- its banks are no longer than they may be
-are_few : (image : Contents) (cpus budget : ℕ) (h : List Record) → Joined image cpus budget h → (p : ℕ) → AreFew ((world image budget h).actors p).kept
+are_few : (image : Contents) (cpus budget : ℕ) (h : List Record) → Joined image cpus budget h → (p : ℕ) → AreFew ((world image cpus budget h).actors p).kept
 are_few image cpus budget h is p Even = (is.banks p).even.whole.few
 are_few image cpus budget h is p Odd = (is.banks p).odd.whole.few
 are_few image cpus budget h is p Code = (is.banks p).code.whole.few
 
 -- so it is at the start and after each record
-goes_on_start : (image : Contents) (budget p : ℕ) → GoesOn ((world image budget []).actors p)
-goes_on_start image budget p = record { ready = λ filled on. cc; rooms = rooms_start; wants = λ within. cc }
+goes_on_start : (image : Contents) (cpus budget p : ℕ) → GoesOn ((world image cpus budget []).actors p)
+goes_on_start image cpus budget p = record { ready = λ filled on. cc; rooms = rooms_start; wants = λ within. cc }
 
-own_goes_on : (image : Contents) (cpus budget : ℕ) (r : Record) (h : List Record) → IsValid image → Joined image cpus budget h → Joined image cpus budget (r ∷ h) → Shown image (world image budget h) r.event r.outcome
-    → GoesOn ((world image budget h).actors (cpu_number r.event.cpu)) → GoesOn (advanced ((world image budget h).actors (cpu_number r.event.cpu)) r.event.act (reply_at image (world image budget h) r.event))
+own_goes_on : (image : Contents) (cpus budget : ℕ) (r : Record) (h : List Record) → IsValid image → Joined image cpus budget h → Joined image cpus budget (r ∷ h) → Shown image (world image cpus budget h) r.event r.outcome
+    → GoesOn ((world image cpus budget h).actors (cpu_number r.event.cpu)) → GoesOn (advanced ((world image cpus budget h).actors (cpu_number r.event.cpu)) r.event.act (reply_at image (world image cpus budget h) r.event))
 unfolding advanced going.advanced
 own_goes_on image cpus budget r h valid is after s was =
-    let w : World = world image budget h in
+    let w : World = world image cpus budget h in
     let n : ℕ = cpu_number r.event.cpu in
     let a : Actor = w.actors n in
     let t : Option Reply = reply_at image w r.event in
@@ -96,15 +96,15 @@ own_goes_on image cpus budget r h valid is after s was =
     let banks : BanksAgree (image_bytes image) n (r ∷ h) (advanced a r.event.act t).kept =
     subst (λ (x : Actor). BanksAgree (image_bytes image) n (r ∷ h) x.kept) (actor_own image w r.event n own) (agrees image cpus budget (r ∷ h) after n (cpu_small r.event.cpu)).banks in
     record {
-      ready = act_ready r.event.act a t (image_bytes image) n r h s.ask asked own s.outcome (intents_in_line image budget valid n h) banks;
+      ready = act_ready r.event.act a t (image_bytes image) n r h s.ask asked own s.outcome (intents_in_line image cpus budget valid n h) banks;
       rooms = act_rooms r.event.act (about a) t a.kept s.ask asked.asks (are_few image cpus budget h is n) was.rooms;
       wants = act_wants r.event.act a t s.ask asked was.wants;
     }
 
-goes_on : (image : Contents) (cpus budget : ℕ) (h : List Record) → IsValid image → IsPlayed image cpus budget h → (p : ℕ) → GoesOn ((world image budget h).actors p)
-goes_on image cpus budget [] valid played p = goes_on_start image budget p
+goes_on : (image : Contents) (cpus budget : ℕ) (h : List Record) → IsValid image → IsPlayed image cpus budget h → (p : ℕ) → GoesOn ((world image cpus budget h).actors p)
+goes_on image cpus budget [] valid played p = goes_on_start image cpus budget p
 goes_on image cpus budget (r ∷ h) valid played p =
-    let w : World = world image budget h in
+    let w : World = world image cpus budget h in
     let n : ℕ = cpu_number r.event.cpu in
     let was : (k : ℕ) → GoesOn (w.actors k) = goes_on image cpus budget h valid played.1 in
     ⊎_elim
@@ -130,9 +130,9 @@ pub progress : (image : Contents) (cpus budget : ℕ) (h : List Record) (c : Cpu
     → (a : Act) × (is_progress a ≡ true) × (legal (processors image cpus budget) h (record { cpu = c; act = a }) ≡ true)
 progress image cpus budget h c valid played below goes =
     let p : ℕ = cpu_number c in
-    let a : Actor = (world image budget h).actors p in
+    let a : Actor = (world image cpus budget h).actors p in
     let is : Joined image cpus budget h = joined image cpus budget h valid played in
     let on : is_finished a.seat ≡ false = sym (ap is_finished (agrees image cpus budget h is p (cpu_small c)).seat) ∙ goes in
     let can : GoesOn a = goes_on image cpus budget h valid played p in
-    let o : Offer (about a) a.kept = offered (about a) a.kept on can.ready can.rooms (intents_want_no_poll image budget valid p h) (at_boundary a.seat on can.wants) in
+    let o : Offer (about a) a.kept = offered (about a) a.kept on can.ready can.rooms (intents_want_no_poll image cpus budget valid p h) (at_boundary a.seat on can.wants) in
     (o.chosen, o.goes, asked_is_legal image cpus budget h c o.chosen below is o.goes o.now o.asks)

@@ -50,13 +50,13 @@ goes_on_as : (a : Actor) (e : Act) (r : Option Reply) → (advanced a e r).cpu �
 unfolding advanced
 goes_on_as a e r = refl
 
-pub actor_cpu : (image : Contents) (budget : ℕ) (h : List Record) (c : Cpu) → ((world image budget h).actors (cpu_number c)).cpu ≡ c
-actor_cpu image budget [] c = ap cpu_or_first (cpu_of_number c)
-actor_cpu image budget (r ∷ h) c =
-    let w : World = world image budget h in
+pub actor_cpu : (image : Contents) (cpus budget : ℕ) (h : List Record) (c : Cpu) → ((world image cpus budget h).actors (cpu_number c)).cpu ≡ c
+actor_cpu image cpus budget [] c = ap cpu_or_first (cpu_of_number c)
+actor_cpu image cpus budget (r ∷ h) c =
+    let w : World = world image cpus budget h in
     ⊎_elim
-    (λ (own : eqb (cpu_number r.event.cpu) (cpu_number c) ≡ true). ap (λ (a : Actor). a.cpu) (actor_own image w r.event (cpu_number c) own) ∙ goes_on_as (w.actors (cpu_number c)) r.event.act (reply_at image w r.event) ∙ actor_cpu image budget h c)
-    (λ (other : eqb (cpu_number r.event.cpu) (cpu_number c) ≡ false). ap (λ (a : Actor). a.cpu) (actor_other image w r.event (cpu_number c) other) ∙ actor_cpu image budget h c)
+    (λ (own : eqb (cpu_number r.event.cpu) (cpu_number c) ≡ true). ap (λ (a : Actor). a.cpu) (actor_own image w r.event (cpu_number c) own) ∙ goes_on_as (w.actors (cpu_number c)) r.event.act (reply_at image w r.event) ∙ actor_cpu image cpus budget h c)
+    (λ (other : eqb (cpu_number r.event.cpu) (cpu_number c) ≡ false). ap (λ (a : Actor). a.cpu) (actor_other image w r.event (cpu_number c) other) ∙ actor_cpu image cpus budget h c)
     (cases_Bool (eqb (cpu_number r.event.cpu) (cpu_number c)))
 
 -- a Take that is answered something has something late
@@ -85,17 +85,17 @@ unfolding request_of
 asked_is a e z is = asked_ok (ask_of e (about a) a.kept) (is_built e a) z is
 
 -- what each processor has of the world, after a history
-pub record Agrees (image : Contents) (budget : ℕ) (h : List Record) (p : ℕ) : Type 0 where
-  pub seat : seat_in image budget p h ≡ ((world image budget h).actors p).seat
-  pub buffer : BufferAgrees p h ((world image budget h).actors p).kept.buffer
-  pub banks : BanksAgree (image_bytes image) p h ((world image budget h).actors p).kept
-  pub since : SinceAgrees p h ((world image budget h).actors p).kept
+pub record Agrees (image : Contents) (cpus budget : ℕ) (h : List Record) (p : ℕ) : Type 0 where
+  pub seat : seat_in image cpus budget p h ≡ ((world image cpus budget h).actors p).seat
+  pub buffer : BufferAgrees p h ((world image cpus budget h).actors p).kept.buffer
+  pub banks : BanksAgree (image_bytes image) p h ((world image cpus budget h).actors p).kept
+  pub since : SinceAgrees p h ((world image cpus budget h).actors p).kept
 
 -- a played record is legal
-pub played_legal : (image : Contents) (cpus budget : ℕ) (r : Record) (h : List Record) → answer_of image cpus (world image budget h) r.event ≡ Ok r.outcome → Agrees image budget h (cpu_number r.event.cpu) → BusAgrees (image_bytes image) h (world image budget h).calls
+pub played_legal : (image : Contents) (cpus budget : ℕ) (r : Record) (h : List Record) → answer_of image cpus (world image cpus budget h) r.event ≡ Ok r.outcome → Agrees image cpus budget h (cpu_number r.event.cpu) → BusAgrees (image_bytes image) h (world image cpus budget h).calls
     → legal (processors image cpus budget) h r.event ≡ true
 played_legal image cpus budget r h played agrees bus =
-    let w : World = world image budget h in
+    let w : World = world image cpus budget h in
     let a : Actor = w.actors (cpu_number r.event.cpu) in
     let s = shown image cpus w r.event r.outcome played in
     let something : answer (image_bytes image) w.calls r.event.cpu s.ask ≡ Some reply.Nothing → ⊥ = λ x. s.something (s.answered ∙ x) in
@@ -105,13 +105,13 @@ played_legal image cpus budget r h played agrees bus =
     ∙ (sym (legal_agrees (image_bytes image) (cpu_number r.event.cpu) h (about a) a.kept w.calls r.event.act agrees.buffer agrees.banks agrees.since bus) ∙ rw (asks, late) refl)
 
 -- and has its outcome
-pub played_outcome : (image : Contents) (cpus budget : ℕ) (r : Record) (h : List Record) → answer_of image cpus (world image budget h) r.event ≡ Ok r.outcome → Fitting h
-    → WantsInLine (world_intent image budget (cpu_number r.event.cpu) h).wanted → WantsTarget (world_intent image budget (cpu_number r.event.cpu) h).wanted
-    → Agrees image budget h (cpu_number r.event.cpu) → BusAgrees (image_bytes image) h (world image budget h).calls
+pub played_outcome : (image : Contents) (cpus budget : ℕ) (r : Record) (h : List Record) → answer_of image cpus (world image cpus budget h) r.event ≡ Ok r.outcome → Fitting h
+    → WantsInLine (world_intent image cpus budget (cpu_number r.event.cpu) h).wanted → WantsTarget (world_intent image cpus budget (cpu_number r.event.cpu) h).wanted
+    → Agrees image cpus budget h (cpu_number r.event.cpu) → BusAgrees (image_bytes image) h (world image cpus budget h).calls
     → r.outcome ≡ model.outcome_of (image_bytes image) (processors image cpus budget) h r.event
 unfolding outcome_of going.outcome_of model.outcome_of
 played_outcome image cpus budget r h played fit inside target agrees bus =
-    let w : World = world image budget h in
+    let w : World = world image cpus budget h in
     let p : ℕ = cpu_number r.event.cpu in
     let a : Actor = w.actors p in
     let s = shown image cpus w r.event r.outcome played in
@@ -121,21 +121,21 @@ played_outcome image cpus budget r h played fit inside target agrees bus =
     let able : may r.event.act (about a) p h ≡ true = (and_parts (may r.event.act (about a) p h) (may_now r.event.act (about a).finished (since_step is_fill p h)) own).0 in
     s.outcome
     ∙ ap (going.outcome_by r.event.act a.cpu (about a) a.kept) s.answered
-    ∙ ap (λ c. going.outcome_by r.event.act c (about a) a.kept (answer (image_bytes image) w.calls r.event.cpu s.ask)) (actor_cpu image budget h r.event.cpu)
+    ∙ ap (λ c. going.outcome_by r.event.act c (about a) a.kept (answer (image_bytes image) w.calls r.event.cpu s.ask)) (actor_cpu image cpus budget h r.event.cpu)
     ∙ outcome_agrees (image_bytes image) h r.event.act r.event.cpu (about a) a.kept w.calls s.ask fit agrees.buffer agrees.banks bus inside target something (asked_act a r.event.act s.ask s.asked).0 able
     ∙ ap (λ i. model.outcome_by r.event.act (image_bytes image) i r.event.cpu h) (sym (ap intent_of agrees.seat))
 
 -- so a history goes on as a run
-pub played_is_run : (image : Contents) (cpus budget : ℕ) (r : Record) (h : List Record) → answer_of image cpus (world image budget h) r.event ≡ Ok r.outcome → Fitting h
-    → WantsInLine (world_intent image budget (cpu_number r.event.cpu) h).wanted → WantsTarget (world_intent image budget (cpu_number r.event.cpu) h).wanted
-    → Agrees image budget h (cpu_number r.event.cpu) → BusAgrees (image_bytes image) h (world image budget h).calls → IsRun (image_bytes image) (processors image cpus budget) h
+pub played_is_run : (image : Contents) (cpus budget : ℕ) (r : Record) (h : List Record) → answer_of image cpus (world image cpus budget h) r.event ≡ Ok r.outcome → Fitting h
+    → WantsInLine (world_intent image cpus budget (cpu_number r.event.cpu) h).wanted → WantsTarget (world_intent image cpus budget (cpu_number r.event.cpu) h).wanted
+    → Agrees image cpus budget h (cpu_number r.event.cpu) → BusAgrees (image_bytes image) h (world image cpus budget h).calls → IsRun (image_bytes image) (processors image cpus budget) h
     → IsRun (image_bytes image) (processors image cpus budget) (r ∷ h)
 played_is_run image cpus budget r h played fit inside target agrees bus run =
     (played_legal image cpus budget r h played agrees bus, played_outcome image cpus budget r h played fit inside target agrees bus, run)
 
 -- so does every played history over a valid image
-pub run_goes_on : (image : Contents) (cpus budget : ℕ) (r : Record) (h : List Record) → IsValid image → answer_of image cpus (world image budget h) r.event ≡ Ok r.outcome → Agrees image budget h (cpu_number r.event.cpu) → BusAgrees (image_bytes image) h (world image budget h).calls
+pub run_goes_on : (image : Contents) (cpus budget : ℕ) (r : Record) (h : List Record) → IsValid image → answer_of image cpus (world image cpus budget h) r.event ≡ Ok r.outcome → Agrees image cpus budget h (cpu_number r.event.cpu) → BusAgrees (image_bytes image) h (world image cpus budget h).calls
     → IsRun (image_bytes image) (processors image cpus budget) h → IsRun (image_bytes image) (processors image cpus budget) (r ∷ h)
 run_goes_on image cpus budget r h valid played agrees bus run =
     let inside : AreInLine (processors image cpus budget) = in_line image cpus budget valid in
-    played_is_run image cpus budget r h played (run_fits (image_bytes image) (processors image cpus budget) h inside run) (intents_in_line image budget valid (cpu_number r.event.cpu) h) (intents_name_targets image budget valid (cpu_number r.event.cpu) h) agrees bus run
+    played_is_run image cpus budget r h played (run_fits (image_bytes image) (processors image cpus budget) h inside run) (intents_in_line image cpus budget valid (cpu_number r.event.cpu) h) (intents_name_targets image cpus budget valid (cpu_number r.event.cpu) h) agrees bus run

@@ -148,11 +148,11 @@ ask_act : (now : Bool) (o : Option Ask2) (z : Ask2) → cond now o None ≡ Some
 ask_act true o z is = is
 ask_act false o z is = cc
 
-below_agrees : (image : Contents) (cpus budget : ℕ) (h : List Record) (e : Event) → cpu_number e.cpu < cpus → Agrees image budget h (cpu_number e.cpu) → BusAgrees (image_bytes image) h (world image budget h).calls
-    → is_not_legal (answer_of image cpus (world image budget h) e) ≡ not (legal (processors image cpus budget) h e)
+below_agrees : (image : Contents) (cpus budget : ℕ) (h : List Record) (e : Event) → cpu_number e.cpu < cpus → Agrees image cpus budget h (cpu_number e.cpu) → BusAgrees (image_bytes image) h (world image cpus budget h).calls
+    → is_not_legal (answer_of image cpus (world image cpus budget h) e) ≡ not (legal (processors image cpus budget) h e)
 unfolding answer_of request_of ask_of
 below_agrees image cpus budget h e below agrees bus =
-    let w : World = world image budget h in
+    let w : World = world image cpus budget h in
     let a : Actor = w.actors (cpu_number e.cpu) in
     rw (lt-ltb (cpu_number e.cpu) cpus below)
     (by_ask (ask_of e.act (about a) a.kept) (is_built e.act a) (has_late e.act w.calls (cpu_number e.cpu)) (image_bytes image) w.calls e.cpu (outcome_of a e.act (reply_at image w e)) (unbuilt_late e.act a w.calls (cpu_number e.cpu))
@@ -161,8 +161,8 @@ below_agrees image cpus budget h e below agrees bus =
     ∙ ap not (sym (legal_by (processors image cpus budget) h e (about a) below (ap intent_of agrees.seat))))
 
 -- an event of a processor that there is not is not legal
-pub refused_agrees : (image : Contents) (cpus budget : ℕ) (h : List Record) (e : Event) → Agrees image budget h (cpu_number e.cpu) → BusAgrees (image_bytes image) h (world image budget h).calls
-    → is_not_legal (answer_of image cpus (world image budget h) e) ≡ not (legal (processors image cpus budget) h e)
+pub refused_agrees : (image : Contents) (cpus budget : ℕ) (h : List Record) (e : Event) → Agrees image cpus budget h (cpu_number e.cpu) → BusAgrees (image_bytes image) h (world image cpus budget h).calls
+    → is_not_legal (answer_of image cpus (world image cpus budget h) e) ≡ not (legal (processors image cpus budget) h e)
 unfolding answer_of legal
 refused_agrees image cpus budget h e agrees bus =
     ⊎_elim

@@ -56,17 +56,17 @@ unfolding advanced outcome_of going.outcome_of
 own_same a e r = act_same e a.cpu r a
 
 -- at the start
-start_same : (image : Contents) (budget p : ℕ) → p < MAX_CPUS → first_seat image budget p ≡ (first_actor image budget (cpu_or_first (cpu_of p))).seat
-start_same image budget p less = numbered (ltb p MAX_CPUS) refl (lt-ltb p MAX_CPUS less) where
-  numbered : (b : Bool) (tested : ltb p MAX_CPUS ≡ b) → b ≡ true → first_seat image budget p ≡ (first_actor image budget (cpu_or_first (cpu_by p b tested))).seat
+start_same : (image : Contents) (cpus budget p : ℕ) → p < MAX_CPUS → first_seat image cpus budget p ≡ (first_actor image cpus budget (cpu_or_first (cpu_of p))).seat
+start_same image cpus budget p less = numbered (ltb p MAX_CPUS) refl (lt-ltb p MAX_CPUS less) where
+  numbered : (b : Bool) (tested : ltb p MAX_CPUS ≡ b) → b ≡ true → first_seat image cpus budget p ≡ (first_actor image cpus budget (cpu_or_first (cpu_by p b tested))).seat
   numbered true tested is = refl
   numbered false tested is = cc
 
-pub seats_agree : (image : Contents) (cpus budget : ℕ) (h : List Record) → IsPlayed image cpus budget h → (p : ℕ) → p < MAX_CPUS → seat_in image budget p h ≡ ((world image budget h).actors p).seat
-seats_agree image cpus budget [] played p less = start_same image budget p less
+pub seats_agree : (image : Contents) (cpus budget : ℕ) (h : List Record) → IsPlayed image cpus budget h → (p : ℕ) → p < MAX_CPUS → seat_in image cpus budget p h ≡ ((world image cpus budget h).actors p).seat
+seats_agree image cpus budget [] played p less = start_same image cpus budget p less
 seats_agree image cpus budget (r ∷ h) played p less =
-    let w : World = world image budget h in
-    let before : seat_in image budget p h ≡ (w.actors p).seat = seats_agree image cpus budget h played.1 p less in
+    let w : World = world image cpus budget h in
+    let before : seat_in image cpus budget p h ≡ (w.actors p).seat = seats_agree image cpus budget h played.1 p less in
     ⊎_elim
     (λ (own : by p r ≡ true).
     let same : cpu_number r.event.cpu ≡ p = eqb-true (cpu_number r.event.cpu) p own in
@@ -79,7 +79,7 @@ seats_agree image cpus budget (r ∷ h) played p less =
     (λ (other : by p r ≡ false). rw other (before ∙ ap (λ (a : Actor). a.seat) (sym (actor_other image w r.event p other))))
     (cases_Bool (by p r))
 
-pub intents_agree : (image : Contents) (cpus budget : ℕ) (h : List Record) → IsPlayed image cpus budget h → (p : ℕ) → p < MAX_CPUS → (processors image cpus budget).intent p h ≡ world_intent image budget p h
+pub intents_agree : (image : Contents) (cpus budget : ℕ) (h : List Record) → IsPlayed image cpus budget h → (p : ℕ) → p < MAX_CPUS → (processors image cpus budget).intent p h ≡ world_intent image cpus budget p h
 intents_agree image cpus budget h played p less = ap intent_of (seats_agree image cpus budget h played p less)
 
 -- the number of a processor is one

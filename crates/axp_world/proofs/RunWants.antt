@@ -40,8 +40,8 @@ record IsSeated (s : Seat) : Type 0 where
   most : s.size ≤ MAX_MEMORY
   pc : pc_of s.start.state % INSTRUCTION_BYTES ≡ 0
 
-first_seated : (image : Contents) (budget n : ℕ) → IsValid image → IsSeated (first_seat image budget n)
-first_seated image budget n valid = record { pages = valid.whole_pages; most = valid.most_size; pc = (first_stands image budget n image.size (first_table image n) refl refl valid).pc }
+first_seated : (image : Contents) (cpus budget n : ℕ) → IsValid image → IsSeated (first_seat image cpus budget n)
+first_seated image cpus budget n valid = record { pages = valid.whole_pages; most = valid.most_size; pc = (first_stands image cpus budget n image.size (first_table image n) refl refl valid).pc }
 
 moved_seated : (s : Seat) (values : List ℕ) (p : Plan) → IsSeated s → IsSound s.size p → IsSeated (moved s values p)
 moved_seated s values (End t) seated sound = record { pages = seated.pages; most = seated.most; pc = sound }
@@ -67,13 +67,13 @@ advanced_seated : (a : Actor) (e : Act) (r : Option Reply) → IsSeated a.seat �
 unfolding advanced
 advanced_seated a e r seated = act_seated e r a seated
 
-seated : (image : Contents) (budget : ℕ) → IsValid image → (h : List Record) (p : ℕ) → IsSeated ((world image budget h).actors p).seat
-seated image budget valid [] p = first_seated image budget (cpu_number (cpu_or_first (cpu_of p))) valid
-seated image budget valid (r ∷ h) p =
-    let w : World = world image budget h in
+seated : (image : Contents) (cpus budget : ℕ) → IsValid image → (h : List Record) (p : ℕ) → IsSeated ((world image cpus budget h).actors p).seat
+seated image cpus budget valid [] p = first_seated image cpus budget (cpu_number (cpu_or_first (cpu_of p))) valid
+seated image cpus budget valid (r ∷ h) p =
+    let w : World = world image cpus budget h in
     ⊎_elim
-    (λ (own : eqb (cpu_number r.event.cpu) p ≡ true). subst (λ (a : Actor). IsSeated a.seat) (sym (actor_own image w r.event p own)) (advanced_seated (w.actors p) r.event.act (reply_at image w r.event) (seated image budget valid h p)))
-    (λ (other : eqb (cpu_number r.event.cpu) p ≡ false). subst (λ (a : Actor). IsSeated a.seat) (sym (actor_other image w r.event p other)) (seated image budget valid h p))
+    (λ (own : eqb (cpu_number r.event.cpu) p ≡ true). subst (λ (a : Actor). IsSeated a.seat) (sym (actor_own image w r.event p own)) (advanced_seated (w.actors p) r.event.act (reply_at image w r.event) (seated image cpus budget valid h p)))
+    (λ (other : eqb (cpu_number r.event.cpu) p ≡ false). subst (λ (a : Actor). IsSeated a.seat) (sym (actor_other image w r.event p other)) (seated image cpus budget valid h p))
     (cases_Bool (eqb (cpu_number r.event.cpu) p))
 
 -- a wanted access lies in one line
@@ -134,14 +134,14 @@ seat_wants s seated = by_finished (is_finished s) (wanted_by (plan_now s)) (plan
   by_finished true o wants = (tt, tt, refl)
   by_finished false o wants = wants
 
-pub intents_in_line : (image : Contents) (budget : ℕ) → IsValid image → (p : ℕ) (h : List Record) → WantsInLine (world_intent image budget p h).wanted
-intents_in_line image budget valid p h = (seat_wants ((world image budget h).actors p).seat (seated image budget valid h p)).0
+pub intents_in_line : (image : Contents) (cpus budget : ℕ) → IsValid image → (p : ℕ) (h : List Record) → WantsInLine (world_intent image cpus budget p h).wanted
+intents_in_line image cpus budget valid p h = (seat_wants ((world image cpus budget h).actors p).seat (seated image cpus budget valid h p)).0
 
-pub intents_name_targets : (image : Contents) (budget : ℕ) → IsValid image → (p : ℕ) (h : List Record) → WantsTarget (world_intent image budget p h).wanted
-intents_name_targets image budget valid p h = (seat_wants ((world image budget h).actors p).seat (seated image budget valid h p)).1
+pub intents_name_targets : (image : Contents) (cpus budget : ℕ) → IsValid image → (p : ℕ) (h : List Record) → WantsTarget (world_intent image cpus budget p h).wanted
+intents_name_targets image cpus budget valid p h = (seat_wants ((world image cpus budget h).actors p).seat (seated image cpus budget valid h p)).1
 
-pub intents_want_no_poll : (image : Contents) (budget : ℕ) → IsValid image → (p : ℕ) (h : List Record) → wants_poll (world_intent image budget p h).wanted ≡ false
-intents_want_no_poll image budget valid p h = (seat_wants ((world image budget h).actors p).seat (seated image budget valid h p)).2
+pub intents_want_no_poll : (image : Contents) (cpus budget : ℕ) → IsValid image → (p : ℕ) (h : List Record) → wants_poll (world_intent image cpus budget p h).wanted ≡ false
+intents_want_no_poll image cpus budget valid p h = (seat_wants ((world image cpus budget h).actors p).seat (seated image cpus budget valid h p)).2
 
 -- the same by the records alone
 step_seated : (s : Seat) (v : ℕ) → IsSeated s → IsSeated (stepped s v)
@@ -157,11 +157,11 @@ record_seated : (e : Act) (o : Outcome) (s : Seat) → IsSeated s → IsSeated (
 record_seated act.Step o s seated = shown_seated o s seated
 record_seated _ o s seated = seated
 
-followed_seated : (image : Contents) (budget : ℕ) → IsValid image → (h : List Record) (p : ℕ) → IsSeated (seat_in image budget p h)
-followed_seated image budget valid [] p = first_seated image budget p valid
-followed_seated image budget valid (r ∷ h) p =
-    cond_both (by p r) (following.seat_after r.event.act r.outcome (seat_in image budget p h)) (seat_in image budget p h) IsSeated
-    (λ own. record_seated r.event.act r.outcome (seat_in image budget p h) (followed_seated image budget valid h p)) (λ other. followed_seated image budget valid h p)
+followed_seated : (image : Contents) (cpus budget : ℕ) → IsValid image → (h : List Record) (p : ℕ) → IsSeated (seat_in image cpus budget p h)
+followed_seated image cpus budget valid [] p = first_seated image cpus budget p valid
+followed_seated image cpus budget valid (r ∷ h) p =
+    cond_both (by p r) (following.seat_after r.event.act r.outcome (seat_in image cpus budget p h)) (seat_in image cpus budget p h) IsSeated
+    (λ own. record_seated r.event.act r.outcome (seat_in image cpus budget p h) (followed_seated image cpus budget valid h p)) (λ other. followed_seated image cpus budget valid h p)
 
 pub in_line : (image : Contents) (cpus budget : ℕ) → IsValid image → AreInLine (processors image cpus budget)
-in_line image cpus budget valid p h = (seat_wants (seat_in image budget p h) (followed_seated image budget valid h p)).0
+in_line image cpus budget valid p h = (seat_wants (seat_in image cpus budget p h) (followed_seated image cpus budget valid h p)).0

@@ -142,13 +142,13 @@ other_since p r h u other was = record {
   stays test = rw other refl
 
 -- at the start nothing was done
-pub since_start : (image : Contents) (budget p : ℕ) → SinceAgrees p [] ((world image budget []).actors p).kept
-since_start image budget p = record { filled = refl; even = refl; odd = refl; code = refl; polled = refl; ticked = refl }
+pub since_start : (image : Contents) (cpus budget p : ℕ) → SinceAgrees p [] ((world image cpus budget []).actors p).kept
+since_start image cpus budget p = record { filled = refl; even = refl; odd = refl; code = refl; polled = refl; ticked = refl }
 
-pub since_agrees_step : (image : Contents) (budget : ℕ) (r : Record) (h : List Record) (p : ℕ) → SinceAgrees p h ((world image budget h).actors p).kept → SinceAgrees p (r ∷ h) ((world image budget (r ∷ h)).actors p).kept
+pub since_agrees_step : (image : Contents) (cpus budget : ℕ) (r : Record) (h : List Record) (p : ℕ) → SinceAgrees p h ((world image cpus budget h).actors p).kept → SinceAgrees p (r ∷ h) ((world image cpus budget (r ∷ h)).actors p).kept
 unfolding advanced going.advanced
-since_agrees_step image budget r h p was =
-    let w : World = world image budget h in
+since_agrees_step image cpus budget r h p was =
+    let w : World = world image cpus budget h in
     ⊎_elim
     (λ (own : by p r ≡ true). rw (actor_own image w r.event p own) (own_since r.event.act (about (w.actors p)) (reply_at image w r.event) (w.actors p).kept p r h refl own was))
     (λ (other : by p r ≡ false). rw (actor_other image w r.event p other) (other_since p r h (w.actors p).kept other was))

@@ -20,7 +20,7 @@ is_not_legal (Err NotBuilt) = false
 abbrev pub IsBuilt : Contents → ℕ → ℕ → List Record → Type 0
 IsBuilt image cpus budget [] = Unit {0}
 IsBuilt image cpus budget (r ∷ h) =
-    (answer_of image cpus (world image budget h) r.event ≡ Err NotBuilt → ⊥) × IsBuilt image cpus budget h
+    (answer_of image cpus (world image cpus budget h) r.event ≡ Err NotBuilt → ⊥) × IsBuilt image cpus budget h
 
 -- an act by which a processor comes nearer to its end: it steps, or makes way for a Step
 abbrev pub is_progress : Act → Bool

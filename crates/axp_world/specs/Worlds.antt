@@ -68,14 +68,14 @@ cpu_or_first None = record { number = 0; below = refl }
 cpu_or_first (Some cpu) = cpu
 
 -- the world at the start, and after the events of a history
-abbrev pub first_world : Contents → ℕ → World
-first_world image budget = record { actors = λ p. first_actor image budget (cpu_or_first (cpu_of p)); calls = [] }
+abbrev pub first_world : Contents → ℕ → ℕ → World
+first_world image cpus budget = record { actors = λ p. first_actor image cpus budget (cpu_or_first (cpu_of p)); calls = [] }
 
-abbrev pub world : Contents → ℕ → List Record → World
-world image budget [] = first_world image budget
-world image budget (r ∷ h) = after_event image (world image budget h) r.event
+abbrev pub world : Contents → ℕ → ℕ → List Record → World
+world image cpus budget [] = first_world image cpus budget
+world image cpus budget (r ∷ h) = after_event image (world image cpus budget h) r.event
 
 -- each record was given by its event, after those before it
 abbrev pub IsPlayed : Contents → ℕ → ℕ → List Record → Type 0
 IsPlayed image cpus budget [] = Unit {0}
-IsPlayed image cpus budget (r ∷ h) = (answer_of image cpus (world image budget h) r.event ≡ Ok r.outcome) × IsPlayed image cpus budget h
+IsPlayed image cpus budget (r ∷ h) = (answer_of image cpus (world image cpus budget h) r.event ≡ Ok r.outcome) × IsPlayed image cpus budget h

@@ -27,20 +27,20 @@ ghost use Rattle.axp_world.specs.Worlds.{IsPlayed, answer_of, image_bytes, world
 pub fn played_histories_are_runs()
     ensures in_line { (image : Contents) (cpus budget : ℕ) → IsValid image → AreInLine (processors image cpus budget) }
     ensures run { (image : Contents) (cpus budget : ℕ) (h : List Record) → IsValid image → IsPlayed image cpus budget h → IsRun (image_bytes image) (processors image cpus budget) h }
-    ensures turns { (image : Contents) (cpus budget : ℕ) (h : List Record) → IsValid image → IsPlayed image cpus budget h → calls.turns (world image budget h).calls ≡ turns h }
+    ensures turns { (image : Contents) (cpus budget : ℕ) (h : List Record) → IsValid image → IsPlayed image cpus budget h → calls.turns (world image cpus budget h).calls ≡ turns h }
     ensures memory { (image : Contents) (cpus budget : ℕ) (h : List Record) → IsValid image → IsPlayed image cpus budget h → (at : ℕ)
-        → calls.memory (image_bytes image) (world image budget h).calls at ≡ final_byte (image_bytes image) h at }
+        → calls.memory (image_bytes image) (world image cpus budget h).calls at ≡ final_byte (image_bytes image) h at }
     ensures touched { (image : Contents) (cpus budget : ℕ) (h : List Record) → IsValid image → IsPlayed image cpus budget h → (q : ℕ)
-        → calls.is_touched q (world image budget h).calls ≡ is_touched h q }
+        → calls.is_touched q (world image cpus budget h).calls ≡ is_touched h q }
     ensures seats { (image : Contents) (cpus budget : ℕ) (h : List Record) → IsValid image → IsPlayed image cpus budget h → (p : ℕ) → p < MAX_CPUS
-        → seat_in image budget p h ≡ ((world image budget h).actors p).seat }
+        → seat_in image cpus budget p h ≡ ((world image cpus budget h).actors p).seat }
 {}
 
 /// After a played history an event is refused as not legal exactly where the memory model says that it is
 /// not: so it is with every event of a processor that there is not.
 pub fn refused_where_not_legal()
     ensures { (image : Contents) (cpus budget : ℕ) (h : List Record) (e : Event) → IsValid image → IsPlayed image cpus budget h
-        → is_not_legal (answer_of image cpus (world image budget h) e) ≡ not (legal (processors image cpus budget) h e) }
+        → is_not_legal (answer_of image cpus (world image cpus budget h) e) ≡ not (legal (processors image cpus budget) h e) }
 {}
 
 /// Every run of the memory model is played, where no event comes to what is not built.

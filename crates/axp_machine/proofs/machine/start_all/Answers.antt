@@ -8,5 +8,5 @@ use Rattle.axp_machine.proofs.machine.start_all.Goals as goal
 
 pub loop-n-preserved : goal.loop-n-preserved
 loop-n-preserved c =
-    let named = subst (λ (o : Option Cpu). IsAt c.start.result (first_actor c.args.image.now c.args.budget (cpu_or_first o))) (sym c.in-Some.is ∙ c.new.ensures.value) c.start.ensures in
-    started_more c.args.image.now c.args.budget c.loop-n.processors.items c.push.new.self.items c.start.result c.loop-n.n c.loop-n.invariant named c.in_ok-push.ensures.items
+    let named = subst (λ (o : Option Cpu). IsAt c.start.result (first_actor c.args.image.now c.args.cpus c.args.budget (cpu_or_first o))) (sym c.in-Some.is ∙ c.new.ensures.value) c.start.ensures in
+    started_more c.args.image.now c.args.cpus c.args.budget c.loop-n.processors.items c.push.new.self.items c.start.result c.loop-n.n c.loop-n.invariant named c.in_ok-push.ensures.items

@@ -10,6 +10,6 @@ returns c = record {
   run = λ image cpus budget h valid played. (joined image cpus budget h valid played).run;
   turns = λ image cpus budget h valid played. (joined image cpus budget h valid played).bus.count;
   memory = λ image cpus budget h valid played. (joined image cpus budget h valid played).bus.bytes (image_bytes image);
-  touched = λ image cpus budget h valid played. touched_agrees (image_bytes image) h (world image budget h).calls (joined image cpus budget h valid played).bus;
+  touched = λ image cpus budget h valid played. touched_agrees (image_bytes image) h (world image cpus budget h).calls (joined image cpus budget h valid played).bus;
   seats = λ image cpus budget h valid played. (joined image cpus budget h valid played).seats;
 }

@@ -59,4 +59,4 @@ returns-else-is_vain-clause-granted c =
 pub returns-else-is_vain-clause-within : goal.returns-else-is_vain-clause-within
 returns-else-is_vain-clause-within c =
     let m : Seen = c.args.self.now in
-    subst (λ n. IsAskWithin n c.in-Ok.ask) (seat_size m.image m.budget m.records (cpu_number c.args.event.cpu)) (c.in-Ok.ensures.within (actor_of m (cpu_number c.args.event.cpu)) c.processor.ensures)
+    subst (λ n. IsAskWithin n c.in-Ok.ask) (seat_size m.image m.cpus m.budget m.records (cpu_number c.args.event.cpu)) (c.in-Ok.ensures.within (actor_of m (cpu_number c.args.event.cpu)) c.processor.ensures)

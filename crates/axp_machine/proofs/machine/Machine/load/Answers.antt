@@ -15,7 +15,7 @@ now_inside c = record { image = c.in_ok-image.image; processors = c.in_ok-proces
 pub invariant_of-result : goal.invariant_of-result
 invariant_of-result c =
     let same = sym c.in_ok-image.ensures.value in
-    let starts = subst (λ (image : Contents). StartsAll image c.args.budget c.args.cpus c.in_ok-processors.processors.items) same c.in_ok-processors.ensures in
+    let starts = subst (λ (image : Contents). StartsAll image c.args.cpus c.args.budget c.args.cpus c.in_ok-processors.processors.items) same c.in_ok-processors.ensures in
     let stands = subst (λ (image : Contents). Stands c.in_ok-bus.bus (image_bytes image) []) same c.in_ok-bus.ensures.stands in
     let size = c.in_ok-bus.ensures.size ∙ ap (λ (image : Contents). image.size) same in
     let most = ap (λ n. EVENTS_PER_STEP * n * c.args.budget) c.from.ensures in
