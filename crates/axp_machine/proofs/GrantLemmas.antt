@@ -13,8 +13,8 @@ use Rattle.axp_line.specs.declared.messages.Reply.TheVariants as reply
 use Rattle.axp_lsu.specs.declared.asks.Ask2.{Ask2}
 use Rattle.axp_world.specs.Worlds as worlds
 use Rattle.axp_world.specs.Worlds.{answer_by, asked, image_bytes, reply_at, reply_for}
-use Rattle.axp_machine.specs.Playing.{granted, granted_by, granted_in, is_nothing}
-use Rattle.axp_machine.specs.Runs.{Seen, actor_of, answer_of, world_of}
+use Rattle.axp_machine.specs.Playing.{granted, granted_by, granted_in, is_nothing, actor_of}
+use Rattle.axp_machine.specs.Runs.{Seen, answer_of, world_of}
 
 -- a granted event's answer is its outcome, a refused one's its refusal
 abbrev pub passed : Result Ask2 Refusal → Outcome → Result Outcome Refusal

@@ -44,8 +44,8 @@ use Rattle.axp_world.proofs.RunJoined.{joined}
 use Rattle.axp_world.proofs.PlayedRecords.{actor_other, actor_own}
 use Rattle.axp_world.proofs.RunPlayed.{actor_cpu}
 use Rattle.axp_machine.specs.declared.machine.Machine.TheInside.{Inside}
-use Rattle.axp_machine.specs.Playing.{MayAnswer, granted_in}
-use Rattle.axp_machine.specs.Runs.{Seen, actor_of, answer_of, with_record, world_of}
+use Rattle.axp_machine.specs.Playing.{MayAnswer, granted_in, actor_of}
+use Rattle.axp_machine.specs.Runs.{Seen, answer_of, with_record, world_of}
 use Rattle.axp_machine.specs.Ties.{AreAskedWithin, AreSeated, Ties, history, seen}
 use Rattle.axp_machine.proofs.AskLemmas.{IsLateWell, asked_may, may_ask_for, reply_fits}
 use Rattle.axp_machine.proofs.GrantLemmas.{IsGranted, granted_is, outcome_in}
@@ -217,9 +217,9 @@ ties_made a b e q new ties is inside makes =
     let count = count_made a b e q new makes in
     record {
       valid = rw makes.image ties.valid;
-      seats = rw (makes.image, makes.budget, past, makes.processors) (seats_step a.image (length a.processors.items) a.budget a.processors.items (history a) (made (seen a) e) new makes.at ties.seats);
-      bus = rw (makes.image, makes.budget, past) (subst (λ cs. bus.Stands b.bus (image_bytes a.image) cs) (sym (calls_made a.image (world_of (seen a)) e q is.asked)) makes.bus);
-      asked = rw (makes.image, makes.budget, past) (subst (AreAskedWithin a.image.size) (sym (calls_made a.image (world_of (seen a)) e q is.asked)) (asked_made a.image.size (image_bytes a.image) (world_of (seen a)).calls e.cpu q inside ties.asked));
+      seats = rw (count, makes.image, makes.budget, past, makes.processors) (seats_step a.image (length a.processors.items) a.budget a.processors.items (history a) (made (seen a) e) new makes.at ties.seats);
+      bus = rw (count, makes.image, makes.budget, past) (subst (λ cs. bus.Stands b.bus (image_bytes a.image) cs) (sym (calls_made a.image (world_of (seen a)) e q is.asked)) makes.bus);
+      asked = rw (count, makes.image, makes.budget, past) (subst (AreAskedWithin a.image.size) (sym (calls_made a.image (world_of (seen a)) e q is.asked)) (asked_made a.image.size (image_bytes a.image) (world_of (seen a)).calls e.cpu q inside ties.asked));
       size = makes.size ∙ ties.size ∙ ap (λ (i : Contents). i.size) (sym makes.image);
       lanes = makes.lanes ∙ ties.lanes ∙ sym count;
       run = rw (makes.image, makes.budget, past) (subst (λ n. IsPlayed a.image n a.budget (made (seen a) e ∷ history a)) (sym count) (played a e q ties is));
@@ -243,7 +243,7 @@ pub makes_of : (a b : Inside) (e : Event) (q : Ask2) (new : Processor) (r : Opti
     → r ≡ reply_for (image_bytes a.image) (world_of (seen a)).calls (cpu_number e.cpu) (Ok q) → IsAt new (advanced (actor_of (seen a) (cpu_number e.cpu)) e.act r) → o ≡ outcome_of (actor_of (seen a) (cpu_number e.cpu)) e.act r
     → bus.Stands b.bus (image_bytes a.image) (calls_for (image_bytes a.image) (world_of (seen a)).calls e.cpu (Ok q)) → length b.bus.memory ≡ length a.bus.memory → length b.bus.lanes ≡ length a.bus.lanes → b.bus.room ≡ a.bus.room
     → b.records.items ≡ a.records.items ++ record { event = e; outcome = o } ∷ [] → vec_capacity b.records ≡ vec_capacity a.records → Makes a b e q new × (o ≡ outcome_in (seen a) e)
-makes_of a b e q new r o is image cpus budget processors answered at gives stands size lanes room records capacity =
+makes_of a b e q new r o is image budget processors answered at gives stands size lanes room records capacity =
     let told : r ≡ reply_at a.image (world_of (seen a)) e = answered ∙ ap (reply_for (image_bytes a.image) (world_of (seen a)).calls (cpu_number e.cpu)) (sym is.asked) in
     let same : o ≡ outcome_in (seen a) e = gives ∙ ap (outcome_of (actor_of (seen a) (cpu_number e.cpu)) e.act) told in (
       record {

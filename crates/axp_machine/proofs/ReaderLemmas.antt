@@ -10,7 +10,10 @@ use Rattle.axp_cpu.specs.ActorStands.{IsAt}
 use Rattle.axp_cpu.specs.declared.processors.Processor.{Processor}
 use Rattle.axp_image.specs.Contents.{Contents, IsValid}
 use Rattle.axp_machine.specs.declared.machine.Machine.TheInside.{Inside}
-use Rattle.axp_machine.specs.Runs.{Seen, are_done, is_done}
+use Rattle.axp_model.specs.Legal as model
+use Rattle.axp_machine.specs.Playing.{is_done}
+use Rattle.axp_machine.specs.Runs.{Seen, processors_of}
+use Rattle.axp_machine.proofs.RunLemmas.{done_shown}
 use Rattle.axp_machine.specs.Starts.{StartsAll}
 use Rattle.axp_machine.specs.Ties.{Ties, history, seen}
 use Rattle.axp_world.specs.declared.lengths.TheConstants.{EVENTS_PER_STEP}
@@ -26,12 +29,17 @@ below_seen a m c shown below = subst (λ (s : Seen). c < s.cpus) (sym shown) bel
 
 -- one more processor looked at
 pub done_more : (a : Inside) (m : Seen) (ps : List Processor) (n : ℕ) (d : Processor) (so_far tested : Bool) → Ties a → seen a ≡ m → ps ≡ a.processors.items → n < length ps
-    → (IsAt (get_or ps n d) ((world a.image (length a.processors.items) a.budget (history a)).actors n) → tested ≡ is_done ((world a.image (length a.processors.items) a.budget (history a)).actors n)) → so_far ≡ are_done n m
-    → so_far && tested ≡ are_done (n + 1) m
+    → (IsAt (get_or ps n d) ((world a.image (length a.processors.items) a.budget (history a)).actors n) → tested ≡ is_done ((world a.image (length a.processors.items) a.budget (history a)).actors n)) → so_far ≡ model.are_done (processors_of m) m.records n
+    → so_far && tested ≡ model.are_done (processors_of m) m.records (n + 1)
 done_more a m ps n d so_far tested ties shown is below tests so_far_is =
     let at : slice_get a.processors.items n ≡ Some (get_or ps n d) = subst (λ (qs : List Processor). slice_get qs n ≡ Some (get_or ps n d)) is (slice_get-get_or ps n d below) in
-    let done = tests (ties.seats n (get_or ps n d) at) in
-    rw (add-one, so_far_is, done, ← shown) refl
+    let count : length ps ≡ length a.processors.items = ap (λ (qs : List Processor). length qs) is in
+    let most = ties.most_cpus in
+    let done = tests (ties.seats n (get_or ps n d) at) ∙ done_shown (seen a) n ties.valid ties.run (omega (arith, below, count, most)) in
+    let one : suc n ≡ n + 1 = omega arith in
+    let before : so_far ≡ model.are_done (processors_of (seen a)) (history a) n = subst (λ (s : Seen). so_far ≡ model.are_done (processors_of s) s.records n) (sym shown) so_far_is in
+    subst (λ (s : Seen). so_far && tested ≡ model.are_done (processors_of s) s.records (n + 1)) shown
+    (rw (before, done) (ap (λ k. model.are_done (processors_of (seen a)) (history a) k) one))
 
 -- what holds of each element of a list holds still where it holds of one more
 pushed : (P : ℕ → Processor → Type 0) (ps : List Processor) (new : Processor) → P (length ps) new → ((p : ℕ) (x : Processor) → slice_get ps p ≡ Some x → P p x)
@@ -49,14 +57,14 @@ started_more image cpus budget ps qs new n starts at pushes = rw pushes (record 
 })
 
 -- a machine's parts at the start
-pub ties_start : (a : Inside) (cpus : ℕ) → IsValid a.image → StartsAll a.image (length a.processors.items) a.budget cpus a.processors.items → bus.Stands a.bus (image_bytes a.image) [] → length a.bus.memory ≡ a.image.size → length a.bus.lanes ≡ cpus → a.records.items ≡ []
+pub ties_start : (a : Inside) (cpus : ℕ) → IsValid a.image → StartsAll a.image cpus a.budget cpus a.processors.items → bus.Stands a.bus (image_bytes a.image) [] → length a.bus.memory ≡ a.image.size → length a.bus.lanes ≡ cpus → a.records.items ≡ []
     → MIN_CPUS ≤ cpus → cpus ≤ MAX_CPUS → 1 ≤ a.budget → a.budget ≤ MAX_BUDGET → vec_capacity a.records ≡ EVENTS_PER_STEP * cpus * a.budget → a.bus.room ≡ EVENTS_PER_STEP * cpus * a.budget
     → Ties a
 ties_start a cpus valid starts stands size lanes none least most some few room bus_room =
     let empty : history a ≡ [] = ap reverse none in
     record {
       valid = valid;
-      seats = rw empty starts.each;
+      seats = rw (empty, starts.count) starts.each;
       bus = rw empty stands;
       asked = rw empty tt;
       size = size;

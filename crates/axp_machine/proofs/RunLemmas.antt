@@ -1,7 +1,6 @@
 -- Records and the run of their events.
-use Rattle.std.proofs.Common.{◌≡◌, ◌↔◌, ℕ, true, List, [], ◌∷◌, ◌++◌, refl, ap, sym, subst, ◌∙◌}
-use Rattle.std.specs.Prelude.{Result, Ok, Err, not, ◌<◌, zero, suc}
-use Rattle.axp_base.specs.Cpus.{cpu_number}
+use Rattle.std.proofs.Common.{◌≡◌, ◌↔◌, ◌<◌, ◌*◌, ℕ, Bool, true, List, [], ◌∷◌, ◌++◌, refl, ap, sym, subst, ◌∙◌}
+use Rattle.std.specs.Prelude.{Result, Ok, Err, not}
 use Rattle.axp_access.specs.declared.Event.{Event}
 use Rattle.axp_access.specs.declared.Outcome.{Outcome}
 use Rattle.axp_access.specs.declared.Record.{Record}
@@ -16,17 +15,25 @@ use Rattle.axp_laws.proofs.PollSignals.{entered_exactly, pending_exactly}
 use Rattle.axp_laws.proofs.SourceRuns.{run_bytes}
 use Rattle.axp_laws.proofs.RunSteps.{keeps_order}
 use Rattle.axp_laws.proofs.SourceValues.{run_storage}
-use Rattle.axp_model.specs.Processors.{AreInLine}
+use Rattle.axp_model.specs.Processors.{AreInLine, Processors}
 use Rattle.axp_model.specs.Legal.{legal}
-use Rattle.axp_model.specs.Outcomes as model
-use Rattle.axp_model.specs.Outcomes.{Intents}
+use Rattle.axp_model.specs.Legal as model
+use Rattle.axp_model.specs.Outcomes as model_runs
 use Rattle.axp_model.specs.Polls.{IsAwaited, KeepsPolls, poll_item, polled}
-use Rattle.axp_world.specs.Worlds.{IsPlayed, image_bytes, intents}
-use Rattle.axp_world.proofs.RunJoined.{Joined, agrees, joined, refused}
+use Rattle.axp_world.specs.Worlds.{IsPlayed, image_bytes}
+use Rattle.axp_base.specs.Parts.{number_at}
+use Rattle.axp_base.specs.declared.parts.TheConstants.{QUADWORD_BYTES}
+use Rattle.axp_base.specs.declared.processors.TheConstants.{MAX_CPUS}
+use Rattle.axp_cpu.specs.Seats.{is_finished}
+use Rattle.axp_line.specs.BusCalls as calls
+use Rattle.axp_world.proofs.BusTouched.{touched_agrees}
+use Rattle.axp_world.proofs.RunPlayed.{Agrees}
+use Rattle.axp_machine.specs.Playing.{actor_of, is_done}
+use Rattle.axp_world.proofs.RunJoined.{agrees, joined, refused}
 use Rattle.axp_world.specs.RunLaws.{is_not_legal}
-use Rattle.axp_world.proofs.RunWants.{intents_in_line}
+use Rattle.axp_world.proofs.RunWants.{in_line}
 use Rattle.axp_machine.specs.Constraints.{KeepsConstraints}
-use Rattle.axp_machine.specs.Runs.{Seen, IsRun, are_done, are_drained, is_complete, after_answer, after_event, answer_of, events_of, run, started, with_record}
+use Rattle.axp_machine.specs.Runs.{Seen, IsRun, after_answer, after_event, answer_of, events_of, processors_of, quadword_of, run, seat_of, started, touches, with_record, world_of}
 
 -- the machine with these records
 abbrev with_records : Contents → ℕ → ℕ → List Record → Seen
@@ -59,7 +66,7 @@ pub run_is : (image : Contents) (cpus budget : ℕ) (es : List Event) → IsRun 
 run_is image cpus budget [] = tt
 run_is image cpus budget (e ∷ es) = event_runs (run (started image cpus budget) es) e (run_is image cpus budget es)
 
-pub run_models : (m : Seen) → IsValid m.image → IsRun m → model.IsRun (image_bytes m.image) (intents m.image m.cpus m.budget) m.records
+pub run_models : (m : Seen) → IsValid m.image → IsRun m → model_runs.IsRun (image_bytes m.image) (processors_of m) m.records
 run_models m valid is = (joined m.image m.cpus m.budget m.records valid is).run
 
 -- a run after fewer of its events
@@ -67,41 +74,52 @@ pub run_before : (image : Contents) (cpus budget : ℕ) (more h : List Record) �
 run_before image cpus budget [] h is = is
 run_before image cpus budget (r ∷ more) h is = run_before image cpus budget more h is.1
 
-keeps_polls : (image : ℕ → ℕ) (intent : Intents) (k : List Record) → AreInLine intent → model.IsRun image intent k → KeepsPolls intent k
-keeps_polls image intent k inside is later e pending entered turn h at =
-    let split : model.IsRun image intent (later ++ polled e pending entered turn ∷ h) = subst (model.IsRun image intent) at is in
+keeps_polls : (image : ℕ → ℕ) (ps : Processors) (k : List Record) → AreInLine ps → model_runs.IsRun image ps k → KeepsPolls ps k
+keeps_polls image ps k inside is later e pending entered turn h at =
+    let split : model_runs.IsRun image ps (later ++ polled e pending entered turn ∷ h) = subst (model_runs.IsRun image ps) at is in
     record {
-      shown = subst (λ (x : List Record). (pending ≡ true) ↔ IsAwaited x (poll_item e pending turn h)) (sym at) (pending_exactly image intent later e pending entered turn h inside split);
-      taken = entered_exactly image intent e pending entered turn h (run_prefix image intent later (polled e pending entered turn ∷ h) split);
+      shown = subst (λ (x : List Record). (pending ≡ true) ↔ IsAwaited x (poll_item e pending turn h)) (sym at) (pending_exactly image ps later e pending entered turn h inside split);
+      taken = entered_exactly image ps e pending entered turn h (run_prefix image ps later (polled e pending entered turn ∷ h) split);
     }
 
 -- a run keeps the constraints of shared memory
 pub keeps_constraints : (m : Seen) → IsValid m.image → IsRun m → KeepsConstraints m
 keeps_constraints m valid is =
     let image : ℕ → ℕ = image_bytes m.image in
-    let intent : Intents = intents m.image m.cpus m.budget in
-    let inside : AreInLine intent = intents_in_line m.image m.cpus m.budget valid in
-    let run : model.IsRun image intent m.records = run_models m valid is in
+    let ps : Processors = processors_of m in
+    let inside : AreInLine ps = in_line m.image m.cpus m.budget valid in
+    let run : model_runs.IsRun image ps m.records = run_models m valid is in
     record {
       model = run;
-      order = keeps_order image intent m.records inside run;
-      located = run_located image intent m.records inside run;
-      storage = run_storage image intent m.records inside run;
-      bytes = run_bytes image intent m.records (λ at. byte_small m.image.size 0 m.image.segments at valid.placed) inside run;
-      locking = keeps_locking m.records (run_fits image intent m.records inside run);
-      no_loop = no_loop image intent m.records inside run;
-      polls = keeps_polls image intent m.records inside run;
+      order = keeps_order image ps m.records inside run;
+      located = run_located image ps m.records inside run;
+      storage = run_storage image ps m.records inside run;
+      bytes = run_bytes image ps m.records (λ at. byte_small m.image.size 0 m.image.segments at valid.placed) inside run;
+      locking = keeps_locking m.records (run_fits image ps m.records inside run);
+      no_loop = no_loop image ps m.records inside run;
+      polls = keeps_polls image ps m.records inside run;
     }
 
 -- an event is refused as not legal exactly where it is not
-pub refused_exactly : (m : Seen) (e : Event) (a : Result Outcome Refusal) → a ≡ answer_of m e → IsValid m.image → IsRun m → cpu_number e.cpu < m.cpus → is_not_legal a ≡ not (legal (intents m.image m.cpus m.budget (cpu_number e.cpu) m.records) m.records e)
+pub refused_exactly : (m : Seen) (e : Event) (a : Result Outcome Refusal) → a ≡ answer_of m e → IsValid m.image → IsRun m → is_not_legal a ≡ not (legal (processors_of m) m.records e)
 unfolding answer_of
-refused_exactly m e a is valid run below = ap is_not_legal is ∙ refused m.image m.cpus m.budget m.records e valid run below
+refused_exactly m e a is valid run = ap is_not_legal is ∙ refused m.image m.cpus m.budget m.records e valid run
 
--- a machine is complete in the model's words too
-drained_of : (m : Seen) (n : ℕ) → Joined m.image m.cpus m.budget m.records → are_done n m ≡ are_drained n m
-drained_of m zero is = refl
-drained_of m (suc n) is = rw (drained_of m n is, (agrees m.image m.cpus m.budget m.records is n).buffer.none) refl
+-- a processor of the world is done where it is by the records
+pub done_shown : (m : Seen) (p : ℕ) → IsValid m.image → IsRun m → p < MAX_CPUS → is_done (actor_of m p) ≡ model.is_done (processors_of m) m.records p
+done_shown m p valid run less =
+    let has : Agrees m.image m.cpus m.budget m.records p = agrees m.image m.cpus m.budget m.records (joined m.image m.cpus m.budget m.records valid run) p less in
+    rw (ap is_finished has.seat, has.buffer.none) refl
 
-pub complete_words : (m : Seen) → IsValid m.image → IsRun m → is_complete m ≡ are_drained m.cpus m
-complete_words m valid run = drained_of m m.cpus (joined m.image m.cpus m.budget m.records valid run)
+-- a processor stands where the records say
+pub seat_shown : (m : Seen) (p : ℕ) → IsValid m.image → IsRun m → p < MAX_CPUS → seat_of m p ≡ (actor_of m p).seat
+seat_shown m p valid run less = (joined m.image m.cpus m.budget m.records valid run).seats p less
+
+-- memory's quadwords are those of the bus
+pub quadword_shown : (m : Seen) (q n : ℕ) → IsValid m.image → IsRun m → n ≡ number_at (calls.memory (image_bytes m.image) (world_of m).calls) (q * QUADWORD_BYTES) QUADWORD_BYTES → n ≡ quadword_of m q
+quadword_shown m q n valid run is =
+    let bus = (joined m.image m.cpus m.budget m.records valid run).bus in
+    is ∙ ap (λ (f : ℕ → ℕ). number_at f (q * QUADWORD_BYTES) QUADWORD_BYTES) (λ i at. bus.bytes (image_bytes m.image) at i)
+
+pub touched_shown : (m : Seen) (q : ℕ) (b : Bool) → IsValid m.image → IsRun m → b ≡ calls.is_touched q (world_of m).calls → b ≡ touches m q
+touched_shown m q b valid run is = is ∙ touched_agrees (image_bytes m.image) m.records (world_of m).calls (joined m.image m.cpus m.budget m.records valid run).bus q

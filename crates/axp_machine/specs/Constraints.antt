@@ -10,12 +10,12 @@ use Rattle.axp_model.specs.Accesses.{accesses, times}
 use Rattle.axp_access.specs.Numbering.{Item}
 use Rattle.axp_model.specs.Polls.{KeepsPolls}
 use Rattle.axp_model.specs.Storage.{KeepsEachByte, KeepsStorage}
-use Rattle.axp_world.specs.Worlds.{image_bytes, intents}
-use Rattle.axp_machine.specs.Runs.{Seen}
+use Rattle.axp_world.specs.Worlds.{image_bytes}
+use Rattle.axp_machine.specs.Runs.{Seen, processors_of}
 
 pub record KeepsConstraints (m : Seen) : Type 0 where
   -- each event was legal by the memory model, and has its outcome
-  pub model : model.IsRun (image_bytes m.image) (intents m.image m.cpus m.budget) m.records
+  pub model : model.IsRun (image_bytes m.image) (processors_of m) m.records
   -- the issue constraint in all its cases, and the write barrier
   pub order : KeepsOrder m.records
   -- location: of two accesses that overlap and of which one is a memory write, one is before the other
@@ -28,4 +28,4 @@ pub record KeepsConstraints (m : Seen) : Type 0 where
   -- no value has itself as a cause
   pub no_loop : (u : Item) (via : List Item) → IsChain m.records u via u → ⊥
   -- interrupts between processors: what each Poll shows, and when it enters
-  pub polls : KeepsPolls (intents m.image m.cpus m.budget) m.records
+  pub polls : KeepsPolls (processors_of m) m.records

@@ -1,5 +1,5 @@
 -- What one event asks of its processor and of the bus, and what it leaves of both.
-use Rattle.std.specs.Prelude.{◌≡◌, ℕ, ◌<◌, nat_lt, if◌then◌else◌, Bool, true, false, List, length, Option, Some, None, Result, Ok, Err}
+use Rattle.std.specs.Prelude.{◌≡◌, ℕ, ◌<◌, ◌==◌, ◌&&◌, nat_lt, if◌then◌else◌, Bool, true, false, List, length, Option, Some, None, Result, Ok, Err}
 use Rattle.axp_access.specs.declared.Event.{Event}
 use Rattle.axp_base.specs.Cpus.{cpu_number}
 use Rattle.axp_base.specs.declared.lines.Bank.{Bank}
@@ -16,6 +16,9 @@ use Rattle.axp_lsu.specs.declared.asks.Ask2.{Ask2}
 use Rattle.axp_lsu.specs.declared.asks.Ask2.TheVariants as ask
 use Rattle.axp_line.specs.BusCalls.{BusCall}
 use Rattle.axp_world.specs.Worlds.{World, asked, reply_at, reply_for}
+use Rattle.axp_cpu.specs.Actors.{Actor}
+use Rattle.axp_cpu.specs.Seats.{is_finished}
+use Rattle.axp_model.specs.Entries.{buffer}
 use Rattle.axp_machine.specs.Runs.{Seen, world_of}
 
 -- what is asked is granted, but for a take where nothing is late
@@ -55,3 +58,11 @@ pub record MayAnswer (b : State) (cpu : Cpu) (q : Ask2) : Type 0 where
   pub asks : MayAskFor b q
   pub turns : b.turns < b.room
   pub printed : length b.printed < b.room
+
+-- a processor of the world after a machine's records
+abbrev pub actor_of : Seen → ℕ → Actor
+actor_of m p = (world_of m).actors p
+
+-- it is finished, and nothing waits in its buffer
+abbrev pub is_done : Actor → Bool
+is_done a = is_finished a.seat && (length a.kept.buffer.kept == 0)

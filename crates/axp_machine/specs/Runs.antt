@@ -1,20 +1,18 @@
 -- A machine as its callers see it, what an event gives after any records, and the run of a list of events.
-use Rattle.std.specs.Prelude.{ℕ, zero, suc, ◌*◌, ◌==◌, ◌&&◌, Bool, true, List, [], ◌∷◌, length, map, Result, Ok, Err}
+use Rattle.std.specs.Prelude.{ℕ, Bool, List, [], ◌∷◌, map, Result, Ok, Err}
 use Rattle.axp_access.specs.declared.Event.{Event}
 use Rattle.axp_access.specs.declared.Outcome.{Outcome}
 use Rattle.axp_access.specs.declared.Record.{Record}
-use Rattle.axp_base.specs.Parts.{number_at}
-use Rattle.axp_base.specs.declared.parts.TheConstants.{QUADWORD_BYTES}
+use Rattle.axp_cpu.specs.Following.{processors, seat_in}
+use Rattle.axp_cpu.specs.Seats.{Seat}
 use Rattle.axp_cpu.specs.declared.refusals.Refusal.{Refusal}
 use Rattle.axp_cpu.specs.declared.tables.Table.{Table}
-use Rattle.axp_cpu.specs.Actors.{Actor}
-use Rattle.axp_cpu.specs.Seats.{Seat, is_finished}
 use Rattle.axp_image.specs.Contents.{Contents}
-use Rattle.axp_line.specs.BusCalls.{is_touched, memory}
+use Rattle.axp_model.specs.Legal as model
+use Rattle.axp_model.specs.Memory.{is_touched, quadword}
+use Rattle.axp_model.specs.Processors.{Processors}
 use Rattle.axp_world.specs.Worlds as worlds
-use Rattle.axp_model.specs.Entries.{buffer}
-use Rattle.axp_base.specs.Lists.{is_empty}
-use Rattle.axp_world.specs.Worlds.{World, IsPlayed, image_bytes, intents, world}
+use Rattle.axp_world.specs.Worlds.{World, IsPlayed, image_bytes, world}
 
 -- the image, how many processors, the budget of steps of each, and the records: the history, newest first
 pub record Seen : Type 0 where
@@ -60,31 +58,14 @@ run m (e ∷ es) = after_event (run m es) e
 abbrev pub events_of : List Record → List Event
 events_of h = map (λ r. r.event) h
 
--- a processor, and where it stands
-abbrev pub actor_of : Seen → ℕ → Actor
-actor_of m p = (world_of m).actors p
+-- its processors, as the memory model asks of them
+abbrev pub processors_of : Seen → Processors
+processors_of m = processors m.image m.cpus m.budget
 
+-- where a processor stands, and its table state as its last group of accesses left it
 abbrev pub seat_of : Seen → ℕ → Seat
-seat_of m p = (actor_of m p).seat
+seat_of m p = seat_in m.image m.cpus m.budget p m.records
 
--- a processor is finished, and none of its writes waits
-abbrev pub is_done : Actor → Bool
-is_done a = is_finished a.seat && (length a.kept.buffer.kept == 0)
-
--- so is every processor below n, and every one
-abbrev pub are_done : ℕ → Seen → Bool
-are_done zero m = true
-are_done (suc n) m = are_done n m && is_done (actor_of m n)
-
-abbrev pub is_complete : Seen → Bool
-is_complete m = are_done m.cpus m
-
--- the same in the memory model's words: every processor below n is finished, and no entry of it waits
-abbrev pub are_drained : ℕ → Seen → Bool
-are_drained zero m = true
-are_drained (suc n) m = are_drained n m && ((intents m.image m.cpus m.budget n m.records).finished && is_empty (buffer n m.records).waiting)
-
--- the table state of a processor, as its last group left it
 abbrev pub table_of : Seen → ℕ → Table
 table_of m p = (seat_of m p).start
 
@@ -92,10 +73,14 @@ table_of m p = (seat_of m p).start
 abbrev pub steps_of : Seen → ℕ → ℕ
 steps_of m p = (seat_of m p).steps
 
+-- every processor is finished, and no write waits
+abbrev pub is_complete : Seen → Bool
+is_complete m = model.is_complete (processors_of m) m.records
+
 -- the aligned quadword of this number, as memory has it
 abbrev pub quadword_of : Seen → ℕ → ℕ
-quadword_of m q = number_at (memory (image_bytes m.image) (world_of m).calls) (q * QUADWORD_BYTES) QUADWORD_BYTES
+quadword_of m q = quadword (image_bytes m.image) m.records q
 
--- some turn wrote a byte of it
+-- a drain or a store-conditional that succeeded wrote a byte of it
 abbrev pub touches : Seen → ℕ → Bool
-touches m q = is_touched q (world_of m).calls
+touches m q = is_touched m.records q

@@ -5,8 +5,8 @@ ghost use Rattle.axp_access.specs.declared.Record.{Record};
 ghost use Rattle.axp_image.specs.Contents.{Contents, IsValid};
 ghost use Rattle.axp_model.specs.Outcomes as model;
 ghost use Rattle.axp_machine.specs.Constraints.{KeepsConstraints};
-ghost use Rattle.axp_machine.specs.Runs.{Seen, IsRun, are_drained, events_of, is_complete, run, started};
-ghost use Rattle.axp_world.specs.Worlds.{IsPlayed, image_bytes, intents};
+ghost use Rattle.axp_machine.specs.Runs.{Seen, IsRun, events_of, processors_of, run, started};
+ghost use Rattle.axp_world.specs.Worlds.{IsPlayed, image_bytes};
 
 /// A machine's records are the run of their own events: the same events, in the same order, bring a
 /// machine at the start to the same records. Every list of events makes such a run, and over a valid
@@ -14,13 +14,7 @@ ghost use Rattle.axp_world.specs.Worlds.{IsPlayed, image_bytes, intents};
 pub fn records_are_a_run()
     ensures again { (m : Seen) → IsRun m → run (started m.image m.cpus m.budget) (events_of m.records) ≡ m }
     ensures from_start { (image : Contents) (cpus budget : ℕ) (events : List Event) → IsRun (run (started image cpus budget) events) }
-    ensures model { (m : Seen) → IsValid m.image → IsRun m → model.IsRun (image_bytes m.image) (intents m.image m.cpus m.budget) m.records }
-{}
-
-/// A machine is complete exactly where, in the memory model's words, every processor is finished after its
-/// records and no entry of a write buffer waits.
-pub fn complete_in_words()
-    ensures { (m : Seen) → IsValid m.image → IsRun m → is_complete m ≡ are_drained m.cpus m }
+    ensures model { (m : Seen) → IsValid m.image → IsRun m → model.IsRun (image_bytes m.image) (processors_of m) m.records }
 {}
 
 /// Every run over a valid image keeps the constraints of Alpha's shared memory, in the order of the

@@ -10,7 +10,7 @@ mod machine;
 
 pub use axp_cpu::Refusal;
 pub use axp_regs::{REGISTERS, ZERO_REGISTER};
-pub use laws::{complete_in_words, records_are_a_run, runs_keep_the_constraints};
+pub use laws::{records_are_a_run, runs_keep_the_constraints};
 pub use machine::Machine;
 
 #[cfg(test)]

@@ -4,7 +4,9 @@ ghost use Rattle.axp_base.specs.declared.processors.TheConstants.{MAX_BUDGET, MA
 ghost use Rattle.axp_bus.specs.BusStands.{Stands};
 ghost use Rattle.axp_line.specs.BusCalls.{BusCall};
 ghost use Rattle.axp_world.specs.Worlds.{calls_for, reply_for};
-ghost use Rattle.axp_machine.specs.Playing.{IsVain, MayAnswer, bank_taken};
+ghost use Rattle.axp_cpu.specs.Actors.{Actor};
+ghost use Rattle.axp_cpu.specs.ActorStands.{IsAt};
+ghost use Rattle.axp_machine.specs.Playing.{IsVain, MayAnswer, bank_taken, is_done};
 ghost use Rattle.axp_machine.specs.Starts.{StartsAll};
 
 use axp_access::{Act, Event, Outcome, Record};
@@ -50,11 +52,10 @@ impl Machine {
     ghost use Rattle.axp_cpu.specs.ActorStands.{IsAt};
     ghost use Rattle.axp_model.specs.Legal.{legal};
     ghost use Rattle.axp_world.specs.RunLaws.{is_not_legal};
-    ghost use Rattle.axp_world.specs.Worlds.{intents};
     ghost use Rattle.axp_lsu.specs.Within.{IsAskWithin};
     ghost use Rattle.axp_machine.specs.Constraints.{KeepsConstraints};
-    ghost use Rattle.axp_machine.specs.Playing.{granted_in};
-    ghost use Rattle.axp_machine.specs.Runs.{started, answer_of, after_event, with_record, IsRun, is_complete, actor_of, table_of, steps_of, quadword_of, touches};
+    ghost use Rattle.axp_machine.specs.Playing.{actor_of, granted_in};
+    ghost use Rattle.axp_machine.specs.Runs.{started, answer_of, after_event, with_record, IsRun, is_complete, processors_of, seat_of, table_of, steps_of, quadword_of, touches};
 
     /// A machine at the start: `cpus` processors, 2 to 8, each with a budget of steps, 1 to 32,768,
     /// over the image's memory. All room that the records, the late invalidations and the console take
@@ -118,7 +119,7 @@ impl Machine {
     {
         let mut done = true;
         for processor in &self.processors {
-            done &= processor.finished() && processor.drained();
+            done &= is_done(processor);
         }
         done
     }
@@ -126,7 +127,8 @@ impl Machine {
     /// The processor of this number.
     fn processor(&self, cpu: Cpu) -> &Processor
         requires { cpu_number cpu < self.now.cpus }
-        ensures { IsAt result.now (actor_of self.now (cpu_number cpu)) }
+        ensures at { IsAt result.now (actor_of self.now (cpu_number cpu)) }
+        ensures seat { seat_of self.now (cpu_number cpu) ≡ (actor_of self.now (cpu_number cpu)).seat }
     {
         &self.processors[usize::from(cpu.number())]
     }
@@ -190,8 +192,7 @@ impl Machine {
     #[tactic(auto, unfolding(crate::specs::Runs::after_event), using(crate::proofs::RunLemmas::keeps_constraints))]
     pub fn event(&mut self, event: Event) -> Result<Outcome, Refusal>
         ensures answer { result ≡ answer_of self.old event }
-        ensures legal { cpu_number event.cpu < self.old.cpus → is_not_legal result
-            ≡ not (legal (intents self.old.image self.old.cpus self.old.budget (cpu_number event.cpu) self.old.records) self.old.records event) }
+        ensures legal { is_not_legal result ≡ not (legal (processors_of self.old) self.old.records event) }
         ensures after { self.new ≡ after_event self.old event }
         ensures run { IsRun self.new }
         ensures constraints { KeepsConstraints self.new }
@@ -241,6 +242,13 @@ impl Machine {
         self.records.push_reserved(Record { event, outcome });
         outcome
     }
+}
+
+/// Whether a processor is finished and no write of it waits.
+fn is_done(processor: &Processor) -> bool
+    ensures { (a : Actor) → IsAt processor.now a → result ≡ is_done a }
+{
+    processor.finished() && processor.drained()
 }
 
 /// Whether it is a take where nothing is late.

@@ -5,8 +5,8 @@ use Rattle.axp_bus.specs.BusStands.{Stands}
 use Rattle.axp_cpu.specs.declared.refusals.Refusal.TheVariants.{NotLegal}
 use Rattle.axp_lsu.specs.Within.{IsAskWithin}
 use Rattle.axp_world.specs.Worlds.{image_bytes}
-use Rattle.axp_machine.specs.Playing.{granted_in}
-use Rattle.axp_machine.specs.Runs.{Seen, actor_of, world_of}
+use Rattle.axp_machine.specs.Playing.{granted_in, actor_of}
+use Rattle.axp_machine.specs.Runs.{Seen, world_of}
 use Rattle.axp_machine.proofs.GrantLemmas.{answers, granted_asked, granted_past, granted_refused}
 use Rattle.axp_machine.proofs.RoomLemmas.{seat_size}
 use Rattle.axp_machine.proofs.machine.Machine.grant.Goals as goal
@@ -25,7 +25,7 @@ refuses : (c : goal.In-Err) → Err c.in-Err.refusal ≡ granted_in c.args.self.
 refuses c =
     let count = ap (λ (m : Seen). m.cpus) c.self.view_is in
     granted_refused c.args.self.now c.args.event c.in-Err.refusal (omega (arith, count, c.if-from-len.false, c.len.ensures, c.from.ensures, c.number.ensures.value))
-    (sym (c.request.ensures.asked (actor_of c.args.self.now (cpu_number c.args.event.cpu)) c.processor.ensures) ∙ c.in-Err.is)
+    (sym (c.request.ensures.asked (actor_of c.args.self.now (cpu_number c.args.event.cpu)) c.processor.ensures.at) ∙ c.in-Err.is)
 
 pub returns-in-Err-clause-granted : goal.returns-in-Err-clause-granted
 returns-in-Err-clause-granted c = refuses c
@@ -39,7 +39,7 @@ vain c =
     let count = ap (λ (m : Seen). m.cpus) c.self.view_is in
     let stands = subst (λ (m : Seen). Stands c.self.inside.bus (image_bytes m.image) (world_of m).calls) c.self.view_is c.self.invariant.bus in
     granted_asked c.args.self.now c.args.event c.in-Ok.ask true (omega (arith, count, c.if-from-len.false, c.len.ensures, c.from.ensures, c.number.ensures.value))
-    (sym (c.request.ensures.asked (actor_of c.args.self.now (cpu_number c.args.event.cpu)) c.processor.ensures) ∙ c.in-Ok.is)
+    (sym (c.request.ensures.asked (actor_of c.args.self.now (cpu_number c.args.event.cpu)) c.processor.ensures.at) ∙ c.in-Ok.is)
     (sym c.if-is_vain.true ∙ c.is_vain.ensures (image_bytes c.args.self.now.image) (world_of c.args.self.now).calls stands)
 
 pub returns-then-is_vain-clause-granted : goal.returns-then-is_vain-clause-granted
@@ -53,10 +53,10 @@ returns-else-is_vain-clause-granted c =
     let count = ap (λ (m : Seen). m.cpus) c.self.view_is in
     let stands = subst (λ (m : Seen). Stands c.self.inside.bus (image_bytes m.image) (world_of m).calls) c.self.view_is c.self.invariant.bus in
     granted_asked c.args.self.now c.args.event c.in-Ok.ask false (omega (arith, count, c.if-from-len.false, c.len.ensures, c.from.ensures, c.number.ensures.value))
-    (sym (c.request.ensures.asked (actor_of c.args.self.now (cpu_number c.args.event.cpu)) c.processor.ensures) ∙ c.in-Ok.is)
+    (sym (c.request.ensures.asked (actor_of c.args.self.now (cpu_number c.args.event.cpu)) c.processor.ensures.at) ∙ c.in-Ok.is)
     (sym c.if-is_vain.false ∙ c.is_vain.ensures (image_bytes c.args.self.now.image) (world_of c.args.self.now).calls stands)
 
 pub returns-else-is_vain-clause-within : goal.returns-else-is_vain-clause-within
 returns-else-is_vain-clause-within c =
     let m : Seen = c.args.self.now in
-    subst (λ n. IsAskWithin n c.in-Ok.ask) (seat_size m.image m.cpus m.budget m.records (cpu_number c.args.event.cpu)) (c.in-Ok.ensures.within (actor_of m (cpu_number c.args.event.cpu)) c.processor.ensures)
+    subst (λ n. IsAskWithin n c.in-Ok.ask) (seat_size m.image m.cpus m.budget m.records (cpu_number c.args.event.cpu)) (c.in-Ok.ensures.within (actor_of m (cpu_number c.args.event.cpu)) c.processor.ensures.at)

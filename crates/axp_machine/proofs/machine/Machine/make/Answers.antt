@@ -6,8 +6,8 @@ use Rattle.axp_cpu.specs.ActorStands.{IsAt}
 use Rattle.axp_lsu.specs.Within.{IsAskWithin}
 use Rattle.axp_world.specs.Worlds.{image_bytes}
 use Rattle.axp_machine.specs.declared.machine.Machine.TheInside.{Inside}
-use Rattle.axp_machine.specs.Playing.{granted_in}
-use Rattle.axp_machine.specs.Runs.{Seen, actor_of, world_of}
+use Rattle.axp_machine.specs.Playing.{granted_in, actor_of}
+use Rattle.axp_machine.specs.Runs.{Seen, world_of}
 use Rattle.axp_machine.specs.Ties.{seen}
 use Rattle.axp_machine.proofs.GrantLemmas.{IsGranted, granted_is, outcome_in}
 use Rattle.axp_machine.proofs.MakeLemmas.{Makes, answer_is, can_answer, granted_of, has_room, is_answered, is_spelled, makes_of, shows_after, ties_made}
