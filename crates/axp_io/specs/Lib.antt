@@ -4,5 +4,6 @@ pub mod Causes
 pub mod Files
 pub mod Lists
 pub mod ListSinks
+pub mod Streams
 pub mod Sure
 pub mod Tables

@@ -8,7 +8,7 @@
 
 ghost use Rattle.std.specs.Prelude.{◌≡◌, ◌≤◌, ◌<◌, ℕ, List, length, Option, IfOk, IfSome};
 ghost use Rattle.std.specs.Option.{is_some};
-ghost use Rattle.axp_io.specs.Causes.{Ask, FetchCount, FetchGiven, FetchTold, FetchAsks, PutCount, PutTaken};
+ghost use Rattle.axp_io.specs.Causes.{Ask, FetchCount, FetchGiven, FetchTold, FetchAsks, raised, PutCount, PutTaken};
 
 mod asks;
 mod files;
@@ -80,10 +80,14 @@ pub trait Desk {
 ///
 /// - `taken`: the bytes taken so far, where the sink tells them.
 /// - `faults`: the number of failures so far. It stays at 2^64 - 1 once it stands there.
+/// - `puts`: how many pieces it was handed so far, whatever came of them. It stays at 2^64 - 1 once it
+///   stands there.
 pub trait Sink {
     ghost taken: { Self → Option (List ℕ) };
 
     ghost faults: { Self → ℕ };
+
+    ghost puts: { Self → ℕ };
 
     /// Takes a piece, which is not empty, after the bytes taken so far.
     fn put(&mut self, alloc: Global, piece: &[u8]) -> Result<(), SinkFault>
@@ -91,7 +95,8 @@ pub trait Sink {
         ensures tells { is_some (taken self.new) ≡ is_some (taken self.old) }
         ensures taken { PutTaken (taken self.old) (taken self.new) piece.now result }
         ensures faults_grow { faults self.old ≤ faults self.new }
-        ensures count { PutCount (faults self.old) (faults self.new) result };
+        ensures count { PutCount (faults self.old) (faults self.new) result }
+        ensures puts { puts self.new ≡ raised (puts self.old) 1 };
 }
 
 /// What a worker passes before each step. It decides when, and tells nothing.

@@ -1,6 +1,6 @@
 ghost use Rattle.std.specs.Prelude.{◌≡◌, ◌≤◌, ◌<◌, length, Some, IfOk};
 ghost use Rattle.std.specs.Option.{is_some};
-ghost use Rattle.axp_io.specs.Causes.{PutCount, PutTaken};
+ghost use Rattle.axp_io.specs.Causes.{raised, PutCount, PutTaken};
 ghost use Rattle.axp_io.specs.ListSinks.{fresh_sink, ListPut};
 
 use crate::{Sink, SinkFault};
@@ -16,6 +16,7 @@ pub struct ListSink {
     part: u32,
     calls: u32,
     faults: u64,
+    puts: u64,
 }
 
 impl Model for ListSink {
@@ -29,6 +30,7 @@ impl Model for ListSink {
       part = s.part;
       calls = s.calls;
       faults = s.faults;
+      puts = s.puts;
     } };
 }
 
@@ -47,6 +49,7 @@ impl ListSink {
             part,
             calls: 0,
             faults: 0,
+            puts: 0,
         })
     }
 
@@ -63,6 +66,13 @@ impl ListSink {
     {
         self.faults
     }
+
+    /// The number of pieces it was handed so far, at most 2^64 - 1.
+    pub fn puts(&self) -> u64
+        ensures { result ≡ self.now.puts }
+    {
+        self.puts
+    }
 }
 
 impl Sink for ListSink {
@@ -70,14 +80,18 @@ impl Sink for ListSink {
 
     ghost faults = { λ s. s.faults };
 
+    ghost puts = { λ s. s.puts };
+
     fn put(&mut self, alloc: Global, piece: &[u8]) -> Result<(), SinkFault>
         ensures tells { is_some (Some self.new.taken) ≡ is_some (Some self.old.taken) }
         ensures taken { PutTaken (Some self.old.taken) (Some self.new.taken) piece.now result }
         ensures faults_grow { self.old.faults ≤ self.new.faults }
         ensures count { PutCount self.old.faults self.new.faults result }
+        ensures puts { self.new.puts ≡ raised self.old.puts 1 }
         ensures list { ListPut self.old self.new piece.now result }
     {
         self.calls = self.calls.saturating_add(1);
+        self.puts = self.puts.saturating_add(1);
         if self.fails.contains(&self.calls) {
             let part = (self.part as usize).min(piece.len());
             let Ok(()) = self.taken.append(alloc, &piece[..part]) else {
@@ -110,7 +124,7 @@ mod tests {
         assert_eq!(rt; puts(&mut sink, alloc, b"4"), Ok(()));
 
         assert_eq!(rt; sink.taken(), b"one,tw34".as_slice());
-        assert_eq!(rt; sink.faults(), 2);
+        assert_eq!(rt; (sink.faults(), sink.puts()), (2, 4));
         Ok(())
     }
 }

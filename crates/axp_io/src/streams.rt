@@ -1,5 +1,6 @@
 ghost use Rattle.std.specs.Prelude.{◌≡◌, None};
 ghost use Rattle.axp_io.specs.Causes.{PutTaken};
+ghost use Rattle.axp_io.specs.Streams.{fresh_stream};
 
 use crate::{Sink, SinkFault};
 use std::alloc::Global;
@@ -15,38 +16,53 @@ use std::marker::Model;
 pub struct OutSink<R> {
     rt: R,
     faults: u64,
+    puts: u64,
 }
 
 impl<R> Model for OutSink<R> {
-    ghost use Rattle.std.specs.Prelude.{ℕ};
+    ghost use Rattle.axp_io.specs.Streams.{StreamView};
 
-    ghost Value = { ℕ };
+    ghost Value = { StreamView };
 
-    ghost view = { λ s. s.faults };
+    ghost view = { λ s. record { faults = s.faults; puts = s.puts } };
 }
 
 impl<R> OutSink<R> {
     /// The sink over the runtime's standard output.
     pub fn new(rt: R) -> OutSink<R>
-        ensures { result ≡ 0 }
+        ensures { result ≡ fresh_stream }
     {
-        OutSink { rt, faults: 0 }
+        OutSink {
+            rt,
+            faults: 0,
+            puts: 0,
+        }
     }
 
     /// The number of puts that failed so far, at most 2^64 - 1.
     pub fn faults(&self) -> u64
-        ensures { result ≡ self.now }
+        ensures { result ≡ self.now.faults }
     {
         self.faults
+    }
+
+    /// The number of pieces it was handed so far, at most 2^64 - 1.
+    pub fn puts(&self) -> u64
+        ensures { result ≡ self.now.puts }
+    {
+        self.puts
     }
 }
 
 impl<R: Print> Sink for OutSink<R> {
     ghost taken = { λ _. None };
 
-    ghost faults = { λ s. s };
+    ghost faults = { λ s. s.faults };
+
+    ghost puts = { λ s. s.puts };
 
     fn put(&mut self, _alloc: Global, piece: &[u8]) -> Result<(), SinkFault> {
+        self.puts = self.puts.saturating_add(1);
         let mut output = io::writer(&self.rt);
         let result = write_whole(&mut output, piece);
         if let Err(SinkFault::Failed) = result {
@@ -85,6 +101,6 @@ mod tests {
     fn standard_output_takes_a_piece(rt: HostRuntime) {
         let mut sink = OutSink::new(&rt);
         assert_eq!(rt; puts(&mut sink, rt.alloc(), b"a piece\n"), Ok(()));
-        assert_eq!(rt; sink.faults(), 0);
+        assert_eq!(rt; (sink.faults(), sink.puts()), (0, 1));
     }
 }

@@ -1,7 +1,7 @@
-ghost use Rattle.std.specs.Prelude.{◌≡◌, [], Some, OnOk, OnErr, IfOk};
+ghost use Rattle.std.specs.Prelude.{◌≡◌, Some, OnOk, OnErr, IfOk};
 ghost use Rattle.axp_io.specs.Asks.{asks_in};
 ghost use Rattle.axp_io.specs.Lists.{list_or_empty, PutUnder};
-ghost use Rattle.axp_io.specs.Sure.{fresh_sure};
+ghost use Rattle.axp_io.specs.Sure.{fresh_sure, fresh_sure_sink};
 
 use crate::asks::{Asked, Asks};
 use crate::lists::{Lists, hand_over};
@@ -86,40 +86,52 @@ impl Desk for SureDesk {
 #[derive(Debug, Drop)]
 pub struct SureSink {
     taken: Bytes,
+    puts: u64,
 }
 
 impl Model for SureSink {
-    ghost use Rattle.std.specs.Prelude.{List, ℕ};
+    ghost use Rattle.axp_io.specs.Sure.{SureSinkView};
 
-    ghost Value = { List ℕ };
+    ghost Value = { SureSinkView };
 
-    ghost view = { λ s. s.taken };
+    ghost view = { λ s. record { taken = s.taken; puts = s.puts } };
 }
 
 impl SureSink {
     /// A sink that took nothing yet.
     pub fn new(alloc: Global) -> Result<SureSink, NoMemory>
-        ensures { IfOk result (λ sink. sink ≡ []) }
+        ensures { IfOk result (λ sink. sink ≡ fresh_sure_sink) }
     {
         Ok(SureSink {
             taken: Bytes::empty(alloc),
+            puts: 0,
         })
     }
 
     /// The bytes taken so far.
     pub fn taken(&self) -> &[u8]
-        ensures { result.now ≡ self.now }
+        ensures { result.now ≡ self.now.taken }
     {
         self.taken.as_slice()
+    }
+
+    /// The number of pieces it was handed so far, at most 2^64 - 1.
+    pub fn puts(&self) -> u64
+        ensures { result ≡ self.now.puts }
+    {
+        self.puts
     }
 }
 
 impl Sink for SureSink {
-    ghost taken = { λ s. Some s };
+    ghost taken = { λ s. Some s.taken };
 
     ghost faults = { λ _. 0 };
 
+    ghost puts = { λ s. s.puts };
+
     fn put(&mut self, alloc: Global, piece: &[u8]) -> Result<(), SinkFault> {
+        self.puts = self.puts.saturating_add(1);
         match self.taken.append(alloc, piece) {
             Ok(()) => Ok(()),
             Err(_) => Err(SinkFault::Memory),
@@ -155,6 +167,7 @@ mod tests {
         puts(&mut sink, alloc, b"one")?;
         puts(&mut sink, alloc, b", two")?;
         assert_eq!(rt; sink.taken(), b"one, two".as_slice());
+        assert_eq!(rt; sink.puts(), 2);
         Ok(())
     }
 }
