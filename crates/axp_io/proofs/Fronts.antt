@@ -1,7 +1,7 @@
 -- What puts one after another leave in a sink, whether or not its bytes are told.
-use Rattle.std.proofs.Common.{ℕ, ◌≤◌, List, [], ◌++◌, None, Some, Option, Result, Ok, Err, refl, sym, ap, ◌∙◌, append_assoc, append-nil, arith}
+use Rattle.std.proofs.Common.{◌≡◌, ℕ, ◌≤◌, List, [], ◌++◌, None, Some, Option, Result, Ok, Err, refl, sym, ap, ◌∙◌, append_assoc, append-nil, arith}
 use Rattle.std.proofs.KnownBytes.{Appends-nil, Appends-trans}
-use Rattle.axp_io.specs.Causes.{Appends, Keeps, AppendsFront, PutTaken, Rose}
+use Rattle.axp_io.specs.Causes.{Appends, Keeps, AppendsFront, PutTaken, Rose, raised}
 use Rattle.axp_io.specs.declared.SinkFault.{SinkFault}
 use Rattle.axp_io.specs.declared.SinkFault.TheVariants as sink
 
@@ -43,3 +43,7 @@ rose_later before between now rose more = omega arith
 
 pub rose_earlier : (before between now : ℕ) → before ≤ between → Rose between now → Rose before now
 rose_earlier before between now more rose = omega arith
+
+-- a count that rose by one has risen
+pub rose_by_one : (before now : ℕ) → now ≡ raised before 1 → Rose before now
+rose_by_one before now is = omega arith

@@ -1,5 +1,5 @@
 pub mod Fronts
 pub mod ListsLemmas
-pub mod Reading
+pub mod ReadLemmas
 pub mod TablesLemmas
-pub mod Writing
+pub mod WriteLemmas

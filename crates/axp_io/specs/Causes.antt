@@ -33,19 +33,19 @@ AppendsFront before now piece = (front rest : List ℕ) × (piece ≡ front ++ r
 abbrev pub Ask : Type 0
 Ask = List ℕ × ℕ
 
--- the desk's faults: a failure has one as its cause, and no other answer has one
+-- the desk's faults: one more for a failure, and none for any other answer
 abbrev pub FetchCount : ℕ → ℕ → Result (List ℕ) FetchFault → Type 0
 FetchCount before now (Ok bytes) = now ≡ before
-FetchCount before now (Err fetch.Failed) = Rose before now
+FetchCount before now (Err fetch.Failed) = now ≡ raised before 1
 FetchCount before now (Err fetch.TooLong) = now ≡ before
 FetchCount before now (Err fetch.Memory) = now ≡ before
 
--- the bytes given to the desk: those of the answer, and more than the limit where that was too long
+-- the bytes given to the desk: those of the answer, and one more than the limit at most, just so many where that was too long
 abbrev pub FetchGiven : ℕ → ℕ → ℕ → Result (List ℕ) FetchFault → Type 0
-FetchGiven before now most (Ok bytes) = RoseBy (length bytes) before now
-FetchGiven before now most (Err fetch.Failed) = Unit {0}
-FetchGiven before now most (Err fetch.TooLong) = RoseBy (most + 1) before now
-FetchGiven before now most (Err fetch.Memory) = Unit {0}
+FetchGiven before now most (Ok bytes) = now ≡ raised before (length bytes)
+FetchGiven before now most (Err fetch.Failed) = now ≤ before + (most + 1)
+FetchGiven before now most (Err fetch.TooLong) = now ≡ raised before (most + 1)
+FetchGiven before now most (Err fetch.Memory) = now ≤ before + (most + 1)
 
 -- the answer where the desk tells the list: the whole list, or that it is longer than the limit
 abbrev pub FetchTold : List ℕ → ℕ → Result (List ℕ) FetchFault → Type 0
@@ -63,10 +63,10 @@ FetchAsks before now ask (Err fetch.Memory) = (now ≡ before) ⊎ (now ≡ befo
 
 -- ---- a sink
 
--- the sink's faults: a failure has one as its cause, and no other answer has one
+-- the sink's faults: one more for a failure, and none for any other answer
 abbrev pub PutCount : {T : Type 0} → ℕ → ℕ → Result T SinkFault → Type 0
 PutCount before now (Ok _) = now ≡ before
-PutCount before now (Err sink.Failed) = Rose before now
+PutCount before now (Err sink.Failed) = now ≡ raised before 1
 PutCount before now (Err sink.Memory) = now ≡ before
 
 -- the bytes taken: the piece, or a front of it where the sink failed

@@ -1,9 +1,11 @@
 pub mod Asks
 pub mod Calls
 pub mod Causes
+pub mod Courses
 pub mod Files
 pub mod Lists
 pub mod ListSinks
 pub mod Streams
 pub mod Sure
 pub mod Tables
+pub mod Troubles

@@ -1,30 +1,27 @@
-ghost use Rattle.std.specs.Prelude.{◌≡◌, ◌≤◌, length, None, IfOk, IfSome};
+ghost use Rattle.std.specs.Prelude.{◌≡◌, ◌≤◌, ◌<◌, ℕ, List, length, Option, None, IfOk, IfSome};
 ghost use Rattle.axp_io.specs.Asks.{asks_in};
-ghost use Rattle.axp_io.specs.Causes.{FetchGiven, FetchTold};
+ghost use Rattle.axp_io.specs.Causes.{FetchCount, FetchGiven, FetchAsks};
+ghost use Rattle.axp_io.specs.Courses.{Opening, OpensAs, FetchesSo};
 ghost use Rattle.axp_io.specs.Files.{fresh_files};
 
 use crate::asks::{Asked, Asks};
+use crate::reading::{Reader, StandardReader, read_whole};
+use crate::troubles::{Trouble, trouble_in};
 use crate::{Desk, FetchFault};
 use axp_base::Bytes;
 use std::alloc::Global;
 use std::fs;
-use std::io::{ErrorKind, Read};
 use std::marker::Model;
 use std::rt::Files;
-
-/// The number of bytes that one read asks for at most.
-const CHUNK: usize = 4096;
 
 /// The desk over files: a name is the path of a file, and its list the file's bytes.
 ///
 /// A file that cannot be opened or read is a failure. It tells no list, since a file may change at
-/// any time.
+/// any time; what it does with what a file gives is the contract of `fetch_from`.
 #[derive(Drop)]
 pub struct FileDesk<R> {
-    rt: R,
-    faults: u64,
-    given: u64,
-    asks: Asks,
+    opener: FileOpener<R>,
+    kept: Kept,
 }
 
 impl<R> Model for FileDesk<R> {
@@ -32,7 +29,7 @@ impl<R> Model for FileDesk<R> {
 
     ghost Value = { FilesView };
 
-    ghost view = { λ d. record { faults = d.faults; given = d.given; asks = d.asks } };
+    ghost view = { λ d. d.kept };
 }
 
 impl<R: AllocGlobal> FileDesk<R> {
@@ -40,12 +37,10 @@ impl<R: AllocGlobal> FileDesk<R> {
     pub fn new(rt: R) -> FileDesk<R>
         ensures { result ≡ fresh_files }
     {
-        let asks = Asks::empty(rt.alloc());
+        let kept = Kept::new(rt.alloc());
         FileDesk {
-            rt,
-            faults: 0,
-            given: 0,
-            asks,
+            opener: FileOpener { rt },
+            kept,
         }
     }
 }
@@ -55,21 +50,21 @@ impl<R> FileDesk<R> {
     pub fn asks(&self) -> &[Asked]
         ensures { asks_in result.now ≡ self.now.asks }
     {
-        self.asks.as_slice()
+        self.kept.asks.as_slice()
     }
 
     /// The number of fetches that failed so far, at most 2^64 - 1.
     pub fn faults(&self) -> u64
         ensures { result ≡ self.now.faults }
     {
-        self.faults
+        self.kept.faults
     }
 
     /// The number of bytes read so far, at most 2^64 - 1.
     pub fn given(&self) -> u64
         ensures { result ≡ self.now.given }
     {
-        self.given
+        self.kept.given
     }
 }
 
@@ -83,64 +78,127 @@ impl<R: Files> Desk for FileDesk<R> {
     ghost asks = { λ d. d.asks };
 
     fn fetch(&mut self, alloc: Global, name: &str, most: u64) -> Result<Bytes, FetchFault> {
-        let Ok(()) = self.asks.keep(alloc, name, most) else {
-            return Err(FetchFault::Memory);
-        };
-        let result = match fs::open(&self.rt, name) {
-            Ok(mut file) => read_whole(alloc, &mut file, most, &mut self.given),
-            Err(error) if error.kind() == ErrorKind::OutOfMemory => Err(FetchFault::Memory),
-            Err(_) => Err(FetchFault::Failed),
-        };
-        if let Err(FetchFault::Failed) = result {
-            self.faults = self.faults.saturating_add(1);
-        }
-        result
+        fetch_from(&self.opener, &mut self.kept, alloc, name, most)
     }
 }
 
-/// Reads to the end, or until one byte more than `most` came, and counts the bytes given.
-fn read_whole<F: Read>(
+/// What a desk over an opener keeps: its counts, and the asks that came.
+#[derive(Drop)]
+struct Kept {
+    faults: u64,
+    given: u64,
+    asks: Asks,
+}
+
+impl Model for Kept {
+    ghost use Rattle.axp_io.specs.Files.{FilesView};
+
+    ghost Value = { FilesView };
+
+    ghost view = { λ k. record { faults = k.faults; given = k.given; asks = k.asks } };
+}
+
+impl Kept {
+    /// Nothing came yet.
+    fn new(alloc: Global) -> Kept
+        ensures { result ≡ fresh_files }
+    {
+        Kept {
+            faults: 0,
+            given: 0,
+            asks: Asks::empty(alloc),
+        }
+    }
+}
+
+/// What opens names for reading.
+///
+/// - `opens`: what opening a name gives, where that is known.
+trait Opener {
+    type File: Reader + Drop;
+
+    ghost opens: { Self → List ℕ → Option Opening };
+
+    /// Opens a name. The standard library tries an interrupted opening again by itself.
+    fn open(&self, name: &str) -> Result<Self::File, Trouble>
+        ensures { IfSome (opens self.now name.now)
+            (λ opening. OpensAs Self.File.course opening result) };
+}
+
+/// Opens the runtime's files; what they hold is not known.
+#[derive(Drop)]
+struct FileOpener<R> {
+    rt: R,
+}
+
+impl<R: Files> Opener for FileOpener<R> {
+    type File = StandardReader<R::File>;
+
+    ghost opens = { λ _ _. None };
+
+    fn open(&self, name: &str) -> Result<StandardReader<R::File>, Trouble> {
+        match fs::open(&self.rt, name) {
+            Ok(inner) => Ok(StandardReader { inner }),
+            Err(error) => Err(trouble_in(error)),
+        }
+    }
+}
+
+/// The whole list under a name: it is opened and read to its end.
+///
+/// A name that cannot be opened is a failure, as is a reader that meets a fault.
+fn fetch_from<O: Opener>(
+    opener: &O,
+    kept: &mut Kept,
     alloc: Global,
-    file: &mut F,
+    name: &str,
+    most: u64,
+) -> Result<Bytes, FetchFault>
+    // An ask that was not kept, for want of memory, opens nothing.
+    ensures opens { length kept.old.asks < length kept.new.asks
+        → IfSome (O.opens opener.now name.now) (λ opening. FetchesSo opening most result) }
+    ensures most { IfOk result (λ bytes. length bytes ≤ most) }
+    ensures faults_grow { kept.old.faults ≤ kept.new.faults }
+    ensures count { FetchCount kept.old.faults kept.new.faults result }
+    ensures given_grow { kept.old.given ≤ kept.new.given }
+    ensures given { FetchGiven kept.old.given kept.new.given most result }
+    ensures asks { FetchAsks kept.old.asks kept.new.asks (name.now, most) result }
+{
+    let Ok(()) = kept.asks.keep(alloc, name, most) else {
+        return Err(FetchFault::Memory);
+    };
+    let result = open_and_read(opener, alloc, name, most, &mut kept.given);
+    if let Err(FetchFault::Failed) = result {
+        kept.faults = kept.faults.saturating_add(1);
+    }
+    result
+}
+
+/// Opens a name and reads to the end, and counts the bytes given.
+fn open_and_read<O: Opener>(
+    opener: &O,
+    alloc: Global,
+    name: &str,
     most: u64,
     given: &mut u64,
 ) -> Result<Bytes, FetchFault>
-    ensures told { IfSome (F.remaining file.old) (λ list. FetchTold list most result) }
+    ensures opens { IfSome (O.opens opener.now name.now)
+        (λ opening. FetchesSo opening most result) }
     ensures most { IfOk result (λ bytes. length bytes ≤ most) }
     ensures grows { given.old ≤ given.new }
     ensures given { FetchGiven given.old given.new most result }
 {
-    let mut bytes = Bytes::empty(alloc);
-    let mut chunk = [0; CHUNK];
-    let mut left = most;
-    // The end of the range is never met: a turn reads a byte or more, ends, or was interrupted.
-    for _ in 0..u64::MAX {
-        // One byte more than may still come would show that the list is too long.
-        let room = left.min(CHUNK as u64 - 1) as usize + 1;
-        let count = match file.read(&mut chunk[..room]) {
-            Ok(count) => count,
-            Err(error) if error.kind() == ErrorKind::Interrupted => continue,
-            Err(error) if error.kind() == ErrorKind::OutOfMemory => return Err(FetchFault::Memory),
-            Err(_) => return Err(FetchFault::Failed),
-        };
-        if count == 0 {
-            return Ok(bytes);
-        }
-        *given = given.saturating_add(count as u64);
-        if count as u64 > left {
-            return Err(FetchFault::TooLong);
-        }
-        let Ok(()) = bytes.append(alloc, &chunk[..count]) else {
-            return Err(FetchFault::Memory);
-        };
-        left -= count as u64;
+    match opener.open(name) {
+        Ok(mut file) => read_whole(alloc, &mut file, most, given),
+        Err(Trouble::Memory) => Err(FetchFault::Memory),
+        Err(Trouble::Interrupted | Trouble::Fault) => Err(FetchFault::Failed),
     }
-    Err(FetchFault::Failed)
 }
 
 #[cfg(test)]
 mod tests {
     use super::*;
+    use crate::reading::CHUNK;
     use crate::tests::answers;
     use std::test::Fail;
 
@@ -169,10 +227,13 @@ mod tests {
             Err(FetchFault::Failed),
         );
 
-        assert_eq!(rt; (whole, cut, gone), (true, true, true));
+        // A directory can be opened, and each read of it is an error.
+        let folder = answers(&mut desk, alloc, ".", 5000, Err(FetchFault::Failed));
+
+        assert_eq!(rt; (whole, cut, gone, folder), (true, true, true, true));
         assert_eq!(rt;
             (desk.asks().len(), desk.faults(), desk.given()),
-            (3, 1, 10000)
+            (4, 2, 10000)
         );
         Ok(())
     }

@@ -1,23 +1,33 @@
-//! What lies outside the program: a desk that gives lists of bytes by name, a sink that takes bytes,
-//! and a gate before each step of a worker. Each is a trait, with types in memory that tell what they
-//! hold, and the real ones over files and standard output.
+//! What lies outside the program. A *desk* gives lists of bytes by name, as files are given; a
+//! *sink* takes bytes one piece after the other, as standard output does; a *gate* stands before
+//! each step of a worker. Each is a trait, with types in memory, and the real ones over files and
+//! standard output.
 //!
-//! A call outside may fail at any time, so a caller learns a cause with each answer: a desk and a sink
-//! count their faults, and a failure is answered only where that count rose.
+//! A desk *tells* a list, and a sink *tells* its bytes, where contracts can say which bytes these
+//! are: the types in memory tell them, and files and standard output do not, since the system may
+//! change them at any time.
+//!
+//! A call outside may fail at any time, so a caller learns a cause with each answer: a desk and a
+//! sink count their faults, and a failure is answered exactly where that count rose by one. A count
+//! stays at 2^64 - 1 once it stands there, and then counts as risen.
 #![tactic(auto)]
 
 ghost use Rattle.std.specs.Prelude.{◌≡◌, ◌≤◌, ◌<◌, ℕ, List, length, Option, IfOk, IfSome};
 ghost use Rattle.std.specs.Option.{is_some};
-ghost use Rattle.axp_io.specs.Causes.{Ask, FetchCount, FetchGiven, FetchTold, FetchAsks, raised, PutCount, PutTaken};
+ghost use Rattle.axp_io.specs.Causes.{Ask, FetchCount, FetchGiven, FetchTold, FetchAsks};
+ghost use Rattle.axp_io.specs.Causes.{raised, PutCount, PutTaken};
 
 mod asks;
 mod files;
 mod gates;
 mod list_sinks;
 mod lists;
+mod reading;
 mod streams;
 mod sure;
 mod tables;
+mod troubles;
+mod writing;
 
 pub use asks::Asked;
 pub use axp_base::{Bytes, Cpu, NoMemory};
@@ -32,9 +42,9 @@ pub use tables::TableDesk;
 /// Why a fetch gave no list.
 #[derive(Clone, Copy, Debug, PartialEq, Eq)]
 pub enum FetchFault {
-    /// The desk failed, and counts a fault.
+    /// The desk failed, and counted one fault.
     Failed,
-    /// The list is longer than the caller's limit.
+    /// The list is longer than the caller's limit; one byte more than the limit was given.
     TooLong,
     /// Memory was not found.
     Memory,
@@ -43,7 +53,7 @@ pub enum FetchFault {
 /// Why a put did not take its whole piece.
 #[derive(Clone, Copy, Debug, PartialEq, Eq)]
 pub enum SinkFault {
-    /// The sink failed, and counts a fault; it may have taken a front of the piece.
+    /// The sink failed, and counted one fault; it may have taken a front of the piece.
     Failed,
     /// Memory was not found; nothing was taken.
     Memory,
@@ -52,9 +62,9 @@ pub enum SinkFault {
 /// Where lists of bytes come from, by name.
 ///
 /// - `told`: the list under each name, where the desk tells it.
-/// - `faults`: the number of failures so far. It stays at 2^64 - 1 once it stands there.
-/// - `given`: the number of bytes that the outside handed to the desk so far; it stays likewise.
-/// - `asks`: the names asked for, each with its limit, in order.
+/// - `faults`: the number of failures so far, which stays at 2^64 - 1 once it stands there.
+/// - `given`: the number of bytes that the outside handed to the desk so far, which stays likewise.
+/// - `asks`: the names asked for, each with its limit in bytes, in order.
 pub trait Desk {
     ghost told: { Self → List ℕ → Option (List ℕ) };
 
@@ -79,9 +89,8 @@ pub trait Desk {
 /// Where bytes go.
 ///
 /// - `taken`: the bytes taken so far, where the sink tells them.
-/// - `faults`: the number of failures so far. It stays at 2^64 - 1 once it stands there.
-/// - `puts`: how many pieces it was handed so far, whatever came of them. It stays at 2^64 - 1 once it
-///   stands there.
+/// - `faults`: the number of failures so far, which stays at 2^64 - 1 once it stands there.
+/// - `puts`: how many pieces it was handed so far, whatever came of them; it stays likewise.
 pub trait Sink {
     ghost taken: { Self → Option (List ℕ) };
 
@@ -99,7 +108,7 @@ pub trait Sink {
         ensures puts { puts self.new ≡ raised (puts self.old) 1 };
 }
 
-/// What a worker passes before each step. It decides when, and tells nothing.
+/// What a worker passes before each step. It decides when, and says nothing.
 pub trait Gate {
     /// Returns when this processor may make this step.
     fn pass(&self, cpu: Cpu, step: u32);

@@ -1,22 +1,21 @@
 ghost use Rattle.std.specs.Prelude.{◌≡◌, None};
-ghost use Rattle.axp_io.specs.Causes.{PutTaken};
 ghost use Rattle.axp_io.specs.Streams.{fresh_stream};
 
+use crate::writing::{StandardWriter, Tally, put_to};
 use crate::{Sink, SinkFault};
 use std::alloc::Global;
 use std::io;
-use std::io::{ErrorKind, Write};
 use std::marker::Model;
 
 /// The sink over standard output, which is not buffered.
 ///
-/// A write that fails or takes nothing is a failure. It tells no bytes, since no contract knows what
-/// standard output holds; that a piece is written whole is the contract of `write_whole`.
+/// A write that fails or takes nothing is a failure. It tells no bytes, since no contract knows
+/// what standard output holds; that a piece is written whole and in order is the contract of
+/// `put_to`.
 #[derive(Drop)]
 pub struct OutSink<R> {
     rt: R,
-    faults: u64,
-    puts: u64,
+    tally: Tally,
 }
 
 impl<R> Model for OutSink<R> {
@@ -24,7 +23,7 @@ impl<R> Model for OutSink<R> {
 
     ghost Value = { StreamView };
 
-    ghost view = { λ s. record { faults = s.faults; puts = s.puts } };
+    ghost view = { λ s. s.tally };
 }
 
 impl<R> OutSink<R> {
@@ -34,8 +33,7 @@ impl<R> OutSink<R> {
     {
         OutSink {
             rt,
-            faults: 0,
-            puts: 0,
+            tally: Tally::new(),
         }
     }
 
@@ -43,14 +41,14 @@ impl<R> OutSink<R> {
     pub fn faults(&self) -> u64
         ensures { result ≡ self.now.faults }
     {
-        self.faults
+        self.tally.faults
     }
 
     /// The number of pieces it was handed so far, at most 2^64 - 1.
     pub fn puts(&self) -> u64
         ensures { result ≡ self.now.puts }
     {
-        self.puts
+        self.tally.puts
     }
 }
 
@@ -62,34 +60,9 @@ impl<R: Print> Sink for OutSink<R> {
     ghost puts = { λ s. s.puts };
 
     fn put(&mut self, _alloc: Global, piece: &[u8]) -> Result<(), SinkFault> {
-        self.puts = self.puts.saturating_add(1);
-        let mut output = io::writer(&self.rt);
-        let result = write_whole(&mut output, piece);
-        if let Err(SinkFault::Failed) = result {
-            self.faults = self.faults.saturating_add(1);
-        }
-        result
+        let inner = io::writer(&self.rt);
+        put_to(&mut StandardWriter { inner }, &mut self.tally, piece)
     }
-}
-
-/// Writes a piece; after a failure a front of it may have been written.
-fn write_whole<W: Write>(to: &mut W, piece: &[u8]) -> Result<(), SinkFault>
-    ensures { PutTaken (W.contents to.old) (W.contents to.new) piece.now result }
-{
-    let mut rest = piece;
-    // The end of the range is never met: a turn writes a byte or more, ends, or was interrupted.
-    for _ in 0..u64::MAX {
-        if rest.is_empty() {
-            return Ok(());
-        }
-        match to.write(rest) {
-            Ok(0) => return Err(SinkFault::Failed),
-            Ok(count) => rest = &rest[count..],
-            Err(error) if error.kind() == ErrorKind::Interrupted => {}
-            Err(_) => return Err(SinkFault::Failed),
-        }
-    }
-    Err(SinkFault::Failed)
 }
 
 #[cfg(test)]

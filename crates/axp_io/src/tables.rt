@@ -98,7 +98,8 @@ impl Desk for TableDesk {
 
     fn fetch(&mut self, alloc: Global, name: &str, most: u64) -> Result<Bytes, FetchFault>
         ensures stays { (n : List ℕ) → list_under self.new.lists n ≡ list_under self.old.lists n }
-        ensures told { IfSome (list_under self.old.lists name.now) (λ list. FetchTold list most result) }
+        ensures told { IfSome (list_under self.old.lists name.now)
+            (λ list. FetchTold list most result) }
         ensures most { IfOk result (λ bytes. length bytes ≤ most) }
         ensures faults_grow { self.old.faults ≤ self.new.faults }
         ensures count { FetchCount self.old.faults self.new.faults result }

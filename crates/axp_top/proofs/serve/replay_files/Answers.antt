@@ -1,6 +1,7 @@
 use Rattle.std.proofs.Common.{◌≡◌, ◌∙◌, Err, IfSome, Option, Some, sym, subst}
 use Rattle.axp_image.specs.Contents.{Contents, IsValid}
 use Rattle.axp_image.specs.Grammar.{image_of}
+use Rattle.axp_io.proofs.Fronts.{rose_by_one}
 use Rattle.axp_io.specs.Causes.{FetchCount}
 use Rattle.axp_io.specs.declared.FetchFault.{FetchFault}
 use Rattle.axp_top.proofs.Settling.{asks_first, files_fault, files_memory, files_of_image, files_refused}
@@ -34,7 +35,7 @@ returns-in-Ok-Some-clause-some_files g c =
 
 pub returns-in-Err-Failed-clause-some_files : goal.returns-in-Err-Failed-clause-some_files
 returns-in-Err-Failed-clause-some_files g c = files_fault _ _ _ _ _ _ c.refuse_read_fault.result
-    (subst (λ (f : FetchFault). FetchCount (g.D.Desk.faults c.args.desk.now) (g.D.Desk.faults c.fetch.new.self) (Err f)) c.in-Err-Failed.field-0-is c.in-Err-Failed.ensures.count)
+    (rose_by_one _ _ (subst (λ (f : FetchFault). FetchCount (g.D.Desk.faults c.args.desk.now) (g.D.Desk.faults c.fetch.new.self) (Err f)) c.in-Err-Failed.field-0-is c.in-Err-Failed.ensures.count))
     c.refuse_read_fault.ensures
 
 pub returns-clause-some_files : goal.returns-clause-some_files

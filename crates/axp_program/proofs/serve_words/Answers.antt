@@ -1,0 +1,10 @@
+use Rattle.std.proofs.Common.{inl}
+use Rattle.axp_top.specs.declared.status.Status.TheVariants as status
+use Rattle.axp_program.proofs.serve_words.Goals as goal
+
+-- the status is what the top call answered
+pub returns-in-Ok-clause-served : goal.returns-in-Ok-clause-served
+returns-in-Ok-clause-served g c = rw (c.in-Ok.is, ← c.as_slice.ensures.value) (c.serve_plain.result, c.number.ensures, c.serve_plain.ensures.answer, c.serve_plain.ensures.sink_count, c.serve_plain.ensures.desk_count)
+
+pub returns-in-Err-clause-number : goal.returns-in-Err-clause-number
+returns-in-Err-clause-number g c = inl (status.Memory, c.number-in-Err.ensures)

@@ -1,0 +1,15 @@
+-- The numbers that the process ends with.
+use Rattle.std.specs.Prelude.{◌≡◌, ◌⊎◌, ℕ}
+use Rattle.std.specs.declared.io.ErrorKind.{ErrorKind}
+use Rattle.std.specs.declared.io.ErrorKind.TheVariants as kind
+use Rattle.axp_top.specs.Statuses.{number_of_status}
+use Rattle.axp_top.specs.declared.status.Status.{Status}
+
+-- the number where the system did not give the words: want of memory has a number of its own
+abbrev pub number_without_words : ErrorKind → ℕ
+number_without_words kind.OutOfMemory = 11
+number_without_words _ = 17
+
+-- the number of a status, or that of words which the system did not give
+abbrev pub IsExitNumber : ℕ → Type 0
+IsExitNumber n = ((s : Status) × (n ≡ number_of_status s)) ⊎ (n ≡ 17)

@@ -1,0 +1,75 @@
+//! The program as a function of the runtime, for every program crate whose `main` is to do this work.
+#![tactic(auto)]
+
+ghost use Rattle.std.specs.Prelude.{◌≡◌, IfOk, IfErr, OnErr, IfSome};
+ghost use Rattle.std.specs.IoError.{error_kind};
+ghost use Rattle.std.specs.Process.{exit_status};
+ghost use Rattle.axp_top.specs.Answers.{answer_of, asks_of};
+ghost use Rattle.axp_top.specs.Statuses.{AsksFront, DeskCount, Settles, SinkCount, number_of_status};
+ghost use Rattle.axp_top.specs.Words.{order_of};
+ghost use Rattle.axp_top.specs.declared.status.Status.{Status};
+ghost use Rattle.axp_program.specs.Numbers.{IsExitNumber, number_without_words};
+
+use axp_base::NoMemory;
+use axp_io::{Desk, FileDesk, OutSink, Sink};
+use axp_top::{Status, Word, serve_plain};
+use std::alloc::Global;
+use std::env::{self, Env};
+use std::io::{self, ErrorKind};
+use std::process::ExitCode;
+use std::rt::Files;
+
+/// The number that the process ends with where the system does not give the words.
+const REFUSED_WORDS: u8 = 17;
+
+/// Does what the words of the command line say, with the runtime's files and its standard output, and
+/// answers what the process ends with: `docs/FORMATS.md` has the numbers.
+pub fn run<R: Env + Files + Print + AllocGlobal>(rt: &R) -> ExitCode
+    ensures { IsExitNumber (exit_status result) }
+{
+    let mut desk = FileDesk::new(rt);
+    let mut sink = OutSink::new(rt);
+    let number = serve_words(rt.alloc(), read_words(rt), &mut desk, &mut sink);
+    ExitCode::from(number)
+}
+
+/// Serves the words where the system gave them, and answers the number that the process ends with.
+fn serve_words<D: Desk, K: Sink>(
+    alloc: Global,
+    words: io::Result<Vec<Word>>,
+    desk: &mut D,
+    sink: &mut K,
+) -> u8
+    // The number is that of a status, and the text, the counts and the asks are those of the words and
+    // of this status.
+    ensures served { IfOk words (λ words. (status : Status) × (result ≡ number_of_status status)
+        × IfSome (answer_of (order_of words.items) (D.told desk.old)) (λ answer. Settles (K.taken sink.old)
+        (K.taken sink.new) (D.faults desk.old) (D.faults desk.new) answer status)
+        × SinkCount (K.faults sink.old) (K.faults sink.new) status
+        × DeskCount (D.faults desk.old) (D.faults desk.new) status) }
+    ensures asks { IfOk words (λ words. AsksFront (D.asks desk.old) (D.asks desk.new)
+        (asks_of (order_of words.items))) }
+    ensures no_words { IfErr words (λ error. result ≡ number_without_words (error_kind error)) }
+    ensures nothing_asked { OnErr words (D.asks desk.new ≡ D.asks desk.old) }
+    ensures nothing_put { OnErr words (K.puts sink.new ≡ K.puts sink.old) }
+    ensures number { IsExitNumber result }
+{
+    match words {
+        Ok(words) => serve_plain(alloc, words.as_slice(), desk, sink).number(),
+        Err(error) if error.kind() == ErrorKind::OutOfMemory => Status::Memory.number(),
+        Err(_) => REFUSED_WORDS,
+    }
+}
+
+/// The words of the command line after the program's name.
+fn read_words<R: Env + AllocGlobal>(rt: &R) -> io::Result<Vec<Word>> {
+    let mut words = Vec::new(rt.alloc());
+    for text in env::args(rt)?.skip(1) {
+        let word = match Word::new(rt.alloc(), text.as_str()) {
+            Ok(word) => word,
+            Err(NoMemory) => return Err(io::Error::from(ErrorKind::OutOfMemory)),
+        };
+        words.push(word)?;
+    }
+    Ok(words)
+}
