@@ -3,14 +3,12 @@ pub mod RunFacts
 pub mod RunRecords
 pub mod RunKnown
 pub mod RunSteps
-
 -- BEFORE, the issue constraint, the write barrier and location
 pub mod OrderKeys
 pub mod OrderCounts
 pub mod OrderCases
 pub mod OrderDrains
 pub mod OrderPlaces
-
 -- the sources of bytes, and what held copies have of memory
 pub mod SourceBytes
 pub mod SourceValues
@@ -21,29 +19,24 @@ pub mod SourceTurns
 pub mod SourceClosedForm
 pub mod SourceRuns
 pub mod SourceCopies
-
+pub mod SourceWritten
 -- invalidations that come late
 pub mod LateReached
 pub mod LateCounts
 pub mod LateTurns
 pub mod LateOthers
-
 -- the lists of held lines
 pub mod CopyNumbers
 pub mod CopyLists
-
 -- locks
 pub mod LockRegisters
 pub mod LockPairs
 pub mod LockGuards
-
 -- write-buffer entries, the numbers of accesses, drains
 pub mod EntryNumbers
 pub mod EntryGroups
 pub mod EntryDrains
-
 -- interprocessor interrupts
 pub mod PollSignals
-
 -- causes
 pub mod CauseMoments

@@ -18,10 +18,11 @@ pub use entries::{
 pub use late::{copies_are_held_lines, held_copies, late_by_counting, late_pairs_are_turns};
 pub use locks::{locking, undisturbed_in_words};
 pub use order::{
-    before_is_a_strict_order, counts_grow, order_is_kept, overlapping_accesses_are_ordered,
-    places_are_bounded, runs_begin_with_runs,
+    accesses_lie_in_quadwords, before_is_a_strict_order, counts_grow, order_is_kept,
+    overlapping_accesses_are_ordered, places_are_bounded, runs_begin_with_runs,
 };
 pub use polls::poll_rule;
 pub use storage::{
     closed_form_of_sources, held_copies_are_memory, memory_of_past_turns_stays, storage_is_kept,
+    written_quadwords,
 };

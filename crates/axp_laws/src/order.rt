@@ -11,7 +11,7 @@ ghost use Rattle.axp_model.specs.Processors.{Processors};
 ghost use Rattle.axp_model.specs.Outcomes.{IsRun};
 ghost use Rattle.axp_model.specs.Issue.{AllPairs, KeepsOrder};
 ghost use Rattle.axp_model.specs.Location.{AreApart, AreComparable, IsLocated, is_placed};
-ghost use Rattle.axp_model.specs.Processors.{AreInLine};
+ghost use Rattle.axp_model.specs.Processors.{AreInLine, IsInLine};
 ghost use Rattle.axp_laws.specs.OrderLaws.{StandsBy};
 
 /// BEFORE is a strict total order of the accesses that have a place; to one without a place it
@@ -57,4 +57,10 @@ pub fn order_is_kept()
 pub fn overlapping_accesses_are_ordered()
     ensures { (image : ℕ → ℕ) (ps : Processors) (h : List Record) → AreInLine ps → IsRun image ps h
         → AllPairs (IsLocated (times h)) (accesses h) }
+{}
+
+/// The bytes of each access of a run have addresses, and lie in one aligned quadword and so in one line.
+pub fn accesses_lie_in_quadwords()
+    ensures { (image : ℕ → ℕ) (ps : Processors) (h : List Record) → AreInLine ps → IsRun image ps h
+        → AllByRecursion (λ u. IsInLine u.access.address u.access.size) (accesses h) }
 {}

@@ -1,5 +1,6 @@
 //! Laws of values: a read or fetch has the bytes of its sources, and what these are.
-ghost use Rattle.std.specs.Prelude.{ℕ, List, Option, true, ◌≡◌, ◌≤◌, ◌+◌, ◌++◌, ◌∷◌};
+ghost use Rattle.std.specs.Prelude.{ℕ, List, Option, true, ◌≡◌, ◌≤◌, ◌+◌, ◌*◌, ◌++◌, ◌∷◌};
+ghost use Rattle.std.specs.List.{list_any};
 ghost use Rattle.std.specs.Option.{option_or};
 ghost use Rattle.axp_base.specs.Cpus.{cpu_number};
 ghost use Rattle.axp_regs.specs.declared.asks.Kind.TheVariants.{Fetch, Read, Locked};
@@ -9,12 +10,14 @@ ghost use Rattle.axp_access.specs.Kinds.{has_byte};
 ghost use Rattle.axp_base.specs.Lines.{line_of};
 ghost use Rattle.axp_model.specs.Turns.{turns, stamp, code_stamp, read_place};
 ghost use Rattle.axp_model.specs.Late.{held};
-ghost use Rattle.axp_model.specs.Memory.{newest_waiting};
+ghost use Rattle.axp_model.specs.Accesses.{accesses};
+ghost use Rattle.axp_model.specs.Memory.{is_touched, newest_waiting};
+ghost use Rattle.axp_base.specs.declared.parts.TheConstants.{QUADWORD_BYTES};
 ghost use Rattle.axp_model.specs.Processors.{Processors};
 ghost use Rattle.axp_model.specs.Outcomes.{IsRun};
 ghost use Rattle.axp_model.specs.Processors.{AreInLine};
 ghost use Rattle.axp_model.specs.Storage.{HasBytes, KeepsEachByte, KeepsStorage};
-ghost use Rattle.axp_laws.specs.StorageLaws.{Makes, memory_after, source_in};
+ghost use Rattle.axp_laws.specs.StorageLaws.{Makes, memory_after, reaches_bytes, source_in};
 
 /// Each read and fetch of a run has the bytes of its sources, now and after every later record.
 pub fn storage_is_kept()
@@ -50,4 +53,10 @@ pub fn memory_of_past_turns_stays()
 pub fn held_copies_are_memory()
     ensures { (image : ℕ → ℕ) (ps : Processors) (h : List Record) (p at : ℕ) → AreInLine ps → IsRun image ps h → held p (line_of at) h ≡ true
         → memory_after h (read_place p (line_of at) h) at ≡ memory_after h (stamp p (line_of at) h) at }
+{}
+
+/// A byte of an aligned quadword was written by a drain or a store-conditional that succeeded exactly
+/// where a memory write of the history that reached memory has a byte of it.
+pub fn written_quadwords()
+    ensures { (h : List Record) (q : ℕ) → is_touched h q ≡ list_any (reaches_bytes h (q * QUADWORD_BYTES) QUADWORD_BYTES) (accesses h) }
 {}

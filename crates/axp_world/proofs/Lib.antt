@@ -3,14 +3,12 @@ pub mod Agreement
 pub mod PlayedRecords
 pub mod AskedActs
 pub mod AskedQuiet
-
 -- the write buffer keeps the entries that wait
 pub mod BufferEntries
 pub mod BufferBytes
 pub mod BufferOverlays
 pub mod BufferSteps
 pub mod BufferPlayed
-
 -- how many acts, turns and events there are
 pub mod CountSums
 pub mod CountTallies
@@ -18,17 +16,14 @@ pub mod CountCalls
 pub mod CountKept
 pub mod CountBounds
 pub mod CountEvents
-
 -- what was done since the last Step
 pub mod SinceSteps
-
 -- the bus has the history's memory, turns, late pairs and locks
 pub mod BusLines
 pub mod BusMemory
 pub mod BusWrites
 pub mod BusRecords
 pub mod BusTouched
-
 -- the banks keep the lines that are held
 pub mod BankSpares
 pub mod BankShows
@@ -38,7 +33,6 @@ pub mod BankChanges
 pub mod BankActs
 pub mod BankPlayed
 pub mod BankRooms
-
 -- a played history is a run of the memory model
 pub mod RunSeats
 pub mod RunWants
@@ -48,7 +42,6 @@ pub mod RunLegality
 pub mod RunPlayed
 pub mod RunRefusals
 pub mod RunJoined
-
 -- no processor is stuck
 pub mod ProgressFilled
 pub mod ProgressMidway
