@@ -4,7 +4,7 @@ use Rattle.std.specs.Prelude.{ℕ, ◌==◌, Bool, true, false, ◌&&◌, Option
 use Rattle.axp_access.specs.declared.Place.{Place}
 use Rattle.axp_access.specs.declared.Place.TheVariants.{At, Entry, Absent}
 use Rattle.axp_access.specs.Kinds.{is_write}
-use Rattle.axp_access.specs.Numbering.{Item, cpu_of}
+use Rattle.axp_access.specs.Numbering.{NumberedAccess, cpu_of}
 use Rattle.std.specs.declared.cmp.Ordering.{Ordering}
 use Rattle.std.specs.Ordering.{ordering_then, nat_cmp, bool_cmp, is_lt}
 
@@ -37,7 +37,7 @@ pub record Key : Type 0 where
   pub cpu : ℕ
   pub number : ℕ
 
-abbrev pub key : Times → Item → Key
+abbrev pub key : Times → NumberedAccess → Key
 key t u = record { spot = spot t (cpu_of u) u.access.place; other = not (is_write u.access); cpu = cpu_of u; number = u.number }
 
 abbrev pub key_cmp : Key → Key → Ordering
@@ -52,9 +52,9 @@ unfoldable pub key_before : Key → Key → Bool
 key_before a b = (a.spot.placed && b.spot.placed) && is_lt (key_cmp a b)
 
 -- u is BEFORE v
-abbrev pub before : Times → Item → Item → Bool
+abbrev pub before : Times → NumberedAccess → NumberedAccess → Bool
 before t u v = key_before (key t u) (key t v)
 
 -- u precedes v in issue order: both are of one processor, and u is the earlier
-abbrev pub precedes : Item → Item → Bool
+abbrev pub precedes : NumberedAccess → NumberedAccess → Bool
 precedes u v = (cpu_of u == cpu_of v) && nat_lt u.number v.number

@@ -12,7 +12,7 @@ use Rattle.axp_line.specs.declared.messages.Request.TheVariants as request
 use Rattle.axp_line.specs.declared.messages.Reply.{Reply}
 use Rattle.axp_line.specs.declared.messages.Reply.TheVariants as reply
 use Rattle.axp_base.specs.LatePairs.{late_by_other}
-use Rattle.axp_line.specs.BusCalls.{BusCall, memory, turns, late, late_by_own, line_written, overwritten, reaches_quadword, wrote, is_turn, printed_by}
+use Rattle.axp_line.specs.BusCalls.{BusCall, memory, turns, late, late_by_own, line_written, overwritten, reaches_quadword, write_made, is_turn, printed_by}
 use Rattle.axp_line.specs.BusReply.{bus_reply, reply_by}
 use Rattle.axp_bus.specs.Lanes.{IsLane, late_after, lock_after, pending_after}
 use Rattle.axp_bus.specs.Buses.{State, Agrees, NotedAll, front_of}
@@ -43,8 +43,8 @@ lanes_after old new image cs cpu q a st noted size p d below =
 
 pub stands_after : (old new : State) (image : ℕ → ℕ) (cs : List BusCall) (cpu : Cpu) (q : Request) (a : Reply) → Stands old image cs
     → a ≡ bus_reply image cs (cpu_number cpu) q
-    → Agrees new.memory (overwritten (wrote q a) (memory image cs))
-    → Marked (wrote q a) old.touched new.touched
+    → Agrees new.memory (overwritten (write_made q a) (memory image cs))
+    → Marked (write_made q a) old.touched new.touched
     → new.turns ≡ cond (is_turn a) (old.turns + 1) old.turns
     → NotedAll (cpu_number cpu) (old.turns + 1) q a old.lanes new.lanes → length new.lanes ≡ length old.lanes
     → new.printed ≡ old.printed ++ printed_by q
@@ -53,7 +53,7 @@ stands_after old new image cs cpu q a st replied bytes marked counted noted size
   memory = bytes;
   touched = λ x below.
       let here : x < length old.touched = omega (arith, below, marked.size) in
-      marked.each x here ∙ ap (λ b. reaches_quadword x (wrote q a) || b) (st.touched x here);
+      marked.each x here ∙ ap (λ b. reaches_quadword x (write_made q a) || b) (st.touched x here);
   turns = counted ∙ ap (λ t. cond (is_turn a) (t + 1) t) st.turns;
   lanes = lanes_after old new image cs cpu q a st noted size;
   printed = printed ∙ ap (λ bytes. bytes ++ printed_by q) st.printed;
@@ -76,9 +76,9 @@ none_of_code p (c ∷ cs) = rw (none_of_code p cs) (none_after (eqb (cpu_number 
   by_other None = refl
   by_other (Some line) = refl
 
-  none_after : (own : Bool) → cond own (late_by_own Code c.ask c.answer []) (late_by_other Code (line_written (wrote c.ask c.answer)) (turns cs + 1) []) ≡ []
+  none_after : (own : Bool) → cond own (late_by_own Code c.ask c.answer []) (late_by_other Code (line_written (write_made c.ask c.answer)) (turns cs + 1) []) ≡ []
   none_after true = by_own c.ask c.answer
-  none_after false = by_other (line_written (wrote c.ask c.answer))
+  none_after false = by_other (line_written (write_made c.ask c.answer))
 
 -- whether something is late
 pub late_is : (b : State) (image : ℕ → ℕ) (cs : List BusCall) (p : ℕ) (lane : Lane) (bank : Bank) (answer : Bool) → Stands b image cs → p < length b.lanes → lane ≡ get_or b.lanes p lane

@@ -11,7 +11,7 @@ use Rattle.axp_line.specs.declared.messages.Request.{Request}
 use Rattle.axp_line.specs.declared.messages.Request.TheVariants as request
 use Rattle.axp_line.specs.declared.messages.Reply.{Reply}
 use Rattle.axp_line.specs.declared.messages.Reply.TheVariants as reply
-use Rattle.axp_line.specs.BusCalls.{is_turn, late_by_own, line_written, printed_by, wrote}
+use Rattle.axp_line.specs.BusCalls.{is_turn, late_by_own, line_written, printed_by, write_made}
 use Rattle.axp_bus.specs.Lanes.{HasRoom, late_after}
 use Rattle.axp_bus.specs.Buses.{NotedAll, HaveRoom, IsTidyQueue, AreTidy}
 use Rattle.axp_bus.specs.declared.lanes.Lane.{Lane}
@@ -82,8 +82,8 @@ after_more t a = more (is_turn a) where
   more false = omega arith
 
 tidy_other : (bank : Bank) (q : Request) (a : Reply) (t room : ℕ) (pairs : List (Line × ℕ)) (most : ℕ) → IsTidyQueue t room (queue pairs most)
-    → IsTidyQueue (after t a) room (queue (late_by_other bank (line_written (wrote q a)) (t + 1) pairs) most)
-tidy_other bank q (reply.Stored turn bytes) t room pairs most tidy = tidy_written bank (line_written (wrote q (reply.Stored turn bytes))) t room pairs most tidy
+    → IsTidyQueue (after t a) room (queue (late_by_other bank (line_written (write_made q a)) (t + 1) pairs) most)
+tidy_other bank q (reply.Stored turn bytes) t room pairs most tidy = tidy_written bank (line_written (write_made q (reply.Stored turn bytes))) t room pairs most tidy
 tidy_other bank q (reply.Signalled turn) t room pairs most tidy = tidy_more t (t + 1) room pairs most (omega arith) tidy
 tidy_other bank q _ t room pairs most tidy = tidy
 

@@ -9,7 +9,7 @@ use Rattle.axp_line.specs.declared.messages.Reply.{Reply}
 use Rattle.axp_line.specs.declared.messages.Request.{Request}
 use Rattle.axp_line.specs.declared.messages.Request.TheVariants as request
 use Rattle.axp_lockreg.specs.Blocks.{locked_block}
-use Rattle.axp_line.specs.BusReply.{Front}
+use Rattle.axp_line.specs.BusReply.{PortState}
 use Rattle.axp_bus.specs.Lanes.{Noted, LaneHasRoom}
 use Rattle.axp_bus.specs.declared.lanes.Lane.{Lane}
 
@@ -39,7 +39,7 @@ abbrev pub Agrees : List ℕ → (ℕ → ℕ) → Type 0
 Agrees bytes memory = (k : ℕ) → k < length bytes → slice_index bytes k ≡ memory k
 
 -- what a bus of this memory, turn count and lane is for the lane's processor
-abbrev pub front_of : (ℕ → ℕ) → ℕ → Lane → Front
+abbrev pub front_of : (ℕ → ℕ) → ℕ → Lane → PortState
 front_of memory turns lane =
     record { memory = memory; turns = turns; even = lane.even.pairs; odd = lane.odd.pairs; block = locked_block lane.lock; pending = lane.pending }
 

@@ -9,16 +9,16 @@ use Rattle.axp_line.specs.declared.messages.Reply.{Reply}
 use Rattle.axp_line.specs.declared.messages.Request.{Request}
 use Rattle.axp_lockreg.specs.Blocks.{locked_block}
 use Rattle.axp_base.specs.Blocks.{lock_by_other}
-use Rattle.axp_line.specs.BusCalls.{BusCall, wrote, line_written, late, late_by_own, lock_by_own, register, signals, takes_interrupt, pending}
+use Rattle.axp_line.specs.BusCalls.{BusCall, write_made, line_written, late, late_by_own, lock_by_own, register, signals, takes_interrupt, pending}
 use Rattle.axp_bus.specs.declared.lanes.Lane.{Lane}
 
 -- what a call leaves late for a processor, by whether it is its own
 abbrev pub late_after : Bool → Bank → Request → Reply → ℕ → List (Line × ℕ) → List (Line × ℕ)
-late_after own b q a turn pairs = if own then late_by_own b q a pairs else late_by_other b (line_written (wrote q a)) turn pairs
+late_after own b q a turn pairs = if own then late_by_own b q a pairs else late_by_other b (line_written (write_made q a)) turn pairs
 
 -- the block that it leaves locked
 abbrev pub lock_after : Bool → Request → Reply → Option ℕ → Option ℕ
-lock_after own q a block = if own then lock_by_own q block else lock_by_other (line_written (wrote q a)) block
+lock_after own q a block = if own then lock_by_own q block else lock_by_other (line_written (write_made q a)) block
 
 -- whether an interrupt of the processor p is requested after it
 abbrev pub pending_after : Bool → ℕ → Request → Bool → Bool

@@ -8,13 +8,13 @@ ghost use Rattle.axp_base.specs.Masks.{has_bit};
 ghost use Rattle.axp_base.specs.LatePairs.{AreBefore};
 ghost use Rattle.axp_line.specs.declared.messages.Request.{Request};
 ghost use Rattle.axp_line.specs.BusCalls.{BusCall, late, memory, turns};
-ghost use Rattle.axp_line.specs.BusReply.{Front, bus_reply, gone, is_late, reply_by};
+ghost use Rattle.axp_line.specs.BusReply.{PortState, bus_reply, gone, is_late, reply_by};
 ghost use Rattle.axp_bus.specs.BusStands.{call_of};
 ghost use Rattle.axp_bus.specs.ReplyLaws.{Answers, HasNoLock, IsNothing, IsRefused, TakesNothing, TellsLine, turn_of};
 
 /// What the bus answers fits the request.
 pub fn answers_fit_requests()
-    ensures { (f : Front) (q : Request) → Answers q (reply_by f q) }
+    ensures { (f : PortState) (q : Request) → Answers q (reply_by f q) }
 {}
 
 /// No more turns are made than calls, and no reply tells a turn beyond the next one.
@@ -50,6 +50,6 @@ pub fn told_lines_are_of_memory()
 
 /// A barrier's answer has bit `n` exactly where something late reaches the held copy `n`.
 pub fn gone_has_a_bit_for_each_copy()
-    ensures each { (f : Front) (held : List (ℕ × ℕ)) (n : ℕ) (copy : ℕ × ℕ) → slice_get held n ≡ Some copy → has_bit (gone f held) n ≡ is_late f copy.0 copy.1 }
-    ensures no_more { (f : Front) (held : List (ℕ × ℕ)) (n : ℕ) → length held ≤ n → has_bit (gone f held) n ≡ false }
+    ensures each { (f : PortState) (held : List (ℕ × ℕ)) (n : ℕ) (copy : ℕ × ℕ) → slice_get held n ≡ Some copy → has_bit (gone f held) n ≡ is_late f copy.0 copy.1 }
+    ensures no_more { (f : PortState) (held : List (ℕ × ℕ)) (n : ℕ) → length held ≤ n → has_bit (gone f held) n ≡ false }
 {}

@@ -4,7 +4,7 @@ ghost use Rattle.axp_base.specs.Lines.{line_number};
 ghost use Rattle.axp_base.specs.Masks.{mask_bits};
 ghost use Rattle.axp_base.specs.declared.lines.TheConstants.{LINE_BYTES};
 ghost use Rattle.axp_base.specs.declared.parts.TheConstants.{QUADWORD_BYTES};
-ghost use Rattle.axp_line.specs.BusCalls.{wrote};
+ghost use Rattle.axp_line.specs.BusCalls.{write_made};
 ghost use Rattle.axp_bus.specs.Buses.{MayAsk};
 ghost use Rattle.axp_bus.specs.Marks.{LINE_QUADWORDS, Marked, has_part};
 
@@ -46,7 +46,7 @@ fn mark_line(marks: &mut [bool], line: Line, mask: Mask)
 pub(crate) fn mark_down(marks: &mut [bool], request: &Request, reply: Reply)
     requires asks { (cpus : ℕ) × MayAsk (length marks.old * QUADWORD_BYTES) cpus request.now }
     requires whole { length marks.old * QUADWORD_BYTES % LINE_BYTES ≡ 0 }
-    ensures { Marked (wrote request.now reply) marks.old marks.new }
+    ensures { Marked (write_made request.now reply) marks.old marks.new }
 {
     let Reply::Stored { .. } = reply else { return };
     match request {

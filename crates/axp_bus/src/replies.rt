@@ -5,7 +5,7 @@ ghost use Rattle.axp_base.specs.declared.lines.TheConstants.{LINE_BYTES};
 ghost use Rattle.axp_base.specs.Blocks.{is_allowed};
 ghost use Rattle.axp_lockreg.specs.Blocks.{locked_block};
 ghost use Rattle.axp_line.specs.BusCalls.{overwritten};
-ghost use Rattle.axp_line.specs.BusReply.{Front, first_late, gone, is_late, late_in, line_of_memory, line_reply, reply_by, stored_reply, tried};
+ghost use Rattle.axp_line.specs.BusReply.{PortState, first_late, gone, is_late, late_in, line_of_memory, line_reply, reply_by, stored_reply, conditional_reply};
 ghost use Rattle.axp_base.specs.Lists.{is_empty};
 ghost use Rattle.axp_bus.specs.Buses.{Agrees, MayAsk, front_of};
 ghost use Rattle.axp_bus.specs.Writes.{written_of};
@@ -69,7 +69,7 @@ fn succeeds(lane: &Lane, address: u64, armed: bool) -> bool
 fn tried_reply(memory: &Ram, turns: u64, write: &Write, succeeds: bool) -> Reply
     requires inside { line_number write.now.line * LINE_BYTES < length memory.now }
     requires turns { turns < 2 ^ 32 }
-    ensures { (m : ℕ → ℕ) (lane : Lane) → Agrees memory.now m → result ≡ tried succeeds (front_of m turns lane) (Some (written_of write.now)) write.now.line }
+    ensures { (m : ℕ → ℕ) (lane : Lane) → Agrees memory.now m → result ≡ conditional_reply succeeds (front_of m turns lane) (Some (written_of write.now)) write.now.line }
 {
     if succeeds {
         stored_reply(memory, turns, write)

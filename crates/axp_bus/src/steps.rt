@@ -3,7 +3,7 @@ ghost use Rattle.std.specs.Prelude.{◌≡◌, ◌+◌, ◌++◌, ◌^◌, ◌<�
 ghost use Rattle.std.specs.Vec.{vec_capacity};
 ghost use Rattle.axp_base.specs.Cpus.{cpu_number};
 ghost use Rattle.axp_memory.specs.Bytes.{AreLines};
-ghost use Rattle.axp_line.specs.BusCalls.{is_turn, overwritten, printed_by, wrote};
+ghost use Rattle.axp_line.specs.BusCalls.{is_turn, overwritten, printed_by, write_made};
 ghost use Rattle.axp_bus.specs.Buses.{Agrees, HaveRoom, MayAsk, NotedAll};
 
 use crate::lanes::Lane;
@@ -28,7 +28,7 @@ pub(crate) fn note_all(lanes: &mut [Lane], cpu: Cpu, request: &Request, reply: R
 pub(crate) fn write_down(memory: &mut Ram, request: &Request, reply: Reply)
     requires asks { (cpus : ℕ) × MayAsk (length memory.old) cpus request.now }
     requires whole { AreLines memory.old }
-    ensures bytes { (m : ℕ → ℕ) → Agrees memory.old m → Agrees memory.new (overwritten (wrote request.now reply) m) }
+    ensures bytes { (m : ℕ → ℕ) → Agrees memory.old m → Agrees memory.new (overwritten (write_made request.now reply) m) }
     ensures size { length memory.new ≡ length memory.old }
 {
     let Reply::Stored { .. } = reply else { return };

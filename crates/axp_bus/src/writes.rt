@@ -3,7 +3,7 @@ ghost use Rattle.std.specs.Prelude.{◌≡◌, ◌+◌, ◌*◌, ◌/◌, ◌%�
 ghost use Rattle.axp_base.specs.Lines.{line_number};
 ghost use Rattle.axp_base.specs.Masks.{span_of};
 ghost use Rattle.axp_base.specs.declared.lines.TheConstants.{LINE_BYTES};
-ghost use Rattle.axp_line.specs.BusCalls.{is_turn, line_written, wrote, stored_bytes};
+ghost use Rattle.axp_line.specs.BusCalls.{is_turn, line_written, write_made, stored_bytes};
 ghost use Rattle.axp_base.specs.Lines.{line_at};
 ghost use Rattle.axp_bus.specs.Writes.{written_of};
 
@@ -45,7 +45,7 @@ pub(crate) fn conditional_write(address: u64, size: u8, value: u64) -> Write
 
 /// The line that a call wrote, if it wrote one.
 pub(crate) fn line_written(request: &Request, reply: Reply) -> Option<Line>
-    ensures { result ≡ line_written (wrote request.now reply) }
+    ensures { result ≡ line_written (write_made request.now reply) }
 {
     let Reply::Stored { .. } = reply else {
         return None;

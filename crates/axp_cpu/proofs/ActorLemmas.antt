@@ -12,10 +12,10 @@ use Rattle.axp_image.specs.Contents.{Contents}
 use Rattle.axp_line.specs.declared.messages.Reply.{Reply}
 use Rattle.axp_line.specs.declared.messages.Reply.TheVariants as reply
 use Rattle.axp_lsu.specs.Asking.{ask_of}
-use Rattle.axp_lsu.specs.Fitting.{Fits2, FitsSize, IsWantedInSome, WantsFitting}
+use Rattle.axp_lsu.specs.Fitting.{ReplyFits, FitsSize, IsWantedInSome, WantsFitting}
 use Rattle.axp_lsu.specs.Going.{value_of}
 use Rattle.axp_lsu.specs.Going as going
-use Rattle.axp_lsu.specs.Keeping.{Kept, none_kept, with_copies}
+use Rattle.axp_lsu.specs.Keeping.{LocalMemory, empty_memory, with_copies}
 use Rattle.axp_lsu.specs.Within.{IsKeptWithin, IsWantedBy, IsWantedWithin}
 use Rattle.axp_lsu.specs.declared.asks.Ask2.{Ask2}
 use Rattle.axp_wbuf.specs.Pending.{Pending, merges}
@@ -27,11 +27,11 @@ use Rattle.axp_bank.specs.declared.copies.LineCopy.{LineCopy}
 use Rattle.axp_wbuf.specs.Drains.{oldest_group}
 use Rattle.axp_cpu.specs.declared.sequencers.Sequencer.{Sequencer}
 use Rattle.axp_cpu.specs.declared.processors.Processor.{Processor}
-use Rattle.axp_cpu.specs.Actors.{Actor, about, advanced, asked_by, first_actor, is_built, moved_by, request_of, seat_after, step_built}
+use Rattle.axp_cpu.specs.Actors.{Actor, actor_intent, advanced, asked_by, first_actor, is_built, moved_by, request_of, seat_after, step_built}
 use Rattle.axp_cpu.specs.ActorStands.{IsAnswered, IsAt, IsMovable, IsSeatedWith}
 use Rattle.axp_cpu.specs.Plans.{Plan, End, Want, Unbuilt, along}
 use Rattle.axp_cpu.specs.Rows.{group}
-use Rattle.axp_cpu.specs.Seats.{Seat, first_seat, is_finished, leads, plan_now, stepped, wanted, moved}
+use Rattle.axp_cpu.specs.Seats.{Seat, first_seat, is_finished, is_built_after, plan_now, seat_after_value, wanted, seat_at_plan}
 use Rattle.axp_cpu.specs.Seats as seats
 use Rattle.axp_cpu.specs.Stands.{GoesOn, Going, Stands, IsMakeable}
 use Rattle.axp_cpu.specs.Soundness.{IsSound, IsSoundAs}
@@ -99,21 +99,21 @@ pub is_going : (p : Processor) (o : Option Wanted) → IsSeatedWith p o → (w :
 is_going p o seated w is = record { seat = seated.actor.seat; stands = seated.at.seat; unfinished = unfinished seated.actor.seat w (sym seated.wants ∙ is) }
 
 -- a step is built exactly where the sequencer goes on with the value
-goes_some : (s : Seat) (v : ℕ) (o : Option Sequencer) → GoesOn s v o → is_some o ≡ leads s v
+goes_some : (s : Seat) (v : ℕ) (o : Option Sequencer) → GoesOn s v o → is_some o ≡ is_built_after s v
 goes_some s v None goes = sym goes
 goes_some s v (Some q) goes = sym goes.0
 
-pub leads_is : (p : Processor) (a : Actor) (w : Wanted) (v : ℕ) (o : Option Sequencer) → IsAt p a → v ≡ value_of w p.unit None → GoesOn a.seat v o → is_some o ≡ leads a.seat (value_of w a.kept None)
-leads_is p a w v o at is goes = goes_some a.seat v o goes ∙ ap (leads a.seat) (is ∙ ap (λ u. value_of w u None) at.kept)
+pub leads_is : (p : Processor) (a : Actor) (w : Wanted) (v : ℕ) (o : Option Sequencer) → IsAt p a → v ≡ value_of w p.unit None → GoesOn a.seat v o → is_some o ≡ is_built_after a.seat (value_of w a.kept None)
+leads_is p a w v o at is goes = goes_some a.seat v o goes ∙ ap (is_built_after a.seat) (is ∙ ap (λ u. value_of w u None) at.kept)
 
 -- where it does not go on, the step was not built
-pub never_stops : (p : Processor) (o : Option Wanted) (w : Wanted) (r : Option Reply) (v : ℕ) → IsMovable p act.Step o → o ≡ Some w → v ≡ value_of w p.unit r → ((s : Seat) → Stands p.sequencer s → leads s v ≡ false) → ⊥
+pub never_stops : (p : Processor) (o : Option Wanted) (w : Wanted) (r : Option Reply) (v : ℕ) → IsMovable p act.Step o → o ≡ Some w → v ≡ value_of w p.unit r → ((s : Seat) → Stands p.sequencer s → is_built_after s v ≡ false) → ⊥
 never_stops p o w r v can is value stops =
     let a : Actor = can.actor in
-    let wants : (about a).wanted ≡ Some w = sym can.wants ∙ is in
+    let wants : (actor_intent a).wanted ≡ Some w = sym can.wants ∙ is in
     let same : v ≡ value_of w a.kept r = value ∙ ap (λ u. value_of w u r) can.at.kept in
-    let built : leads a.seat (value_of w a.kept None) ≡ true = ap (λ x. step_built x a) (sym wants) ∙ can.built in
-    let never : false ≡ true = sym (stops a.seat can.at.seat) ∙ ap (leads a.seat) same ∙ leads_same a.seat w a.kept r wants ∙ built in cc
+    let built : is_built_after a.seat (value_of w a.kept None) ≡ true = ap (λ x. step_built x a) (sym wants) ∙ can.built in
+    let never : false ≡ true = sym (stops a.seat can.at.seat) ∙ ap (is_built_after a.seat) same ∙ leads_same a.seat w a.kept r wants ∙ built in cc
 
 -- what was asked for is legal and built
 asked_parts : (o : Option Ask2) (b : Bool) (q : Ask2) → asked_by o b ≡ Ok q → (o ≡ Some q) × (b ≡ true)
@@ -121,17 +121,17 @@ asked_parts None b q e = cc
 asked_parts (Some x) true q e = let same : x ≡ q = cc in (ap (λ y. Some y) same, refl)
 asked_parts (Some x) false q e = cc
 
-pub was_asked : (a : Actor) (e : Act) (q : Ask2) → request_of a e ≡ Ok q → (ask_of e (about a) a.kept ≡ Some q) × (is_built e a ≡ true)
+pub was_asked : (a : Actor) (e : Act) (q : Ask2) → request_of a e ≡ Ok q → (ask_of e (actor_intent a) a.kept ≡ Some q) × (is_built e a ≡ true)
 unfolding request_of
-was_asked a e q asked = asked_parts (ask_of e (about a) a.kept) (is_built e a) q asked
+was_asked a e q asked = asked_parts (ask_of e (actor_intent a) a.kept) (is_built e a) q asked
 
-pub fits_is : (p : Processor) (e : Act) (r : Option Reply) (i : Intent) → (x : IsAnswered p e r) → i ≡ about x.actor → Fits2 (ask_of e i p.unit) r
+pub fits_is : (p : Processor) (e : Act) (r : Option Reply) (i : Intent) → (x : IsAnswered p e r) → i ≡ actor_intent x.actor → ReplyFits (ask_of e i p.unit) r
 fits_is p e r i x is =
-    let asked : ask_of e i p.unit ≡ Some x.ask = ap (λ j. ask_of e j p.unit) is ∙ ap (ask_of e (about x.actor)) x.at.kept ∙ (was_asked x.actor e x.ask x.asked).0 in
-    subst (λ o. Fits2 o r) (sym asked) x.fits
+    let asked : ask_of e i p.unit ≡ Some x.ask = ap (λ j. ask_of e j p.unit) is ∙ ap (ask_of e (actor_intent x.actor)) x.at.kept ∙ (was_asked x.actor e x.ask x.asked).0 in
+    subst (λ o. ReplyFits o r) (sym asked) x.fits
 
 -- a processor at the start
-pub first_at : (image : Contents) (cpus budget : ℕ) (cpu : Cpu) (q : Sequencer) (u : Kept) → Stands q (first_seat image cpus budget (cpu_number cpu)) → u ≡ none_kept → budget ≤ MAX_BUDGET
+pub first_at : (image : Contents) (cpus budget : ℕ) (cpu : Cpu) (q : Sequencer) (u : LocalMemory) → Stands q (first_seat image cpus budget (cpu_number cpu)) → u ≡ empty_memory → budget ≤ MAX_BUDGET
     → IsAt (record { cpu = cpu; sequencer = q; unit = u }) (first_actor image cpus budget cpu)
 first_at image cpus budget cpu q u stands none few = record {
   cpu = refl;
@@ -144,12 +144,12 @@ first_at image cpus budget cpu q u stands none few = record {
 }
 
 -- a seat's memory and budget stay, and a step that makes an access is counted
-moved_parts : (s : Seat) (vs : List ℕ) (p : Plan) → ((moved s vs p).size ≡ s.size) × ((moved s vs p).budget ≡ s.budget) × ((moved s vs p).steps ≡ s.steps + 1)
+moved_parts : (s : Seat) (vs : List ℕ) (p : Plan) → ((seat_at_plan s vs p).size ≡ s.size) × ((seat_at_plan s vs p).budget ≡ s.budget) × ((seat_at_plan s vs p).steps ≡ s.steps + 1)
 moved_parts s vs (End t) = (refl, refl, refl)
 moved_parts s vs (Want w k) = (refl, refl, refl)
 moved_parts s vs Unbuilt = (refl, refl, refl)
 
-stepped_parts : (s : Seat) (v : ℕ) → ((stepped s v).size ≡ s.size) × ((stepped s v).budget ≡ s.budget) × ((stepped s v).steps ≡ s.steps + 1)
+stepped_parts : (s : Seat) (v : ℕ) → ((seat_after_value s v).size ≡ s.size) × ((seat_after_value s v).budget ≡ s.budget) × ((seat_after_value s v).steps ≡ s.steps + 1)
 stepped_parts s v = moved_parts s (s.values ++ v ∷ []) (along (s.values ++ v ∷ []) (group s.size s.start))
 
 moved_by_size : (o : Option Wanted) (r : Option Reply) (a : Actor) → ((moved_by o r a).size ≡ a.seat.size) × ((moved_by o r a).budget ≡ a.seat.budget)
@@ -157,7 +157,7 @@ moved_by_size None r a = (refl, refl)
 moved_by_size (Some w) r a = let parts = stepped_parts a.seat (value_of w a.kept r) in (parts.0, parts.1)
 
 seat_size : (e : Act) (r : Option Reply) (a : Actor) → ((seat_after e r a).size ≡ a.seat.size) × ((seat_after e r a).budget ≡ a.seat.budget)
-seat_size act.Step r a = moved_by_size (about a).wanted r a
+seat_size act.Step r a = moved_by_size (actor_intent a).wanted r a
 seat_size _ r a = (refl, refl)
 
 moved_by_steps : (o : Option Wanted) (r : Option Reply) (a : Actor) → wanted a.seat ≡ o → a.seat.steps ≤ a.seat.budget → (moved_by o r a).steps ≤ a.seat.budget
@@ -172,59 +172,59 @@ moved_by_steps (Some w) r a is few =
 pub seat_steps : (e : Act) (r : Option Reply) (a : Actor) → a.seat.steps ≤ a.seat.budget → (seat_after e r a).steps ≤ (seat_after e r a).budget
 seat_steps e r a few = rw (seat_size e r a).1 (by_act e) where
   by_act : (e : Act) → (seat_after e r a).steps ≤ a.seat.budget
-  by_act act.Step = moved_by_steps (about a).wanted r a refl few
+  by_act act.Step = moved_by_steps (actor_intent a).wanted r a refl few
   by_act _ = few
 
 -- entries are made by steps alone, one at most by each
-copies_buffer : (b : Bank) (cs : List LineCopy) (u : Kept) → (with_copies b cs u).buffer ≡ u.buffer
+copies_buffer : (b : Bank) (cs : List LineCopy) (u : LocalMemory) → (with_copies b cs u).buffer ≡ u.buffer
 copies_buffer Even cs u = refl
 copies_buffer Odd cs u = refl
 copies_buffer Code cs u = refl
 
-brought_buffer : (b : Bank) (line : Line) (r : Option Reply) (u : Kept) → (going.brought b line r u).buffer ≡ u.buffer
+brought_buffer : (b : Bank) (line : Line) (r : Option Reply) (u : LocalMemory) → (going.after_line b line r u).buffer ≡ u.buffer
 brought_buffer b line (Some (reply.Line turn d)) u = copies_buffer b _ u
 brought_buffer b line _ u = refl
 
-rewritten_buffer : (line : Line) (r : Option Reply) (u : Kept) → (going.rewritten line r u).buffer ≡ u.buffer
+rewritten_buffer : (line : Line) (r : Option Reply) (u : LocalMemory) → (going.after_stored line r u).buffer ≡ u.buffer
 rewritten_buffer line (Some (reply.Stored turn d)) u = copies_buffer _ _ u
 rewritten_buffer line _ u = refl
 
-fenced_buffer : (r : Option Reply) (u : Kept) → (going.fenced r u).buffer ≡ u.buffer
+fenced_buffer : (r : Option Reply) (u : LocalMemory) → (going.after_barrier r u).buffer ≡ u.buffer
 fenced_buffer (Some (reply.Barrier turn gone)) u = refl
 fenced_buffer _ u = refl
 
-delivered_buffer : (r : Option Reply) (u : Kept) → (going.delivered r u).buffer ≡ u.buffer
+delivered_buffer : (r : Option Reply) (u : LocalMemory) → (going.after_late r u).buffer ≡ u.buffer
 delivered_buffer (Some (reply.Late line turn)) u = copies_buffer _ _ u
 delivered_buffer _ u = refl
 
-same_made : (u v : Kept) → v.buffer ≡ u.buffer → v.buffer.made ≤ u.buffer.made + 1
+same_made : (u v : LocalMemory) → v.buffer ≡ u.buffer → v.buffer.made ≤ u.buffer.made + 1
 same_made u v e = rw e (omega arith)
 
-accessed_made : (k : Kind) (w : Wanted) (r : Option Reply) (u : Kept) → (going.accessed k w r u).buffer.made ≤ u.buffer.made + 1
+accessed_made : (k : Kind) (w : Wanted) (r : Option Reply) (u : LocalMemory) → (going.after_access k w r u).buffer.made ≤ u.buffer.made + 1
 accessed_made kind.Write w r u = cond_both (merges (w.address / LINE_BYTES) u.buffer) u.buffer.made (u.buffer.made + 1) (λ n. n ≤ u.buffer.made + 1) (λ _. omega arith) (λ _. omega arith)
 accessed_made kind.WriteBarrier w r u = omega arith
-accessed_made kind.Locked w r u = same_made u (going.accessed kind.Locked w r u) (brought_buffer _ _ r u)
-accessed_made kind.Conditional w r u = same_made u (going.accessed kind.Conditional w r u) (rewritten_buffer _ r u)
-accessed_made kind.Barrier w r u = same_made u (going.accessed kind.Barrier w r u) (fenced_buffer r u)
-accessed_made kind.CodeBarrier w r u = same_made u (going.accessed kind.CodeBarrier w r u) (fenced_buffer r u)
+accessed_made kind.Locked w r u = same_made u (going.after_access kind.Locked w r u) (brought_buffer _ _ r u)
+accessed_made kind.Conditional w r u = same_made u (going.after_access kind.Conditional w r u) (rewritten_buffer _ r u)
+accessed_made kind.Barrier w r u = same_made u (going.after_access kind.Barrier w r u) (fenced_buffer r u)
+accessed_made kind.CodeBarrier w r u = same_made u (going.after_access kind.CodeBarrier w r u) (fenced_buffer r u)
 accessed_made _ w r u = omega arith
 
-stepped_made : (o : Option Wanted) (r : Option Reply) (a : Actor) → a.kept.buffer.made ≤ a.seat.steps → (going.stepped o r a.kept).buffer.made ≤ (moved_by o r a).steps
+stepped_made : (o : Option Wanted) (r : Option Reply) (a : Actor) → a.kept.buffer.made ≤ a.seat.steps → (going.after_step o r a.kept).buffer.made ≤ (moved_by o r a).steps
 stepped_made None r a made = made
 stepped_made (Some w) r a made = let parts = stepped_parts a.seat (value_of w a.kept r) in omega (arith, parts.2, accessed_made w.kind w r a.kept, made)
 
-filled_made : (o : Option Wanted) (r : Option Reply) (u : Kept) → (going.filled o r u).buffer ≡ u.buffer
+filled_made : (o : Option Wanted) (r : Option Reply) (u : LocalMemory) → (going.after_fill o r u).buffer ≡ u.buffer
 filled_made None r u = refl
 filled_made (Some w) r u = brought_buffer _ _ r u
 
-drained_made : (k : ℕ) (o : Option Pending) (r : Option Reply) (u : Kept) → (going.drained k o r u).buffer.made ≡ u.buffer.made
+drained_made : (k : ℕ) (o : Option Pending) (r : Option Reply) (u : LocalMemory) → (going.after_drain k o r u).buffer.made ≡ u.buffer.made
 drained_made k None r u = refl
 drained_made k (Some e) r u = ap (λ b. b.made) (rewritten_buffer _ r _)
 
-pub made_after : (e : Act) (r : Option Reply) (a : Actor) → a.kept.buffer.made ≤ a.seat.steps → (going.advanced e (about a) r a.kept).buffer.made ≤ (seat_after e r a).steps
+pub made_after : (e : Act) (r : Option Reply) (a : Actor) → a.kept.buffer.made ≤ a.seat.steps → (going.advanced e (actor_intent a) r a.kept).buffer.made ≤ (seat_after e r a).steps
 unfolding going.advanced
-made_after act.Step r a made = stepped_made (about a).wanted r a made
-made_after act.Fill r a made = rw (filled_made (about a).wanted r a.kept) made
+made_after act.Step r a made = stepped_made (actor_intent a).wanted r a made
+made_after act.Fill r a made = rw (filled_made (actor_intent a).wanted r a.kept) made
 made_after (act.Drain k) r a made = rw (drained_made k (slice_get (oldest_group a.kept.buffer.kept) k) r a.kept) made
 made_after (act.Take b) r a made = rw (delivered_buffer r a.kept) made
 made_after (act.Drop b line) r a made = rw (copies_buffer b _ a.kept) made
@@ -232,15 +232,15 @@ made_after act.Poll r a made = made
 made_after act.Tick r a made = made
 
 -- the processor after an act is the one that the definitions have
-pub at_after : (p q : Processor) (e : Act) (r : Option Reply) (i : Intent) (a : Actor) → IsAt p a → i ≡ about a → q.cpu ≡ p.cpu → Stands q.sequencer (seat_after e r a) → q.unit ≡ going.advanced e i r p.unit → IsKeptWithin a.seat.size q.unit → IsAt q (advanced a e r)
+pub at_after : (p q : Processor) (e : Act) (r : Option Reply) (i : Intent) (a : Actor) → IsAt p a → i ≡ actor_intent a → q.cpu ≡ p.cpu → Stands q.sequencer (seat_after e r a) → q.unit ≡ going.advanced e i r p.unit → IsKeptWithin a.seat.size q.unit → IsAt q (advanced a e r)
 unfolding advanced
 at_after p q e r i a at is cpu stands unit within =
-    let same : q.unit ≡ going.advanced e (about a) r a.kept = unit ∙ ap (λ j. going.advanced e j r p.unit) is ∙ ap (going.advanced e (about a) r) at.kept in
+    let same : q.unit ≡ going.advanced e (actor_intent a) r a.kept = unit ∙ ap (λ j. going.advanced e j r p.unit) is ∙ ap (going.advanced e (actor_intent a) r) at.kept in
     record {
       cpu = cpu ∙ at.cpu;
       seat = stands;
       kept = same;
-      within = subst (λ n. IsKeptWithin n (going.advanced e (about a) r a.kept)) (sym (seat_size e r a).0) (subst (IsKeptWithin a.seat.size) same within);
+      within = subst (λ n. IsKeptWithin n (going.advanced e (actor_intent a) r a.kept)) (sym (seat_size e r a).0) (subst (IsKeptWithin a.seat.size) same within);
       made = made_after e r a at.made;
       steps = seat_steps e r a at.steps;
       budget = rw (seat_size e r a).1 at.budget;

@@ -31,11 +31,11 @@ use Rattle.axp_regs.specs.declared.asks.Kind.{Kind}
 use Rattle.axp_regs.specs.declared.asks.Kind.TheVariants.{Fetch, Read, Write, Locked, Conditional, Barrier, WriteBarrier, CodeBarrier}
 use Rattle.axp_regs.specs.declared.states.TheConstants.{ZERO_REGISTER}
 use Rattle.axp_cpu.specs.declared.tables.Table.{Table}
-use Rattle.axp_cpu.specs.Addresses.{in_kseg, physical, reached, aligned, is_canonical, first_entry, looked_up}
+use Rattle.axp_cpu.specs.Addresses.{in_kseg, physical, memory_plan, aligned_plan, is_canonical, first_entry, look_up_plan}
 use Rattle.axp_cpu.specs.Plans.{Plan, End, Want, Unbuilt, given, along}
-use Rattle.axp_cpu.specs.Rows.{group, fetched, fenced, row, memory_row, branch_row, branch_goal, operate_row, misc_row, pal_row, ended, wrote, load_locked, loaded, store_conditional, stored, as_read, as_longword, address_of, quadword_at, operand}
+use Rattle.axp_cpu.specs.Rows.{group, plan_of_word, barrier_plan, row, memory_row, branch_row, branch_goal, operate_row, misc_row, pal_row, next_plan, register_plan, load_locked_plan, load_plan, store_conditional_plan, store_plan, as_read, as_longword, address_of, quadword_at, operand}
 use Rattle.axp_cpu.specs.Soundness.{IsSound, IsSoundAs}
-use Rattle.axp_cpu.specs.Tables.{counted, flagged, next_pc}
+use Rattle.axp_cpu.specs.Tables.{with_fetch_counted, with_lock_flag, next_pc}
 
 -- the end of an aligned part of whole pages lies in them
 part_within : (n a size : ℕ) → IsSize n → a % n ≡ 0 → a < size → size % PAGE_BYTES ≡ 0 → a + n ≤ size
@@ -111,7 +111,7 @@ both-true : (a b : Bool) → a && b ≡ true → b ≡ true
 both-true true b h = h
 both-true false b h = cc
 
-reached_sound : (size : ℕ) (kind : Kind) (a n v : ℕ) (k : ℕ → Plan) → size % PAGE_BYTES ≡ 0 → Asks kind n → a % n ≡ 0 → ((x : ℕ) → IsSound size (k x)) → IsSound size (reached size kind a n v k)
+reached_sound : (size : ℕ) (kind : Kind) (a n v : ℕ) (k : ℕ → Plan) → size % PAGE_BYTES ≡ 0 → Asks kind n → a % n ≡ 0 → ((x : ℕ) → IsSound size (k x)) → IsSound size (memory_plan size kind a n v k)
 reached_sound size kind a n v k pages asks h follows =
     let one = asks.sized in
     let w : Wanted = record { kind = kind; address = physical a; size = n; value = v } in
@@ -128,9 +128,9 @@ either : (tested : Bool) (size : ℕ) (p q : Plan) → (tested ≡ true → IsSo
 either true size p q left right = left refl
 either false size p q left right = right refl
 
-aligned_sound : (size : ℕ) (kind : Kind) (a n v : ℕ) (k : ℕ → Plan) → size % PAGE_BYTES ≡ 0 → Asks kind n → ((x : ℕ) → IsSound size (k x)) → IsSound size (aligned size kind a n v k)
+aligned_sound : (size : ℕ) (kind : Kind) (a n v : ℕ) (k : ℕ → Plan) → size % PAGE_BYTES ≡ 0 → Asks kind n → ((x : ℕ) → IsSound size (k x)) → IsSound size (aligned_plan size kind a n v k)
 aligned_sound size kind a n v k pages asks follows =
-    either (eqb (a % n) 0) size (reached size kind a n v k) Unbuilt (λ passed. reached_sound size kind a n v k pages asks (eqb-true (a % n) 0 passed) follows) (λ _. tt)
+    either (eqb (a % n) 0) size (memory_plan size kind a n v k) Unbuilt (λ passed. reached_sound size kind a n v k pages asks (eqb-true (a % n) 0 passed) follows) (λ _. tt)
 
 -- the program counter stays a multiple of an instruction's size
 abbrev IsAligned : Table → Type 0
@@ -150,21 +150,21 @@ goal_aligned : (t : Table) (op : BranchOp) (a disp : ℕ) → IsAligned t → br
 goal_aligned t op a disp h =
     goal_by (is_taken op (register t.state a)) (target_of (next_pc t) disp) (next_pc t) (target_aligned (next_pc t) disp (next_aligned t h)) (next_aligned t h)
 
-loaded_sound : (size : ℕ) (t : Table) (what : Size) (a address : ℕ) (k : ℕ → Plan) → ((v : ℕ) → IsSound size (k v)) → size % PAGE_BYTES ≡ 0 → IsAligned t → IsSound size (loaded size t what a address k)
+loaded_sound : (size : ℕ) (t : Table) (what : Size) (a address : ℕ) (k : ℕ → Plan) → ((v : ℕ) → IsSound size (k v)) → size % PAGE_BYTES ≡ 0 → IsAligned t → IsSound size (load_plan size t what a address k)
 loaded_sound size t what a address k follows pages h =
-    either (eqb a ZERO_REGISTER) size (ended t) _ (λ _. next_aligned t h)
+    either (eqb a ZERO_REGISTER) size (next_plan t) _ (λ _. next_aligned t h)
     (λ _. aligned_sound size Read address (bytes_of what) 0 k pages (asks_read what) follows)
 
-stored_sound : (size : ℕ) (t : Table) (what : Size) (a address : ℕ) → size % PAGE_BYTES ≡ 0 → IsAligned t → IsSound size (stored size t what a address)
+stored_sound : (size : ℕ) (t : Table) (what : Size) (a address : ℕ) → size % PAGE_BYTES ≡ 0 → IsAligned t → IsSound size (store_plan size t what a address)
 stored_sound size t what a address pages h =
-    aligned_sound size Write address (bytes_of what) (low_datum what (register t.state a)) (λ _. ended t) pages (asks_write what) (λ v. next_aligned t h)
+    aligned_sound size Write address (bytes_of what) (low_datum what (register t.state a)) (λ _. next_plan t) pages (asks_write what) (λ v. next_aligned t h)
 
-load_locked_sound : (size : ℕ) (what : Size) (address : ℕ) (k : ℕ → Plan) → ((v : ℕ) → IsSound size (k v)) → size % PAGE_BYTES ≡ 0 → IsSound size (load_locked size what address k)
+load_locked_sound : (size : ℕ) (what : Size) (address : ℕ) (k : ℕ → Plan) → ((v : ℕ) → IsSound size (k v)) → size % PAGE_BYTES ≡ 0 → IsSound size (load_locked_plan size what address k)
 load_locked_sound size what address k follows pages = aligned_sound size Locked address (bytes_of what) 0 k pages (asks_locked what) follows
 
-store_conditional_sound : (size : ℕ) (t : Table) (what : Size) (a address : ℕ) → (bytes_of what ≡ 4) ⊎ (bytes_of what ≡ 8) → size % PAGE_BYTES ≡ 0 → IsAligned t → IsSound size (store_conditional size t what a address)
+store_conditional_sound : (size : ℕ) (t : Table) (what : Size) (a address : ℕ) → (bytes_of what ≡ 4) ⊎ (bytes_of what ≡ 8) → size % PAGE_BYTES ≡ 0 → IsAligned t → IsSound size (store_conditional_plan size t what a address)
 store_conditional_sound size t what a address long pages h =
-    aligned_sound size Conditional address (bytes_of what) (low_datum what (register t.state a)) (as_read (flagged t false) a) pages (asks_conditional what long) (λ v. next_aligned t h)
+    aligned_sound size Conditional address (bytes_of what) (low_datum what (register t.state a)) (as_read (with_lock_flag t false) a) pages (asks_conditional what long) (λ v. next_aligned t h)
 
 memory_sound : (size : ℕ) (t : Table) (op : MemOp) (a base disp : ℕ) → size % PAGE_BYTES ≡ 0 → IsAligned t → IsSound size (memory_row size t op a base disp)
 memory_sound size t memory.LDA a base disp pages h = next_aligned t h
@@ -174,8 +174,8 @@ memory_sound size t memory.LDWU a base disp pages h = loaded_sound size t Word a
 memory_sound size t memory.LDL a base disp pages h = loaded_sound size t Long a (address_of base disp) (as_longword t a) (λ v. next_aligned t h) pages h
 memory_sound size t memory.LDQ a base disp pages h = loaded_sound size t Quad a (address_of base disp) (as_read t a) (λ v. next_aligned t h) pages h
 memory_sound size t memory.LDQ_U a base disp pages h = loaded_sound size t Quad a (quadword_at (address_of base disp)) (as_read t a) (λ v. next_aligned t h) pages h
-memory_sound size t memory.LDL_L a base disp pages h = load_locked_sound size Long (address_of base disp) (as_longword (flagged t true) a) (λ v. next_aligned t h) pages
-memory_sound size t memory.LDQ_L a base disp pages h = load_locked_sound size Quad (address_of base disp) (as_read (flagged t true) a) (λ v. next_aligned t h) pages
+memory_sound size t memory.LDL_L a base disp pages h = load_locked_sound size Long (address_of base disp) (as_longword (with_lock_flag t true) a) (λ v. next_aligned t h) pages
+memory_sound size t memory.LDQ_L a base disp pages h = load_locked_sound size Quad (address_of base disp) (as_read (with_lock_flag t true) a) (λ v. next_aligned t h) pages
 memory_sound size t memory.STB a base disp pages h = stored_sound size t Byte a (address_of base disp) pages h
 memory_sound size t memory.STW a base disp pages h = stored_sound size t Word a (address_of base disp) pages h
 memory_sound size t memory.STL a base disp pages h = stored_sound size t Long a (address_of base disp) pages h
@@ -198,10 +198,10 @@ branch_sound size t branch.BGT a disp h = goal_aligned t branch.BGT a disp h
 
 operate_sound : (size : ℕ) (t : Table) (op : Op) (a b c : ℕ) → IsAligned t → IsSound size (operate_row t op a b c)
 operate_sound size t op a b c h =
-    either (eqb (operate_opcode op) BYTE_OPCODE) size (wrote t c (bytes.value_of op a b)) _ (λ _. next_aligned t h)
-    (λ _. either (integer.overflow_of op a b) size Unbuilt (wrote t c (integer.value_of op a b (register t.state c))) (λ _. tt) (λ _. next_aligned t h))
+    either (eqb (operate_opcode op) BYTE_OPCODE) size (register_plan t c (bytes.value_of op a b)) _ (λ _. next_aligned t h)
+    (λ _. either (integer.overflow_of op a b) size Unbuilt (register_plan t c (integer.value_of op a b (register t.state c))) (λ _. tt) (λ _. next_aligned t h))
 
-fenced_sound : (size : ℕ) (t : Table) (kind : Kind) → IsSoundAs size kind (record { kind = kind; address = 0; size = 0; value = 0 }) → IsAligned t → IsSound size (fenced t kind)
+fenced_sound : (size : ℕ) (t : Table) (kind : Kind) → IsSoundAs size kind (record { kind = kind; address = 0; size = 0; value = 0 }) → IsAligned t → IsSound size (barrier_plan t kind)
 fenced_sound size t kind sound h = (sound, λ v. next_aligned t h)
 
 misc_sound : (size : ℕ) (t : Table) (op : MiscOp) (a : ℕ) → IsAligned t → IsSound size (misc_row t op a)
@@ -232,7 +232,7 @@ row_sound size t (instr.Floating word) pages h = tt
 row_sound size t (instr.Reserved word) pages h = tt
 
 -- the entry by which a page is looked up lies in memory
-looked_up_sound : (size table a : ℕ) → size % PAGE_BYTES ≡ 0 → IsSound size (looked_up size table a)
+looked_up_sound : (size table a : ℕ) → size % PAGE_BYTES ≡ 0 → IsSound size (look_up_plan size table a)
 looked_up_sound size table a pages =
     let w : Wanted = record { kind = Read; address = first_entry table a; size = 8; value = 0 } in
     reached_by (is_canonical a && ltb (first_entry table a) size) size w (λ v. Unbuilt)
@@ -251,8 +251,8 @@ looked_up_sound size table a pages =
 pub group_sound : (size : ℕ) (t : Table) → size % PAGE_BYTES ≡ 0 → IsAligned t → IsSound size (group size t)
 unfolding group
 group_sound size t pages h =
-    either (in_kseg (pc_of t.state)) size (reached size Fetch (pc_of t.state) INSTRUCTION_BYTES 0 (fetched size t)) (looked_up size (ptbr_of t.state) (pc_of t.state))
-    (λ _. reached_sound size Fetch (pc_of t.state) INSTRUCTION_BYTES 0 (fetched size t) pages asks_fetch h (λ v. row_sound size (counted t) (instr_of (v % 2 ^ 32)) pages h))
+    either (in_kseg (pc_of t.state)) size (memory_plan size Fetch (pc_of t.state) INSTRUCTION_BYTES 0 (plan_of_word size t)) (look_up_plan size (ptbr_of t.state) (pc_of t.state))
+    (λ _. reached_sound size Fetch (pc_of t.state) INSTRUCTION_BYTES 0 (plan_of_word size t) pages asks_fetch h (λ v. row_sound size (with_fetch_counted t) (instr_of (v % 2 ^ 32)) pages h))
     (λ _. looked_up_sound size (ptbr_of t.state) (pc_of t.state) pages)
 
 given_sound : (size v : ℕ) (p : Plan) → IsSound size p → IsSound size (given v p)

@@ -22,24 +22,24 @@ use Rattle.axp_regs.specs.declared.asks.Kind.{Kind}
 use Rattle.axp_regs.specs.declared.asks.Kind.TheVariants.{Fetch, Read, Write, Locked, Conditional}
 use Rattle.axp_regs.specs.declared.states.TheConstants.{ZERO_REGISTER}
 use Rattle.axp_cpu.specs.declared.tables.Table.{Table}
-use Rattle.axp_cpu.specs.Addresses.{aligned, first_entry, in_kseg, is_canonical, looked_up, reached}
+use Rattle.axp_cpu.specs.Addresses.{aligned_plan, first_entry, in_kseg, is_canonical, look_up_plan, memory_plan}
 use Rattle.axp_cpu.specs.Plans.{Plan, Want, Unbuilt, given, is_built}
-use Rattle.axp_cpu.specs.Tables.{flagged}
+use Rattle.axp_cpu.specs.Tables.{with_lock_flag}
 use Rattle.axp_cpu.specs.Refusals.{is_reached, is_accessible, load_refused, store_refused, memory_refused, pal_refused, is_refused, is_begun}
-use Rattle.axp_cpu.specs.Rows.{group, fetched, row, memory_row, branch_row, operate_row, misc_row, pal_row, ended, wrote, load_locked, loaded, store_conditional, stored, as_read, as_longword, address_of, quadword_at, operand}
+use Rattle.axp_cpu.specs.Rows.{group, plan_of_word, row, memory_row, branch_row, operate_row, misc_row, pal_row, next_plan, register_plan, load_locked_plan, load_plan, store_conditional_plan, store_plan, as_read, as_longword, address_of, quadword_at, operand}
 
 wants_if : (tested : Bool) (w : Wanted) (k : ℕ → Plan) → is_built (cond tested (Want w k) Unbuilt) ≡ tested
 wants_if true w k = refl
 wants_if false w k = refl
 
-reached_built : (size : ℕ) (kind : Kind) (a n v : ℕ) (k : ℕ → Plan) → is_built (reached size kind a n v k) ≡ is_reached size a
+reached_built : (size : ℕ) (kind : Kind) (a n v : ℕ) (k : ℕ → Plan) → is_built (memory_plan size kind a n v k) ≡ is_reached size a
 reached_built size kind a n v k = wants_if (is_reached size a) _ k
 
 aligned_if : (tested : Bool) (p : Plan) (r : Bool) → is_built p ≡ r → is_built (cond tested p Unbuilt) ≡ tested && r
 aligned_if true p r is = is
 aligned_if false p r is = refl
 
-aligned_built : (size : ℕ) (kind : Kind) (what : Size) (a v : ℕ) (k : ℕ → Plan) → is_built (aligned size kind a (bytes_of what) v k) ≡ is_accessible size what a
+aligned_built : (size : ℕ) (kind : Kind) (what : Size) (a v : ℕ) (k : ℕ → Plan) → is_built (aligned_plan size kind a (bytes_of what) v k) ≡ is_accessible size what a
 aligned_built size kind what a v k = aligned_if (eqb (a % bytes_of what) 0) _ (is_reached size a) (reached_built size kind a (bytes_of what) v k)
 
 twice : (b : Bool) → b ≡ not (not b)
@@ -50,19 +50,19 @@ loaded_if : (lost : Bool) (p q : Plan) (r : Bool) → is_built p ≡ true → is
 loaded_if true p q r ends is = ends
 loaded_if false p q r ends is = is ∙ twice r
 
-loaded_built : (size : ℕ) (t : Table) (what : Size) (a address : ℕ) (k : ℕ → Plan) → is_built (loaded size t what a address k) ≡ not (load_refused size what a address)
+loaded_built : (size : ℕ) (t : Table) (what : Size) (a address : ℕ) (k : ℕ → Plan) → is_built (load_plan size t what a address k) ≡ not (load_refused size what a address)
 loaded_built size t what a address k =
-    loaded_if (eqb a ZERO_REGISTER) (ended t) _ (is_accessible size what address) refl (aligned_built size Read what address 0 k)
+    loaded_if (eqb a ZERO_REGISTER) (next_plan t) _ (is_accessible size what address) refl (aligned_built size Read what address 0 k)
 
-stored_built : (size : ℕ) (t : Table) (what : Size) (a address : ℕ) → is_built (stored size t what a address) ≡ not (store_refused size what address)
-stored_built size t what a address = aligned_built size Write what address (low_datum what (register t.state a)) (λ _. ended t) ∙ twice (is_accessible size what address)
+stored_built : (size : ℕ) (t : Table) (what : Size) (a address : ℕ) → is_built (store_plan size t what a address) ≡ not (store_refused size what address)
+stored_built size t what a address = aligned_built size Write what address (low_datum what (register t.state a)) (λ _. next_plan t) ∙ twice (is_accessible size what address)
 
-load_locked_built : (size : ℕ) (what : Size) (address : ℕ) (k : ℕ → Plan) → is_built (load_locked size what address k) ≡ not (store_refused size what address)
+load_locked_built : (size : ℕ) (what : Size) (address : ℕ) (k : ℕ → Plan) → is_built (load_locked_plan size what address k) ≡ not (store_refused size what address)
 load_locked_built size what address k = aligned_built size Locked what address 0 k ∙ twice (is_accessible size what address)
 
-store_conditional_built : (size : ℕ) (t : Table) (what : Size) (a address : ℕ) → is_built (store_conditional size t what a address) ≡ not (store_refused size what address)
+store_conditional_built : (size : ℕ) (t : Table) (what : Size) (a address : ℕ) → is_built (store_conditional_plan size t what a address) ≡ not (store_refused size what address)
 store_conditional_built size t what a address =
-    aligned_built size Conditional what address (low_datum what (register t.state a)) (as_read (flagged t false) a) ∙ twice (is_accessible size what address)
+    aligned_built size Conditional what address (low_datum what (register t.state a)) (as_read (with_lock_flag t false) a) ∙ twice (is_accessible size what address)
 
 memory_built : (size : ℕ) (t : Table) (op : MemOp) (a base disp : ℕ) → is_built (memory_row size t op a base disp) ≡ not (memory_refused size op a (address_of base disp))
 memory_built size t memory.LDA a base disp = refl
@@ -72,8 +72,8 @@ memory_built size t memory.LDWU a base disp = loaded_built size t Word a (addres
 memory_built size t memory.LDL a base disp = loaded_built size t Long a (address_of base disp) (as_longword t a)
 memory_built size t memory.LDQ a base disp = loaded_built size t Quad a (address_of base disp) (as_read t a)
 memory_built size t memory.LDQ_U a base disp = loaded_built size t Quad a (quadword_at (address_of base disp)) (as_read t a)
-memory_built size t memory.LDL_L a base disp = load_locked_built size Long (address_of base disp) (as_longword (flagged t true) a)
-memory_built size t memory.LDQ_L a base disp = load_locked_built size Quad (address_of base disp) (as_read (flagged t true) a)
+memory_built size t memory.LDL_L a base disp = load_locked_built size Long (address_of base disp) (as_longword (with_lock_flag t true) a)
+memory_built size t memory.LDQ_L a base disp = load_locked_built size Quad (address_of base disp) (as_read (with_lock_flag t true) a)
 memory_built size t memory.STB a base disp = stored_built size t Byte a (address_of base disp)
 memory_built size t memory.STW a base disp = stored_built size t Word a (address_of base disp)
 memory_built size t memory.STL a base disp = stored_built size t Long a (address_of base disp)
@@ -103,7 +103,7 @@ operate_if false false p q left right never = right
 
 operate_built : (t : Table) (op : Op) (a b c : ℕ) → is_built (operate_row t op a b c) ≡ not (integer.overflow_of op a b)
 operate_built t op a b c =
-    operate_if (eqb (operate_opcode op) BYTE_OPCODE) (integer.overflow_of op a b) (wrote t c (bytes.value_of op a b)) (wrote t c (integer.value_of op a b (register t.state c))) refl refl (never_overflows op a b)
+    operate_if (eqb (operate_opcode op) BYTE_OPCODE) (integer.overflow_of op a b) (register_plan t c (bytes.value_of op a b)) (register_plan t c (integer.value_of op a b (register t.state c))) refl refl (never_overflows op a b)
 
 pub row_built : (size : ℕ) (t : Table) (i : Instr) → is_built (row size t i) ≡ not (is_refused size t i)
 unfolding row
@@ -116,10 +116,10 @@ row_built size t (instr.Pal op) = pal_built t op
 row_built size t (instr.Floating word) = refl
 row_built size t (instr.Reserved word) = refl
 
-looked_up_built : (size table a : ℕ) → is_built (looked_up size table a) ≡ (is_canonical a && ltb (first_entry table a) size)
+looked_up_built : (size table a : ℕ) → is_built (look_up_plan size table a) ≡ (is_canonical a && ltb (first_entry table a) size)
 looked_up_built size table a = wants_if (is_canonical a && ltb (first_entry table a) size) (record { kind = Read; address = first_entry table a; size = 8; value = 0 }) (λ v. Unbuilt)
 
-pub looked_up_leads : (size v table a : ℕ) → is_built (given v (looked_up size table a)) ≡ false
+pub looked_up_leads : (size v table a : ℕ) → is_built (given v (look_up_plan size table a)) ≡ false
 looked_up_leads size v table a = leads_if (is_canonical a && ltb (first_entry table a) size) where
   leads_if : (tested : Bool) → is_built (given v (cond tested (Want (record { kind = Read; address = first_entry table a; size = 8; value = 0 }) (λ x. Unbuilt)) Unbuilt)) ≡ false
   leads_if true = refl
@@ -128,7 +128,7 @@ looked_up_leads size v table a = leads_if (is_canonical a && ltb (first_entry ta
 pub group_built : (size : ℕ) (t : Table) → is_built (group size t) ≡ is_begun size t
 unfolding group
 group_built size t =
-    both (in_kseg (pc_of t.state)) _ _ _ _ (reached_built size Fetch (pc_of t.state) INSTRUCTION_BYTES 0 (fetched size t)) (looked_up_built size (ptbr_of t.state) (pc_of t.state)) where
+    both (in_kseg (pc_of t.state)) _ _ _ _ (reached_built size Fetch (pc_of t.state) INSTRUCTION_BYTES 0 (plan_of_word size t)) (looked_up_built size (ptbr_of t.state) (pc_of t.state)) where
       both : (tested : Bool) (p q : Plan) (a b : Bool) → is_built p ≡ a → is_built q ≡ b → is_built (cond tested p q) ≡ cond tested a b
       both true p q a b left right = left
       both false p q a b left right = right

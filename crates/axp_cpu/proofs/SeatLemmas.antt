@@ -10,7 +10,7 @@ use Rattle.axp_cpu.specs.declared.tables.Table.{Table}
 use Rattle.axp_cpu.specs.Phases.{Fits, PhaseFits, after, plan_of}
 use Rattle.axp_cpu.specs.Plans.{Plan, End, Want, given, along, is_built}
 use Rattle.axp_cpu.specs.Rows.{group}
-use Rattle.axp_cpu.specs.Seats.{Seat, intent_of, is_finished, wanted, first_seat, first_table, leads_by, moved, plan_now, stepped}
+use Rattle.axp_cpu.specs.Seats.{Seat, intent_of, is_finished, wanted, first_seat, first_table, plan_is_built_after, seat_at_plan, plan_now, seat_after_value}
 use Rattle.axp_cpu.specs.Soundness.{IsSound}
 use Rattle.axp_cpu.specs.Stands.{GoesOn, IsMakeable, Stands, plan_left}
 use Rattle.axp_cpu.specs.Tables.{core, uncounted}
@@ -53,8 +53,8 @@ goes_on p s w next v t (phase.Makes w' next') stands left plan same fits =
     let vs = s.values ++ v ∷ [] in
     let wants : Want w (after p.size p.table next) ≡ plan_now s = left ∙ stands.plan in
     let comes : plan_of p.size t (phase.Makes w' next') ≡ along vs (group s.size s.start) = plan ∙ ap (given v) wants ∙ sym (along-more s.values v (group s.size s.start)) in
-    let there : stepped s v ≡ record { size = s.size; cpus = s.cpus; budget = s.budget; start = s.start; values = vs; steps = s.steps + 1 } = ap (moved s vs) (sym comes) in (
-      sym (ap (leads_by v) wants) ∙ sym (ap (λ q. is_built q) plan),
+    let there : seat_after_value s v ≡ record { size = s.size; cpus = s.cpus; budget = s.budget; start = s.start; values = vs; steps = s.steps + 1 } = ap (seat_at_plan s vs) (sym comes) in (
+      sym (ap (plan_is_built_after v) wants) ∙ sym (ap (λ q. is_built q) plan),
       subst (λ (x : Seat). Stands (record { size = p.size; cpus = p.cpus; budget = p.budget; table = t; making = Some (w', next'); steps = p.steps + 1 }) x) (sym there) (record {
         size = stands.size;
         cpus = stands.cpus;
@@ -73,9 +73,9 @@ goes_on p s w next v t (phase.Ends u) stands left plan same fits =
     let vs = s.values ++ v ∷ [] in
     let wants : Want w (after p.size p.table next) ≡ plan_now s = left ∙ stands.plan in
     let comes : End u ≡ along vs (group s.size s.start) = plan ∙ ap (given v) wants ∙ sym (along-more s.values v (group s.size s.start)) in
-    let there : stepped s v ≡ record { size = s.size; cpus = s.cpus; budget = s.budget; start = u; values = []; steps = s.steps + 1 } = ap (moved s vs) (sym comes) in
+    let there : seat_after_value s v ≡ record { size = s.size; cpus = s.cpus; budget = s.budget; start = u; values = []; steps = s.steps + 1 } = ap (seat_at_plan s vs) (sym comes) in
     let sound : IsSound s.size (End u) = subst (IsSound s.size) (sym comes) (along_sound s.size vs (group s.size s.start) (group_sound s.size s.start stands.pages stands.pc)) in (
-      sym (ap (leads_by v) wants) ∙ sym (ap (λ q. is_built q) plan),
+      sym (ap (plan_is_built_after v) wants) ∙ sym (ap (λ q. is_built q) plan),
       subst (λ (x : Seat). Stands (record { size = p.size; cpus = p.cpus; budget = p.budget; table = u; making = None; steps = p.steps + 1 }) x) (sym there) (record {
         size = stands.size;
         cpus = stands.cpus;
@@ -92,7 +92,7 @@ goes_on p s w next v t (phase.Ends u) stands left plan same fits =
     )
 goes_on p s w next v t phase.NotBuilt stands left plan same fits =
     let wants : Want w (after p.size p.table next) ≡ plan_now s = left ∙ stands.plan in
-    sym (ap (leads_by v) wants) ∙ sym (ap (λ q. is_built q) plan)
+    sym (ap (plan_is_built_after v) wants) ∙ sym (ap (λ q. is_built q) plan)
 
 -- a wanted access can be made
 pub makeable : (p : Sequencer) (s : Seat) (w : Wanted) (next : Then) → Stands p s → Want w (after p.size p.table next) ≡ plan_left p → Fits w next → IsMakeable s.size w

@@ -4,10 +4,10 @@ use Rattle.axp_access.specs.declared.Act.{Act}
 use Rattle.axp_access.specs.declared.Wanted.{Wanted}
 use Rattle.axp_base.specs.declared.processors.TheConstants.{MAX_BUDGET}
 use Rattle.axp_line.specs.declared.messages.Reply.{Reply}
-use Rattle.axp_lsu.specs.Fitting.{Fits2}
+use Rattle.axp_lsu.specs.Fitting.{ReplyFits}
 use Rattle.axp_lsu.specs.Within.{IsKeptWithin}
 use Rattle.axp_lsu.specs.declared.asks.Ask2.{Ask2}
-use Rattle.axp_cpu.specs.Actors.{Actor, about, is_built, request_of}
+use Rattle.axp_cpu.specs.Actors.{Actor, actor_intent, is_built, request_of}
 use Rattle.axp_cpu.specs.Stands.{Stands}
 use Rattle.axp_cpu.specs.declared.processors.Processor.{Processor}
 
@@ -32,17 +32,17 @@ pub record IsAnswered (p : Processor) (act : Act) (reply : Option Reply) : Type 
   pub at : IsAt p actor
   pub ask : Ask2
   pub asked : request_of actor act ≡ Ok ask
-  pub fits : Fits2 (Some ask) reply
+  pub fits : ReplyFits (Some ask) reply
 
 -- this is the access that it wants
 pub record IsSeatedWith (p : Processor) (wanted : Option Wanted) : Type 0 where
   pub actor : Actor
   pub at : IsAt p actor
-  pub wants : wanted ≡ (about actor).wanted
+  pub wants : wanted ≡ (actor_intent actor).wanted
 
 -- the act is built, where this is the access that it wants
 pub record IsMovable (p : Processor) (act : Act) (wanted : Option Wanted) : Type 0 where
   pub actor : Actor
   pub at : IsAt p actor
-  pub wants : wanted ≡ (about actor).wanted
+  pub wants : wanted ≡ (actor_intent actor).wanted
   pub built : is_built act actor ≡ true

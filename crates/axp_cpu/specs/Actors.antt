@@ -13,34 +13,34 @@ use Rattle.axp_line.specs.declared.messages.Reply.{Reply}
 use Rattle.axp_lsu.specs.declared.asks.Ask2.{Ask2}
 use Rattle.axp_lsu.specs.Asking.{ask_of}
 use Rattle.axp_lsu.specs.Going as going
-use Rattle.axp_lsu.specs.Keeping.{Kept, none_kept}
+use Rattle.axp_lsu.specs.Keeping.{LocalMemory, empty_memory}
 use Rattle.axp_cpu.specs.declared.refusals.Refusal.{Refusal}
 use Rattle.axp_cpu.specs.declared.refusals.Refusal.TheVariants.{NotLegal, NotBuilt}
-use Rattle.axp_cpu.specs.Seats.{Seat, first_seat, intent_of, leads, stepped}
+use Rattle.axp_cpu.specs.Seats.{Seat, first_seat, intent_of, is_built_after, seat_after_value}
 
 pub record Actor : Type 0 where
   pub cpu : Cpu
   pub seat : Seat
-  pub kept : Kept
+  pub kept : LocalMemory
 
 -- at the start
 abbrev pub first_actor : Contents → ℕ → ℕ → Cpu → Actor
-first_actor image cpus budget cpu = record { cpu = cpu; seat = first_seat image cpus budget (cpu_number cpu); kept = none_kept }
+first_actor image cpus budget cpu = record { cpu = cpu; seat = first_seat image cpus budget (cpu_number cpu); kept = empty_memory }
 
 -- what it is about to do
-abbrev pub about : Actor → Intent
-about a = intent_of a.seat
+abbrev pub actor_intent : Actor → Intent
+actor_intent a = intent_of a.seat
 
 -- all is built that a Step leads to: it makes an access, and what follows the access's value is built. This
 -- is tested before the bus is asked; where the bus tells the value, the group ends with it, so that its
 -- answer changes nothing here
 abbrev pub step_built : Option Wanted → Actor → Bool
 step_built None a = false
-step_built (Some w) a = leads a.seat (going.value_of w a.kept None)
+step_built (Some w) a = is_built_after a.seat (going.value_of w a.kept None)
 
 -- an interrupt is not built
 abbrev pub is_built : Act → Actor → Bool
-is_built act.Step a = step_built (about a).wanted a
+is_built act.Step a = step_built (actor_intent a).wanted a
 is_built act.Poll a = false
 is_built act.Tick a = false
 is_built _ a = true
@@ -52,21 +52,21 @@ asked_by (Some q) false = Err NotBuilt
 
 -- what an act asks, or why it is refused: not legal, as far as the processor knows; or legal, and not built
 unfoldable pub request_of : Actor → Act → Result Ask2 Refusal
-request_of a e = asked_by (ask_of e (about a) a.kept) (is_built e a)
+request_of a e = asked_by (ask_of e (actor_intent a) a.kept) (is_built e a)
 
 -- a Step goes on with the value that its access gave
 abbrev pub moved_by : Option Wanted → Option Reply → Actor → Seat
 moved_by None r a = a.seat
-moved_by (Some w) r a = stepped a.seat (going.value_of w a.kept r)
+moved_by (Some w) r a = seat_after_value a.seat (going.value_of w a.kept r)
 
 abbrev pub seat_after : Act → Option Reply → Actor → Seat
-seat_after act.Step r a = moved_by (about a).wanted r a
+seat_after act.Step r a = moved_by (actor_intent a).wanted r a
 seat_after _ r a = a.seat
 
 -- the processor after an act, with the bus's answer where it asked
 unfoldable pub advanced : Actor → Act → Option Reply → Actor
-advanced a e r = record { cpu = a.cpu; seat = seat_after e r a; kept = going.advanced e (about a) r a.kept }
+advanced a e r = record { cpu = a.cpu; seat = seat_after e r a; kept = going.advanced e (actor_intent a) r a.kept }
 
 -- what the act gives
 unfoldable pub outcome_of : Actor → Act → Option Reply → Outcome
-outcome_of a e r = going.outcome_of e a.cpu (about a) a.kept r
+outcome_of a e r = going.outcome_of e a.cpu (actor_intent a) a.kept r

@@ -15,8 +15,8 @@ abbrev pub physical : ℕ → ℕ
 physical address = address % 2 ^ 41
 
 -- an access to a virtual address, in a memory of this size
-abbrev pub reached : ℕ → Kind → ℕ → ℕ → ℕ → (ℕ → Plan) → Plan
-reached size kind address bytes value k =
+abbrev pub memory_plan : ℕ → Kind → ℕ → ℕ → ℕ → (ℕ → Plan) → Plan
+memory_plan size kind address bytes value k =
     if in_kseg address && nat_lt (physical address) size
     then Want (record { kind = kind; address = physical address; size = bytes; value = value }) k
     else Unbuilt
@@ -31,12 +31,12 @@ first_entry table address = (table * PAGE_BYTES + 8 * (address / 2 ^ 33 % 2 ^ 10
 
 -- an instruction's address outside of the kernel segment is looked up: the entry is read, and what it
 -- leads to is not built
-abbrev pub looked_up : ℕ → ℕ → ℕ → Plan
-looked_up size table address =
+abbrev pub look_up_plan : ℕ → ℕ → ℕ → Plan
+look_up_plan size table address =
     if is_canonical address && nat_lt (first_entry table address) size
     then Want (record { kind = Read; address = first_entry table address; size = 8; value = 0 }) (λ v. Unbuilt)
     else Unbuilt
 
 -- an access whose address must be a multiple of its size
-abbrev pub aligned : ℕ → Kind → ℕ → ℕ → ℕ → (ℕ → Plan) → Plan
-aligned size kind address bytes value k = if address % bytes == 0 then reached size kind address bytes value k else Unbuilt
+abbrev pub aligned_plan : ℕ → Kind → ℕ → ℕ → ℕ → (ℕ → Plan) → Plan
+aligned_plan size kind address bytes value k = if address % bytes == 0 then memory_plan size kind address bytes value k else Unbuilt

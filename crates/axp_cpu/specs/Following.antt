@@ -9,10 +9,10 @@ use Rattle.axp_access.specs.declared.Outcome.TheVariants as outcome
 use Rattle.axp_access.specs.declared.Record.{Record}
 use Rattle.axp_image.specs.Contents.{Contents}
 use Rattle.axp_model.specs.Processors.{Processors}
-use Rattle.axp_model.specs.Records.{by}
+use Rattle.axp_model.specs.Records.{is_of}
 use Rattle.axp_regs.specs.declared.asks.Kind.{Kind}
 use Rattle.axp_regs.specs.declared.asks.Kind.TheVariants.{Fetch, Read, Locked, Conditional}
-use Rattle.axp_cpu.specs.Seats.{Seat, first_seat, intent_of, stepped}
+use Rattle.axp_cpu.specs.Seats.{Seat, first_seat, intent_of, seat_after_value}
 
 -- the value that an access of this kind gives to its instruction, as its record shows it: what was
 -- read, or whether a store-conditional succeeded; 0 where it gives none
@@ -28,7 +28,7 @@ value_shown a = value_by a.kind a
 
 -- a Step goes on with the value of the access that it shows
 abbrev pub seat_after_step : Outcome → Seat → Seat
-seat_after_step (outcome.Access a) s = stepped s (value_shown a)
+seat_after_step (outcome.Access a) s = seat_after_value s (value_shown a)
 seat_after_step _ s = s
 
 -- no other act moves a processor: interrupts are not built
@@ -40,7 +40,7 @@ seat_after _ o s = s
 abbrev pub seat_in : Contents → ℕ → ℕ → ℕ → List Record → Seat
 seat_in image cpus budget p [] = first_seat image cpus budget p
 seat_in image cpus budget p (r ∷ h) =
-    if by p r then seat_after r.event.act r.outcome (seat_in image cpus budget p h) else seat_in image cpus budget p h
+    if is_of p r then seat_after r.event.act r.outcome (seat_in image cpus budget p h) else seat_in image cpus budget p h
 
 -- so many processors over an image, each with a budget of steps, as the memory model asks of them
 abbrev pub processors : Contents → ℕ → ℕ → Processors

@@ -8,18 +8,18 @@ use Rattle.axp_cpu.specs.declared.phases.Then.{Then}
 use Rattle.axp_cpu.specs.declared.phases.Then.TheVariants as next
 use Rattle.axp_cpu.specs.declared.tables.Table.{Table}
 use Rattle.axp_cpu.specs.Plans.{Plan, End, Want, Unbuilt}
-use Rattle.axp_cpu.specs.Rows.{as_longword, as_read, ended, fetched}
-use Rattle.axp_cpu.specs.Tables.{flagged}
+use Rattle.axp_cpu.specs.Rows.{as_longword, as_read, next_plan, plan_of_word}
+use Rattle.axp_cpu.specs.Tables.{with_lock_flag}
 
 -- what follows an access, by the value that it gave
 abbrev pub after : ℕ → Table → Then → ℕ → Plan
-after size t next.Instruct v = fetched size t v
+after size t next.Instruct v = plan_of_word size t v
 after size t (next.Load a) v = as_read t a v
 after size t (next.LoadLong a) v = as_longword t a v
-after size t (next.LoadLocked a) v = as_read (flagged t true) a v
-after size t (next.LoadLockedLong a) v = as_longword (flagged t true) a v
-after size t (next.Conclude a) v = as_read (flagged t false) a v
-after size t next.Finish v = ended t
+after size t (next.LoadLocked a) v = as_read (with_lock_flag t true) a v
+after size t (next.LoadLockedLong a) v = as_longword (with_lock_flag t true) a v
+after size t (next.Conclude a) v = as_read (with_lock_flag t false) a v
+after size t next.Finish v = next_plan t
 after size t next.Translate v = Unbuilt
 
 abbrev pub plan_of : ℕ → Table → Phase → Plan

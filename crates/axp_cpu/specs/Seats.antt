@@ -49,23 +49,23 @@ abbrev pub wanted : Seat → Option Wanted
 wanted s = if is_finished s then None else wanted_by (plan_now s)
 
 -- all is built that a value of the wanted access leads to
-abbrev pub leads_by : ℕ → Plan → Bool
-leads_by v (End t) = false
-leads_by v (Want w k) = is_built (k v)
-leads_by v Unbuilt = false
+abbrev pub plan_is_built_after : ℕ → Plan → Bool
+plan_is_built_after v (End t) = false
+plan_is_built_after v (Want w k) = is_built (k v)
+plan_is_built_after v Unbuilt = false
 
-abbrev pub leads : Seat → ℕ → Bool
-leads s v = leads_by v (plan_now s)
+abbrev pub is_built_after : Seat → ℕ → Bool
+is_built_after s v = plan_is_built_after v (plan_now s)
 
 -- after a step that gave the group its values and left this plan
-abbrev pub moved : Seat → List ℕ → Plan → Seat
-moved s values (End t) = record { size = s.size; cpus = s.cpus; budget = s.budget; start = t; values = []; steps = s.steps + 1 }
-moved s values (Want w k) = record { size = s.size; cpus = s.cpus; budget = s.budget; start = s.start; values = values; steps = s.steps + 1 }
-moved s values Unbuilt = record { size = s.size; cpus = s.cpus; budget = s.budget; start = s.start; values = values; steps = s.steps + 1 }
+abbrev pub seat_at_plan : Seat → List ℕ → Plan → Seat
+seat_at_plan s values (End t) = record { size = s.size; cpus = s.cpus; budget = s.budget; start = t; values = []; steps = s.steps + 1 }
+seat_at_plan s values (Want w k) = record { size = s.size; cpus = s.cpus; budget = s.budget; start = s.start; values = values; steps = s.steps + 1 }
+seat_at_plan s values Unbuilt = record { size = s.size; cpus = s.cpus; budget = s.budget; start = s.start; values = values; steps = s.steps + 1 }
 
 -- after a step whose access gave this value
-abbrev pub stepped : Seat → ℕ → Seat
-stepped s v = moved s (s.values ++ v ∷ []) (along (s.values ++ v ∷ []) (group s.size s.start))
+abbrev pub seat_after_value : Seat → ℕ → Seat
+seat_after_value s v = seat_at_plan s (s.values ++ v ∷ []) (along (s.values ++ v ∷ []) (group s.size s.start))
 
 -- the interrupt level: the three low bits of PS
 abbrev pub interrupt_level : State → ℕ

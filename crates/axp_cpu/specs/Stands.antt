@@ -10,7 +10,7 @@ use Rattle.axp_base.specs.Lists.{is_empty}
 use Rattle.axp_cpu.specs.Phases.{Fits, after}
 use Rattle.axp_cpu.specs.Plans.{Plan, Want}
 use Rattle.axp_cpu.specs.Rows.{group}
-use Rattle.axp_cpu.specs.Seats.{Seat, is_finished, leads, plan_now, stepped}
+use Rattle.axp_cpu.specs.Seats.{Seat, is_finished, is_built_after, plan_now, seat_after_value}
 use Rattle.axp_cpu.specs.Soundness.{IsSoundAs}
 use Rattle.axp_cpu.specs.Tables.{core}
 
@@ -58,5 +58,5 @@ pub record IsMakeable (size : ℕ) (w : Wanted) : Type 0 where
 
 -- the processor after a step whose access gave this value; None: not all is built that it leads to
 abbrev pub GoesOn : Seat → ℕ → Option Sequencer → Type 0
-GoesOn s v None = leads s v ≡ false
-GoesOn s v (Some p) = (leads s v ≡ true) × Stands p (stepped s v)
+GoesOn s v None = is_built_after s v ≡ false
+GoesOn s v (Some p) = (is_built_after s v ≡ true) × Stands p (seat_after_value s v)

@@ -19,8 +19,8 @@ abbrev pub with_value : Table → ℕ → ℕ → Table
 with_value t n v = record t { state = with_register t.state n v }
 
 -- with the lock flag set or cleared
-abbrev pub flagged : Table → Bool → Table
-flagged t armed = record t { state = with_locked t.state armed }
+abbrev pub with_lock_flag : Table → Bool → Table
+with_lock_flag t armed = record t { state = with_locked t.state armed }
 
 -- what changes with a group's end alone: all but the count of fetched instructions
 abbrev pub uncounted : State → State
@@ -30,5 +30,5 @@ abbrev pub core : Table → Table
 core t = record t { state = uncounted t.state }
 
 -- with one instruction more fetched
-abbrev pub counted : Table → Table
-counted t = record t { state = with_fetched t.state ((fetched_of t.state + 1) % 2 ^ 32) }
+abbrev pub with_fetch_counted : Table → Table
+with_fetch_counted t = record t { state = with_fetched t.state ((fetched_of t.state + 1) % 2 ^ 32) }

@@ -2,12 +2,12 @@
 ghost use Rattle.std.specs.Prelude.{ℕ, false, not, ◌≡◌, Option, Some, None};
 ghost use Rattle.axp_access.specs.declared.Wanted.{Wanted};
 ghost use Rattle.axp_cpu.specs.declared.tables.Table.{Table};
-ghost use Rattle.axp_cpu.specs.Actors.{Actor, about};
-ghost use Rattle.axp_cpu.specs.Addresses.{looked_up};
+ghost use Rattle.axp_cpu.specs.Actors.{Actor, actor_intent};
+ghost use Rattle.axp_cpu.specs.Addresses.{look_up_plan};
 ghost use Rattle.axp_cpu.specs.Plans.{given, is_built};
 ghost use Rattle.axp_cpu.specs.Refusals.{is_begun, is_refused};
 ghost use Rattle.axp_cpu.specs.Rows.{group, row};
-ghost use Rattle.axp_cpu.specs.Seats.{leads};
+ghost use Rattle.axp_cpu.specs.Seats.{is_built_after};
 ghost use Rattle.axp_cpu.specs.Soundness.{AnswersEnd};
 ghost use Rattle.axp_decode.specs.declared.instructions.Instr.{Instr};
 ghost use Rattle.axp_line.specs.declared.messages.Reply.{Reply};
@@ -18,7 +18,7 @@ ghost use Rattle.axp_lsu.specs.Going.{value_of};
 /// the instructions that `is_refused` lists.
 pub fn what_is_not_built()
     ensures fetch { (size : ℕ) (t : Table) → is_built (group size t) ≡ is_begun size t }
-    ensures look_up { (size v table address : ℕ) → is_built (given v (looked_up size table address)) ≡ false }
+    ensures look_up { (size v table address : ℕ) → is_built (given v (look_up_plan size table address)) ≡ false }
     ensures instruction { (size : ℕ) (t : Table) (i : Instr) → is_built (row size t i) ≡ not (is_refused size t i) }
 {}
 
@@ -26,6 +26,6 @@ pub fn what_is_not_built()
 /// is built that a step leads to can be tested before the bus is asked: its answer changes nothing.
 pub fn answered_values_end_groups()
     ensures ends { (size : ℕ) (t : Table) → AnswersEnd (group size t) }
-    ensures built { (a : Actor) (w : Wanted) (r : Option Reply) → (about a).wanted ≡ Some w
-        → leads a.seat (value_of w a.kept r) ≡ leads a.seat (value_of w a.kept None) }
+    ensures built { (a : Actor) (w : Wanted) (r : Option Reply) → (actor_intent a).wanted ≡ Some w
+        → is_built_after a.seat (value_of w a.kept r) ≡ is_built_after a.seat (value_of w a.kept None) }
 {}

@@ -1,10 +1,10 @@
 //! How far a group of accesses has come.
 ghost use Rattle.std.specs.Prelude.{◌≡◌, ◌<◌, ℕ};
 ghost use Rattle.axp_cpu.specs.declared.tables.Table.{Table};
-ghost use Rattle.axp_cpu.specs.Addresses.{aligned, first_entry, in_kseg, looked_up, reached};
+ghost use Rattle.axp_cpu.specs.Addresses.{aligned_plan, first_entry, in_kseg, look_up_plan, memory_plan};
 ghost use Rattle.axp_cpu.specs.Phases.{after, plan_of, Fits, FollowFits, PhaseFits};
 ghost use Rattle.axp_cpu.specs.Plans.{End, is_built};
-ghost use Rattle.axp_cpu.specs.Rows.{ended, group, stopped, wrote, wrote_at};
+ghost use Rattle.axp_cpu.specs.Rows.{next_plan, group, halt_plan, register_plan, register_plan_at};
 ghost use Rattle.axp_cpu.specs.Tables.{at_pc, core};
 ghost use Rattle.axp_regs.specs.States.{ptbr_of};
 ghost use Rattle.axp_regs.specs.declared.states.TheConstants.{REGISTERS};
@@ -82,7 +82,7 @@ fn in_kseg(address: u64) -> bool
 /// The look-up of an instruction's address outside of the kernel segment: the read of its page-table
 /// entry of level 1.
 fn look_up(size: u64, table: &Table, pc: u64) -> Phase
-    ensures plan { plan_of size table.now result ≡ looked_up size (ptbr_of table.now.state) pc }
+    ensures plan { plan_of size table.now result ≡ look_up_plan size (ptbr_of table.now.state) pc }
     ensures fits { PhaseFits result }
 {
     let address = first_entry(table.state.ptbr(), pc);
@@ -122,9 +122,9 @@ pub fn resume(size: u64, table: &mut Table, then: Then, value: u64) -> Phase
         }
         Then::Load { a } => write(table, a, value),
         Then::LoadLong { a } => write(table, a, sext(value, 32)),
-        Then::LoadLocked { a } => write(&table.flagged(true), a, value),
-        Then::LoadLockedLong { a } => write(&table.flagged(true), a, sext(value, 32)),
-        Then::Conclude { a } => write(&table.flagged(false), a, value),
+        Then::LoadLocked { a } => write(&table.with_lock_flag(true), a, value),
+        Then::LoadLockedLong { a } => write(&table.with_lock_flag(true), a, sext(value, 32)),
+        Then::Conclude { a } => write(&table.with_lock_flag(false), a, value),
         Then::Finish => end(table),
         Then::Translate => Phase::NotBuilt,
     }
@@ -135,7 +135,7 @@ pub fn align(size: u64, table: &Table, far: Wanted, then: Then) -> Phase
     requires sized { 0 < far.size }
     requires fits { Fits far then }
     ensures plan { plan_of size table.now result
-        ≡ aligned size far.kind far.address far.size far.value (after size table.now then) }
+        ≡ aligned_plan size far.kind far.address far.size far.value (after size table.now then) }
     ensures fits { PhaseFits result }
 {
     if far.address % u64::from(far.size) == 0 {
@@ -149,7 +149,7 @@ pub fn align(size: u64, table: &Table, far: Wanted, then: Then) -> Phase
 fn reach(size: u64, table: &Table, far: Wanted, then: Then) -> Phase
     requires { Fits far then }
     ensures plan { plan_of size table.now result
-        ≡ reached size far.kind far.address far.size far.value (after size table.now then) }
+        ≡ memory_plan size far.kind far.address far.size far.value (after size table.now then) }
     ensures fits { PhaseFits result }
 {
     let address = far.address % KSEG_BYTES;
@@ -172,7 +172,7 @@ pub fn go_to(table: &Table, pc: u64) -> Phase
 
 /// Ends.
 pub fn end(table: &Table) -> Phase
-    ensures plan { (size : ℕ) → plan_of size table.now result ≡ ended table.now }
+    ensures plan { (size : ℕ) → plan_of size table.now result ≡ next_plan table.now }
     ensures fits { PhaseFits result }
 {
     go_to(table, table.next_pc())
@@ -181,7 +181,7 @@ pub fn end(table: &Table) -> Phase
 /// Writes a register and goes on at an address.
 pub fn write_and_go(table: &Table, n: u8, value: u64, pc: u64) -> Phase
     requires { n < REGISTERS }
-    ensures plan { (size : ℕ) (t : Table) → plan_of size t result ≡ wrote_at table.now n value pc }
+    ensures plan { (size : ℕ) (t : Table) → plan_of size t result ≡ register_plan_at table.now n value pc }
     ensures fits { PhaseFits result }
 {
     let mut state = table.state;
@@ -193,7 +193,7 @@ pub fn write_and_go(table: &Table, n: u8, value: u64, pc: u64) -> Phase
 /// Writes a register and ends.
 pub fn write(table: &Table, n: u8, value: u64) -> Phase
     requires { n < REGISTERS }
-    ensures plan { (size : ℕ) (t : Table) → plan_of size t result ≡ wrote table.now n value }
+    ensures plan { (size : ℕ) (t : Table) → plan_of size t result ≡ register_plan table.now n value }
     ensures fits { PhaseFits result }
 {
     write_and_go(table, n, value, table.next_pc())
@@ -201,7 +201,7 @@ pub fn write(table: &Table, n: u8, value: u64) -> Phase
 
 /// Halts with a code behind the instruction.
 pub fn halt(table: &Table, code: u8) -> Phase
-    ensures plan { (size : ℕ) → plan_of size table.now result ≡ stopped table.now code }
+    ensures plan { (size : ℕ) → plan_of size table.now result ≡ halt_plan table.now code }
     ensures fits { PhaseFits result }
 {
     let mut state = table.state;

@@ -4,7 +4,7 @@ ghost use Rattle.axp_base.specs.declared.processors.TheConstants.{MAX_BUDGET, MA
 ghost use Rattle.axp_base.specs.Cpus.{cpu_number};
 ghost use Rattle.axp_lsu.specs.Fitting.{ShowsFitting};
 ghost use Rattle.axp_lsu.specs.Within.{IsAskWithin};
-ghost use Rattle.axp_cpu.specs.Actors.{Actor, about, advanced, first_actor, is_built, moved_by, outcome_of, request_of, seat_after, step_built};
+ghost use Rattle.axp_cpu.specs.Actors.{Actor, actor_intent, advanced, first_actor, is_built, moved_by, outcome_of, request_of, seat_after, step_built};
 ghost use Rattle.axp_cpu.specs.ActorStands.{IsAnswered, IsAt, IsMovable, IsSeated, IsSeatedWith};
 ghost use Rattle.axp_cpu.specs.Seats.{is_finished};
 ghost use Rattle.axp_cpu.specs.Stands.{Stands};
@@ -120,7 +120,7 @@ impl Processor {
     /// yet: where it tells the value, the group ends with it, so that its answer changes nothing here.
     fn leads_on(&self, wanted: Option<Wanted>) -> bool
         requires { IsSeatedWith self.now wanted }
-        ensures { (a : Actor) → IsAt self.now a → result ≡ step_built (about a).wanted a }
+        ensures { (a : Actor) → IsAt self.now a → result ≡ step_built (actor_intent a).wanted a }
     {
         match wanted {
             None => false,
@@ -160,7 +160,7 @@ impl Processor {
     /// The sequencer after a step; as it is where no access is wanted.
     fn stepped(&self, wanted: Option<Wanted>, reply: Option<Reply>) -> Sequencer
         requires { IsMovable self.now Step wanted }
-        ensures { (a : Actor) → IsAt self.now a → Stands result (moved_by (about a).wanted reply a) }
+        ensures { (a : Actor) → IsAt self.now a → Stands result (moved_by (actor_intent a).wanted reply a) }
     {
         match wanted {
             None => self.sequencer,

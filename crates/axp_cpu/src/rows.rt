@@ -2,7 +2,7 @@
 ghost use Rattle.std.specs.Prelude.{◌≡◌, ◌<◌, ℕ};
 ghost use Rattle.axp_cpu.specs.declared.tables.Table.{Table};
 ghost use Rattle.axp_cpu.specs.Phases.{after, plan_of, FollowFits, PhaseFits};
-ghost use Rattle.axp_cpu.specs.Rows.{address_of, branch_goal, branch_row, cycle_counter, fenced, high_address_of, jump_row, load_locked, loaded, memory_row, misc_row, operand, operate_row, pal_row, quadword_at, row, store_conditional, stored};
+ghost use Rattle.axp_cpu.specs.Rows.{address_of, branch_goal, branch_row, cycle_counter, barrier_plan, high_address_of, jump_row, load_locked_plan, load_plan, memory_row, misc_row, operand, operate_row, pal_row, quadword_at, row, store_conditional_plan, store_plan};
 ghost use Rattle.axp_decode.specs.Format.{FieldsFit, OperandFits};
 ghost use Rattle.axp_regs.specs.declared.states.TheConstants.{REGISTERS};
 
@@ -63,10 +63,16 @@ fn access(size: u64, table: &Table, op: MemOp, a: u8, base: u64, disp: u16) -> P
         MemOp::STL => store(size, table, Size::Long, a, address),
         MemOp::STQ => store(size, table, Size::Quad, a, address),
         MemOp::STQ_U => store(size, table, Size::Quad, a, quadword(address)),
-        MemOp::LDL_L => load_locked(size, table, Size::Long, address, Then::LoadLockedLong { a }),
-        MemOp::LDQ_L => load_locked(size, table, Size::Quad, address, Then::LoadLocked { a }),
-        MemOp::STL_C => store_conditional(size, table, Size::Long, a, address),
-        MemOp::STQ_C => store_conditional(size, table, Size::Quad, a, address),
+        MemOp::LDL_L => load_locked_plan(
+            size,
+            table,
+            Size::Long,
+            address,
+            Then::LoadLockedLong { a },
+        ),
+        MemOp::LDQ_L => load_locked_plan(size, table, Size::Quad, address, Then::LoadLocked { a }),
+        MemOp::STL_C => store_conditional_plan(size, table, Size::Long, a, address),
+        MemOp::STQ_C => store_conditional_plan(size, table, Size::Quad, a, address),
     }
 }
 
@@ -94,7 +100,7 @@ fn quadword(address: u64) -> u64
 /// A load, and what follows with its value; into R31 it does nothing.
 fn load(size: u64, table: &Table, what: Size, a: u8, address: u64, then: Then) -> Phase
     requires { FollowFits then }
-    ensures plan { plan_of size table.now result ≡ loaded size table.now what a address (after size table.now then) }
+    ensures plan { plan_of size table.now result ≡ load_plan size table.now what a address (after size table.now then) }
     ensures fits { PhaseFits result }
 {
     if a == ZERO_REGISTER {
@@ -112,7 +118,7 @@ fn load(size: u64, table: &Table, what: Size, a: u8, address: u64, then: Then) -
 /// A store of the low datum of Ra.
 fn store(size: u64, table: &Table, what: Size, a: u8, address: u64) -> Phase
     requires { a < REGISTERS }
-    ensures plan { plan_of size table.now result ≡ stored size table.now what a address }
+    ensures plan { plan_of size table.now result ≡ store_plan size table.now what a address }
     ensures fits { PhaseFits result }
 {
     let write = Wanted {
@@ -125,9 +131,9 @@ fn store(size: u64, table: &Table, what: Size, a: u8, address: u64) -> Phase
 }
 
 /// A load-locked, and what follows with its value; into R31 too it makes its access.
-fn load_locked(size: u64, table: &Table, what: Size, address: u64, then: Then) -> Phase
+fn load_locked_plan(size: u64, table: &Table, what: Size, address: u64, then: Then) -> Phase
     requires { FollowFits then }
-    ensures plan { plan_of size table.now result ≡ load_locked size what address (after size table.now then) }
+    ensures plan { plan_of size table.now result ≡ load_locked_plan size what address (after size table.now then) }
     ensures fits { PhaseFits result }
 {
     let read = Wanted {
@@ -140,9 +146,9 @@ fn load_locked(size: u64, table: &Table, what: Size, address: u64, then: Then) -
 }
 
 /// A store-conditional of the low datum of Ra, which tells Ra whether it stored.
-fn store_conditional(size: u64, table: &Table, what: Size, a: u8, address: u64) -> Phase
+fn store_conditional_plan(size: u64, table: &Table, what: Size, a: u8, address: u64) -> Phase
     requires { a < REGISTERS }
-    ensures plan { plan_of size table.now result ≡ store_conditional size table.now what a address }
+    ensures plan { plan_of size table.now result ≡ store_conditional_plan size table.now what a address }
     ensures fits { PhaseFits result }
 {
     let write = Wanted {
@@ -247,7 +253,7 @@ fn misc(table: &Table, op: MiscOp, a: u8) -> Phase
 
 /// A barrier: an access that names no memory, and then the end.
 fn fence(kind: Kind) -> Phase
-    ensures plan { (size : ℕ) (t : Table) → plan_of size t result ≡ fenced t kind }
+    ensures plan { (size : ℕ) (t : Table) → plan_of size t result ≡ barrier_plan t kind }
     ensures fits { PhaseFits result }
 {
     let barrier = Wanted {

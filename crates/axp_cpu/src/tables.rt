@@ -1,5 +1,5 @@
 ghost use Rattle.std.specs.Prelude.{◌≡◌};
-ghost use Rattle.axp_cpu.specs.Tables.{counted, flagged, next_pc};
+ghost use Rattle.axp_cpu.specs.Tables.{with_fetch_counted, with_lock_flag, next_pc};
 
 use axp_image::INSTRUCTION_BYTES;
 use axp_regs::State;
@@ -22,8 +22,8 @@ impl Table {
     }
 
     /// It with the lock flag set or cleared.
-    pub fn flagged(&self, armed: bool) -> Table
-        ensures { result ≡ flagged self.now armed }
+    pub fn with_lock_flag(&self, armed: bool) -> Table
+        ensures { result ≡ with_lock_flag self.now armed }
     {
         let mut state = self.state;
         state.set_locked(armed);
@@ -32,7 +32,7 @@ impl Table {
 
     /// Counts the instruction that was fetched.
     pub fn count_fetch(&mut self)
-        ensures { self.new ≡ counted self.old }
+        ensures { self.new ≡ with_fetch_counted self.old }
     {
         let fetched = self.state.fetched().wrapping_add(1);
         self.state.set_fetched(fetched);

@@ -8,9 +8,9 @@ use Rattle.axp_regs.specs.declared.asks.Kind.TheVariants as kind
 use Rattle.axp_access.specs.declared.Record.{Record}
 use Rattle.axp_access.specs.Kinds.{is_memory_write, is_plain_write, is_conditional, is_read, is_fetch, has_byte}
 use Rattle.axp_model.specs.Accesses.{accesses, times}
-use Rattle.axp_access.specs.Numbering.{Item}
+use Rattle.axp_access.specs.Numbering.{NumberedAccess}
 use Rattle.axp_access.specs.Order.{Times, before}
-use Rattle.axp_model.specs.Sources.{visible, later_of, latest, gives}
+use Rattle.axp_model.specs.Sources.{is_visible, later_of, latest, can_give}
 use Rattle.axp_model.specs.Outcomes.{IsRun}
 use Rattle.axp_model.specs.Processors.{Processors, AreInLine}
 use Rattle.axp_model.specs.Issue.{AllPairs}
@@ -51,12 +51,12 @@ among_pair P (x ∷ xs) y z pairs a b =
     b)
     a
 
-later_either : (t : Times) (x y : Item) (o : Option Item) → later_of t x o ≡ Some y → (x ≡ y) ⊎ (o ≡ Some y)
+later_either : (t : Times) (x y : NumberedAccess) (o : Option NumberedAccess) → later_of t x o ≡ Some y → (x ≡ y) ⊎ (o ≡ Some y)
 later_either t x y None e = inl (cc)
 later_either t x y (Some z) e = ⊎_elim (λ (b : before t z x ≡ true). let s : Some x ≡ Some y = rw b at e in inl (cc)) (λ (f : before t z x ≡ false). inr (rw f at e)) (cases_Bool (before t z x))
 
 -- the latest is of the list, and passes
-pub latest_among : (t : Times) (test : Item → Bool) (us : List Item) (y : Item) → latest t test us ≡ Some y → Among y us × (test y ≡ true)
+pub latest_among : (t : Times) (test : NumberedAccess → Bool) (us : List NumberedAccess) (y : NumberedAccess) → latest t test us ≡ Some y → Among y us × (test y ≡ true)
 latest_among t test [] y e = cc
 latest_among t test (x ∷ xs) y e =
     ⊎_elim
@@ -83,10 +83,10 @@ pub pairs_both : {X : Type 0} (P Q : X → X → Type 0) (xs : List X) → AllPa
 pairs_both P Q [] p q = tt
 pairs_both P Q (x ∷ xs) p q = (each_both (λ y. P y x) (λ y. Q y x) xs p.0 q.0, pairs_both P Q xs p.1 q.1)
 
-source_raises : (h : List Record) → Fitting h → (u v : Item) → IsSourceOf h u v → value_moment u < value_moment v
+source_raises : (h : List Record) → Fitting h → (u v : NumberedAccess) → IsSourceOf h u v → value_moment u < value_moment v
 source_raises h fit u v is =
-    let found = latest_among (times h) (gives (times h) is.byte.0 v) (accesses h) u is.byte.2 in
-    let wrote : is_memory_write u.access ≡ true = (and_parts (is_memory_write u.access) (has_byte is.byte.0 u.access && visible (times h) u v) found.1).0 in
+    let found = latest_among (times h) (can_give (times h) is.byte.0 v) (accesses h) u is.byte.2 in
+    let wrote : is_memory_write u.access ≡ true = (and_parts (is_memory_write u.access) (has_byte is.byte.0 u.access && is_visible (times h) u v) found.1).0 in
     ⊎_elim
     (λ (same : u ≡ v). absurd (false≢true (sym (no_write v.access.kind v.access.yes is.takes) ∙ subst (λ z. is_memory_write z.access ≡ true) same wrote)))
     (λ apart. ⊎_elim
@@ -95,18 +95,18 @@ source_raises h fit u v is =
     apart)
     (among_pair (λ x y. PairOk (times h) x y × Unseen h x y) (accesses h) u v (pairs_both (PairOk (times h)) (Unseen h) (accesses h) (kept h fit).pairs (no_later_source h fit)) found.0 (among_of (accesses h) v is.known))
 
-pub source_is_earlier : (image : ℕ → ℕ) (ps : Processors) (h : List Record) → AreInLine ps → IsRun image ps h → (u v : Item) → IsSourceOf h u v → value_moment u < value_moment v
+pub source_is_earlier : (image : ℕ → ℕ) (ps : Processors) (h : List Record) → AreInLine ps → IsRun image ps h → (u v : NumberedAccess) → IsSourceOf h u v → value_moment u < value_moment v
 source_is_earlier image ps h inside run u v is = source_raises h (run_fits image ps h inside run) u v is
 
-pub write_is_later : (u v : Item) → MayGoInto u v → value_moment u < value_moment v
+pub write_is_later : (u v : NumberedAccess) → MayGoInto u v → value_moment u < value_moment v
 write_is_later u v into = ltb-true u.number v.number (and_parts (eqb u.access.cpu.number v.access.cpu.number) (ltb u.number v.number) into.first).1
 
-cause_raises : (h : List Record) → Fitting h → (u v : Item) → MayCause h u v → value_moment u < value_moment v
+cause_raises : (h : List Record) → Fitting h → (u v : NumberedAccess) → MayCause h u v → value_moment u < value_moment v
 cause_raises h fit u v cause = ⊎_elim (λ is. source_raises h fit u v is) (λ into. write_is_later u v into) cause
 
-chain_raises : (h : List Record) → Fitting h → (u : Item) (via : List Item) (v : Item) → IsChain h u via v → value_moment u < value_moment v
+chain_raises : (h : List Record) → Fitting h → (u : NumberedAccess) (via : List NumberedAccess) (v : NumberedAccess) → IsChain h u via v → value_moment u < value_moment v
 chain_raises h fit u [] v chain = cause_raises h fit u v chain
 chain_raises h fit u (w ∷ ws) v chain = omega (arith, cause_raises h fit u w chain.0, chain_raises h fit w ws v chain.1)
 
-pub no_loop : (image : ℕ → ℕ) (ps : Processors) (h : List Record) → AreInLine ps → IsRun image ps h → (u : Item) (via : List Item) → IsChain h u via u → ⊥
+pub no_loop : (image : ℕ → ℕ) (ps : Processors) (h : List Record) → AreInLine ps → IsRun image ps h → (u : NumberedAccess) (via : List NumberedAccess) → IsChain h u via u → ⊥
 no_loop image ps h inside run u via chain = let less = chain_raises h (run_fits image ps h inside run) u via u chain in omega (arith, less)

@@ -5,13 +5,13 @@ use Rattle.axp_access.specs.declared.Event.{Event}
 use Rattle.axp_access.specs.declared.Outcome.{Outcome}
 use Rattle.axp_access.specs.declared.Outcome.TheVariants as outcome
 use Rattle.axp_access.specs.declared.Record.{Record}
-use Rattle.axp_model.specs.Records.{by, drains}
+use Rattle.axp_model.specs.Records.{is_of, drains}
 use Rattle.axp_model.specs.Turns.{turns, drained}
 use Rattle.axp_model.specs.Entries.{Waiting, buffer, least_age, has_number}
 use Rattle.axp_model.specs.Processors.{AreInLine, Processors}
 use Rattle.axp_model.specs.Outcomes.{IsRun}
 use Rattle.axp_laws.specs.EntryLaws.{WasDrained}
-use Rattle.axp_laws.proofs.RunFacts.{FitsOutcome, Fitting, Named, Kept}
+use Rattle.axp_laws.proofs.RunFacts.{FitsOutcome, Fitting, Named, RunFacts}
 use Rattle.axp_laws.proofs.RunRecords.{run_fits}
 use Rattle.axp_laws.proofs.OrderCounts.{turns_grow, AtMostO, drained_most}
 use Rattle.axp_laws.proofs.RunKnown.{waits_has}
@@ -48,14 +48,14 @@ was_drained : (p n turn : ℕ) (h : List Record) → Fitting h → drained h p n
 was_drained p n turn [] fit at = cc
 was_drained p n turn (r ∷ h) fit at =
     ⊎_elim
-    (λ (here : (by p r && drains n r.outcome) ≡ true).
-    let both = and_parts (by p r) (drains n r.outcome) here in
+    (λ (here : (is_of p r && drains n r.outcome) ≡ true).
+    let both = and_parts (is_of p r) (drains n r.outcome) here in
     drained_now p n turn r.event r.outcome h fit.0 (eqb-true r.event.cpu.number p both.0) both.1 (turn_of (turns h + 1) turn (rw here at at)))
-    (λ (other : (by p r && drains n r.outcome) ≡ false). drained_before p n turn r h (was_drained p n turn h fit.1 (rw other at at)))
-    (cases_Bool (by p r && drains n r.outcome))
+    (λ (other : (is_of p r && drains n r.outcome) ≡ false). drained_before p n turn r h (was_drained p n turn h fit.1 (rw other at at)))
+    (cases_Bool (is_of p r && drains n r.outcome))
 
 -- what is drained was not before
-named_none : (p n : ℕ) (e : Event) (o : Outcome) (h : List Record) → FitsOutcome e.cpu.number o h → Kept h → e.cpu.number ≡ p → drains n o ≡ true → drained h p n ≡ None
+named_none : (p n : ℕ) (e : Event) (o : Outcome) (h : List Record) → FitsOutcome e.cpu.number o h → RunFacts h → e.cpu.number ≡ p → drains n o ≡ true → drained h p n ≡ None
 named_none p n e (outcome.Drained m l t) h fit kept own named =
     let named_ : Named m l.number (buffer e.cpu.number h).waiting = fit.1 in
     let es : List Waiting = (buffer e.cpu.number h).waiting in
@@ -74,13 +74,13 @@ named_none p n e (outcome.Polled x y z) h fit kept own named = absurd (false≢t
 turn_stays_one : (p n turn : ℕ) (r : Record) (h : List Record) → Fitting (r ∷ h) → drained h p n ≡ Some turn → drained (r ∷ h) p n ≡ Some turn
 turn_stays_one p n turn r h fit at =
     ⊎_elim
-    (λ (here : (by p r && drains n r.outcome) ≡ true).
-    let both = and_parts (by p r) (drains n r.outcome) here in
+    (λ (here : (is_of p r && drains n r.outcome) ≡ true).
+    let both = and_parts (is_of p r) (drains n r.outcome) here in
     let none = named_none p n r.event r.outcome h fit.0 (kept h fit.1) (eqb-true r.event.cpu.number p both.0) both.1 in
     let never : None ≡ Some turn = sym none ∙ at in
     cc)
-    (λ (other : (by p r && drains n r.outcome) ≡ false). rw other at)
-    (cases_Bool (by p r && drains n r.outcome))
+    (λ (other : (is_of p r && drains n r.outcome) ≡ false). rw other at)
+    (cases_Bool (is_of p r && drains n r.outcome))
 
 turn_stays : (p n turn : ℕ) (later h : List Record) → Fitting (later ++ h) → drained h p n ≡ Some turn → drained (later ++ h) p n ≡ Some turn
 turn_stays p n turn [] h fit at = at
@@ -111,8 +111,8 @@ pub turn_later : (later h : List Record) (p n turn : ℕ) → drained h p n ≡ 
 turn_later [] h p n turn none at = let never : None ≡ Some turn = sym none ∙ at in cc
 turn_later (r ∷ later) h p n turn none at =
     ⊎_elim
-    (λ (here : (by p r && drains n r.outcome) ≡ true).
+    (λ (here : (is_of p r && drains n r.outcome) ≡ true).
     let is = turn_of (turns (later ++ h) + 1) turn (rw here at at) in
     omega (arith, is, turns_grow_on later h))
-    (λ (other : (by p r && drains n r.outcome) ≡ false). turn_later later h p n turn none (rw other at at))
-    (cases_Bool (by p r && drains n r.outcome))
+    (λ (other : (is_of p r && drains n r.outcome) ≡ false). turn_later later h p n turn none (rw other at at))
+    (cases_Bool (is_of p r && drains n r.outcome))

@@ -8,13 +8,13 @@ use Rattle.axp_access.specs.declared.Event.{Event}
 use Rattle.axp_access.specs.declared.Outcome.{Outcome}
 use Rattle.axp_access.specs.declared.Outcome.TheVariants as outcome
 use Rattle.axp_access.specs.declared.Record.{Record}
-use Rattle.axp_model.specs.Records.{by, made, drains}
+use Rattle.axp_model.specs.Records.{is_of, makes_access, drains}
 use Rattle.axp_access.specs.Kinds.{is_plain_write, is_write_barrier}
 use Rattle.axp_base.specs.Lines.{line_of, line_at}
 use Rattle.axp_model.specs.Turns.{turns, drained}
-use Rattle.axp_model.specs.Entries.{Waiting, Buffer, buffer, buffer_after, joins, joined, without, has_number, one_if_none, of_age, least_age, oldest}
+use Rattle.axp_model.specs.Entries.{Waiting, Buffer, buffer, buffer_after, entry_joined, entries_after_write, without_entry, has_number, one_if_none, of_age, least_age, oldest}
 use Rattle.axp_model.specs.Accesses.{accesses}
-use Rattle.axp_access.specs.Numbering.{parts_in}
+use Rattle.axp_access.specs.Numbering.{write_barriers_in}
 use Rattle.axp_model.specs.Issue.{AllPairs}
 use Rattle.axp_model.specs.Processors.{AreInLine, Processors}
 use Rattle.axp_model.specs.Outcomes.{IsRun}
@@ -44,15 +44,15 @@ pairs_push : (P : Waiting → Waiting → Type 0) (es : List Waiting) (x : Waiti
 pairs_push P [] x pairs each = (tt, tt)
 pairs_push P (e ∷ es) x pairs each = (each_push (λ f. P f e) es x pairs.0 each.0, pairs_push P es x pairs.1 each.1)
 
-each_without : (P : Waiting → Type 0) (n : ℕ) (es : List Waiting) → AllByRecursion P es → AllByRecursion P (without n es)
+each_without : (P : Waiting → Type 0) (n : ℕ) (es : List Waiting) → AllByRecursion P es → AllByRecursion P (without_entry n es)
 each_without P n [] all = tt
-each_without P n (e ∷ es) all = cond_both (eqb e.number n) (without n es) (e ∷ without n es) (λ fs. AllByRecursion P fs) (λ _. each_without P n es all.1) (λ _. (all.0, each_without P n es all.1))
+each_without P n (e ∷ es) all = cond_both (eqb e.number n) (without_entry n es) (e ∷ without_entry n es) (λ fs. AllByRecursion P fs) (λ _. each_without P n es all.1) (λ _. (all.0, each_without P n es all.1))
 
-pairs_without : (P : Waiting → Waiting → Type 0) (n : ℕ) (es : List Waiting) → AllPairs P es → AllPairs P (without n es)
+pairs_without : (P : Waiting → Waiting → Type 0) (n : ℕ) (es : List Waiting) → AllPairs P es → AllPairs P (without_entry n es)
 pairs_without P n [] pairs = tt
-pairs_without P n (e ∷ es) pairs = cond_both (eqb e.number n) (without n es) (e ∷ without n es) (λ fs. AllPairs P fs) (λ _. pairs_without P n es pairs.1) (λ _. (each_without (λ f. P f e) n es pairs.0, pairs_without P n es pairs.1))
+pairs_without P n (e ∷ es) pairs = cond_both (eqb e.number n) (without_entry n es) (e ∷ without_entry n es) (λ fs. AllPairs P fs) (λ _. pairs_without P n es pairs.1) (λ _. (each_without (λ f. P f e) n es pairs.0, pairs_without P n es pairs.1))
 
-row_joined : (o : Option ℕ) (line : Line) (b : Buffer) → InRow b → InRow (record { made = b.made + one_if_none o; age = b.age; waiting = joined o (next_entry line b) b.waiting })
+row_joined : (o : Option ℕ) (line : Line) (b : Buffer) → InRow b → InRow (record { made = b.made + one_if_none o; age = b.age; waiting = entries_after_write o (next_entry line b) b.waiting })
 row_joined (Some m) line b row = record { each = each_map (Within b.made b.age) (Within (b.made + 0) b.age) b.waiting (λ e w. record { counted = w.counted; made = omega (arith, w.made); age = w.age }) row.each; pairs = row.pairs }
 row_joined None line b row =
     let x : Waiting = next_entry line b in
@@ -66,13 +66,13 @@ row_older : (b : Buffer) (age : ℕ) → b.age ≤ age → InRow b → InRow (re
 row_older b age more row = record { each = each_map (Within b.made b.age) (Within b.made age) b.waiting (λ e w. record { counted = w.counted; made = w.made; age = omega (arith, more, w.age) }) row.each; pairs = row.pairs }
 
 row_write : (line : Line) (l : ℕ) (plain : Bool) (b : Buffer) → InRow b
-    → InRow (record { made = cond plain (b.made + one_if_none (joins l b.age b.waiting)) b.made; age = b.age; waiting = cond plain (joined (joins l b.age b.waiting) (next_entry line b) b.waiting) b.waiting })
-row_write line l true b row = row_joined (joins l b.age b.waiting) line b row
+    → InRow (record { made = cond plain (b.made + one_if_none (entry_joined l b.age b.waiting)) b.made; age = b.age; waiting = cond plain (entries_after_write (entry_joined l b.age b.waiting) (next_entry line b) b.waiting) b.waiting })
+row_write line l true b row = row_joined (entry_joined l b.age b.waiting) line b row
 row_write line l false b row = record { each = row.each; pairs = row.pairs }
 
 row_access : (a : Access) (b : Buffer) → InRow b → InRow (buffer_after (outcome.Access a) b)
 row_access a b row =
-    let now : Buffer = record { made = cond (is_plain_write a.kind) (b.made + one_if_none (joins (line_of a.address) b.age b.waiting)) b.made; age = b.age; waiting = cond (is_plain_write a.kind) (joined (joins (line_of a.address) b.age b.waiting) (next_entry (line_at a.address) b) b.waiting) b.waiting } in
+    let now : Buffer = record { made = cond (is_plain_write a.kind) (b.made + one_if_none (entry_joined (line_of a.address) b.age b.waiting)) b.made; age = b.age; waiting = cond (is_plain_write a.kind) (entries_after_write (entry_joined (line_of a.address) b.age b.waiting) (next_entry (line_at a.address) b) b.waiting) b.waiting } in
     row_older now (cond (is_write_barrier a.kind) (b.age + 1) b.age) (cond_both (is_write_barrier a.kind) (b.age + 1) b.age (λ n. b.age ≤ n) (λ _. omega arith) (λ _. omega arith)) (row_write (line_at a.address) (line_of a.address) (is_plain_write a.kind) b row)
 
 row_own : (o : Outcome) (b : Buffer) → InRow b → InRow (buffer_after o b)
@@ -86,7 +86,7 @@ row_own (outcome.Polled x y z) b row = record { each = row.each; pairs = row.pai
 
 in_row : (p : ℕ) (h : List Record) → InRow (buffer p h)
 in_row p [] = record { each = tt; pairs = tt }
-in_row p (r ∷ h) = cond_both (by p r) (buffer_after r.outcome (buffer p h)) (buffer p h) (λ b. InRow b) (λ _. row_own r.outcome (buffer p h) (in_row p h)) (λ _. in_row p h)
+in_row p (r ∷ h) = cond_both (is_of p r) (buffer_after r.outcome (buffer p h)) (buffer p h) (λ b. InRow b) (λ _. row_own r.outcome (buffer p h) (in_row p h)) (λ _. in_row p h)
 
 -- what was made and not drained waits
 has_push : (n : ℕ) (es fs : List Waiting) → has_number n es ≡ true → has_number n (es ++ fs) ≡ true
@@ -97,7 +97,7 @@ has_last : (n : ℕ) (es : List Waiting) (x : Waiting) → x.number ≡ n → ha
 has_last n [] x same = rw (eq-eqb x.number n same) refl
 has_last n (e ∷ es) x same = or_right (eqb e.number n) (has_number n (es ++ x ∷ [])) (has_last n es x same)
 
-has_without : (m n : ℕ) (es : List Waiting) → eqb m n ≡ false → has_number n es ≡ true → has_number n (without m es) ≡ true
+has_without : (m n : ℕ) (es : List Waiting) → eqb m n ≡ false → has_number n es ≡ true → has_number n (without_entry m es) ≡ true
 has_without m n [] differs e = e
 has_without m n (x ∷ es) differs e =
     ⊎_elim
@@ -105,14 +105,14 @@ has_without m n (x ∷ es) differs e =
     let other : eqb x.number n ≡ false = ne_eqb x.number n (λ same. eqb-false m n differs (sym (eqb-true x.number m gone) ∙ same)) in
     rw gone (has_without m n es differs (rw other at e)))
     (λ (stays : eqb x.number m ≡ false).
-    rw stays (⊎_elim (λ here. or_left (eqb x.number n) (has_number n (without m es)) here) (λ there. or_right (eqb x.number n) (has_number n (without m es)) (has_without m n es differs there)) (or_cases (eqb x.number n) (has_number n es) e)))
+    rw stays (⊎_elim (λ here. or_left (eqb x.number n) (has_number n (without_entry m es)) here) (λ there. or_right (eqb x.number n) (has_number n (without_entry m es)) (has_without m n es differs there)) (or_cases (eqb x.number n) (has_number n es) e)))
     (cases_Bool (eqb x.number m))
 
 -- each number so far, unless it is drained
 abbrev Remains : Buffer → Option ℕ → ℕ → Type 0
 Remains b turn n = 1 ≤ n → n ≤ b.made → turn ≡ None → has_number n b.waiting ≡ true
 
-remains_joined : (o : Option ℕ) (line : Line) (b : Buffer) (turn : Option ℕ) (n : ℕ) → Remains b turn n → Remains (record { made = b.made + one_if_none o; age = b.age; waiting = joined o (next_entry line b) b.waiting }) turn n
+remains_joined : (o : Option ℕ) (line : Line) (b : Buffer) (turn : Option ℕ) (n : ℕ) → Remains b turn n → Remains (record { made = b.made + one_if_none o; age = b.age; waiting = entries_after_write o (next_entry line b) b.waiting }) turn n
 remains_joined (Some m) line b turn n was = λ low high none. was low (omega arith) none
 remains_joined None line b turn n was = λ low high none.
     ⊎_elim
@@ -121,8 +121,8 @@ remains_joined None line b turn n was = λ low high none.
     (cases_lt b.made n)
 
 remains_write : (line : Line) (l : ℕ) (plain : Bool) (b : Buffer) (age : ℕ) (turn : Option ℕ) (n : ℕ) → Remains b turn n
-    → Remains (record { made = cond plain (b.made + one_if_none (joins l b.age b.waiting)) b.made; age = age; waiting = cond plain (joined (joins l b.age b.waiting) (next_entry line b) b.waiting) b.waiting }) turn n
-remains_write line l true b age turn n was = remains_joined (joins l b.age b.waiting) line b turn n was
+    → Remains (record { made = cond plain (b.made + one_if_none (entry_joined l b.age b.waiting)) b.made; age = age; waiting = cond plain (entries_after_write (entry_joined l b.age b.waiting) (next_entry line b) b.waiting) b.waiting }) turn n
+remains_write line l true b age turn n was = remains_joined (entry_joined l b.age b.waiting) line b turn n was
 remains_write line l false b age turn n was = was
 
 remains_own : (o : Outcome) (b : Buffer) (t n : ℕ) (turn : Option ℕ) → Remains b turn n → Remains (buffer_after o b) (cond (drains n o) (Some t) turn) n
@@ -142,9 +142,9 @@ remains : (p n : ℕ) (h : List Record) → Remains (buffer p h) (drained h p n)
 remains p n [] = λ low high none. absurd (omega (arith, low, high))
 remains p n (r ∷ h) =
     ⊎_elim
-    (λ (own : by p r ≡ true). λ low high none. rw own (remains_own r.outcome (buffer p h) (turns h + 1) n (drained h p n) (remains p n h) low (rw own at high) (rw own at none)))
-    (λ (foreign : by p r ≡ false). λ low high none. rw foreign (remains p n h low (rw foreign at high) (rw foreign at none)))
-    (cases_Bool (by p r))
+    (λ (own : is_of p r ≡ true). λ low high none. rw own (remains_own r.outcome (buffer p h) (turns h + 1) n (drained h p n) (remains p n h) low (rw own at high) (rw own at none)))
+    (λ (foreign : is_of p r ≡ false). λ low high none. rw foreign (remains p n h low (rw foreign at high) (rw foreign at none)))
+    (cases_Bool (is_of p r))
 
 -- the entry of a number that waits
 has_among : (n : ℕ) (es : List Waiting) → has_number n es ≡ true → (e : Waiting) × Among e es × (e.number ≡ n)
@@ -194,21 +194,21 @@ one_line_and_age image ps h inside run p e f a b line age =
     one_number h p e f a b (((kept h (run_fits image ps h inside run)).sound p).unique e.number f.number f.line.number f.age (rw (← line, ← age) we) wf)
 
 -- ages are counts of WMBs
-age_own : (o : Outcome) (b : Buffer) → (buffer_after o b).age ≡ cond (made (λ a. is_write_barrier a.kind) o) (b.age + 1) b.age
+age_own : (o : Outcome) (b : Buffer) → (buffer_after o b).age ≡ cond (makes_access (λ a. is_write_barrier a.kind) o) (b.age + 1) b.age
 age_own o b = refl
 
 pub age_counts : (h : List Record) (p : ℕ) → (buffer p h).age ≡ write_barriers p h
 age_counts [] p = refl
 age_counts (r ∷ h) p =
     ⊎_elim
-    (λ (own : by p r ≡ true). ⊎_elim
-    (λ (parts : made (λ a. is_write_barrier a.kind) r.outcome ≡ true). rw own (rw parts (rw (age_counts h p) refl)))
-    (λ (other : made (λ a. is_write_barrier a.kind) r.outcome ≡ false). rw own (rw other (age_counts h p)))
-    (cases_Bool (made (λ a. is_write_barrier a.kind) r.outcome)))
-    (λ (foreign : by p r ≡ false). rw foreign (age_counts h p))
-    (cases_Bool (by p r))
+    (λ (own : is_of p r ≡ true). ⊎_elim
+    (λ (parts : makes_access (λ a. is_write_barrier a.kind) r.outcome ≡ true). rw own (rw parts (rw (age_counts h p) refl)))
+    (λ (other : makes_access (λ a. is_write_barrier a.kind) r.outcome ≡ false). rw own (rw other (age_counts h p)))
+    (cases_Bool (makes_access (λ a. is_write_barrier a.kind) r.outcome)))
+    (λ (foreign : is_of p r ≡ false). rw foreign (age_counts h p))
+    (cases_Bool (is_of p r))
 
-pub parts_count : (image : ℕ → ℕ) (ps : Processors) (h : List Record) → AreInLine ps → IsRun image ps h → (p : ℕ) → parts_in p (accesses h) ≡ write_barriers p h
+pub parts_count : (image : ℕ → ℕ) (ps : Processors) (h : List Record) → AreInLine ps → IsRun image ps h → (p : ℕ) → write_barriers_in p (accesses h) ≡ write_barriers p h
 parts_count image ps h inside run p = (kept h (run_fits image ps h inside run)).age p ∙ age_counts h p
 
 -- where an entry was made
@@ -219,16 +219,16 @@ among_push : (e x : Waiting) (es : List Waiting) → Among e (es ++ x ∷ []) �
 among_push e x [] a = ⊎_elim (λ same. inr same) (λ b. absurd b) a
 among_push e x (y ∷ es) a = ⊎_elim (λ here. inl (inl here)) (λ back. ⊎_elim (λ was. inl (inr was)) (λ same. inr same) (among_push e x es back)) a
 
-among_joined : (o : Option ℕ) (e x : Waiting) (es : List Waiting) → Among e (joined o x es) → Among e es ⊎ (x ≡ e)
+among_joined : (o : Option ℕ) (e x : Waiting) (es : List Waiting) → Among e (entries_after_write o x es) → Among e es ⊎ (x ≡ e)
 among_joined None e x es a = among_push e x es a
 among_joined (Some m) e x es a = inl a
 
-among_without : (n : ℕ) (e : Waiting) (es : List Waiting) → Among e (without n es) → Among e es
+among_without : (n : ℕ) (e : Waiting) (es : List Waiting) → Among e (without_entry n es) → Among e es
 among_without n e [] a = a
 among_without n e (x ∷ es) a =
     ⊎_elim
     (λ (gone : eqb x.number n ≡ true). inr (among_without n e es (rw gone at a)))
-    (λ (stays : eqb x.number n ≡ false). let b : Among e (x ∷ without n es) = rw stays at a in ⊎_elim (λ here. inl here) (λ back. inr (among_without n e es back)) b)
+    (λ (stays : eqb x.number n ≡ false). let b : Among e (x ∷ without_entry n es) = rw stays at a in ⊎_elim (λ here. inl here) (λ back. inr (among_without n e es back)) b)
     (cases_Bool (eqb x.number n))
 
 -- by a plain write now, or by one before
@@ -250,7 +250,7 @@ made_own p v (outcome.Access a) h e low own inside was =
       line = sym (ap (λ (z : Waiting). z.line.number) new) ∙ line_at-number a.address low;
       age = sym (ap (λ (z : Waiting). z.age) new) ∙ age_counts h p;
     })
-    (among_joined (joins (line_of a.address) (buffer p h).age (buffer p h).waiting) e (next_entry (line_at a.address) (buffer p h)) (buffer p h).waiting (rw plain at inside)))
+    (among_joined (entry_joined (line_of a.address) (buffer p h).age (buffer p h).waiting) e (next_entry (line_at a.address) (buffer p h)) (buffer p h).waiting (rw plain at inside)))
     (λ (other : is_plain_write a.kind ≡ false). made_later p (record { event = v; outcome = outcome.Access a }) h e (was (rw other at inside)))
     (cases_Bool (is_plain_write a.kind))
 made_own p v (outcome.Drained n l t) h e low own inside was = made_later p (record { event = v; outcome = outcome.Drained n l t }) h e (was (among_without n e (buffer p h).waiting inside))
@@ -273,9 +273,9 @@ was_made : (p : ℕ) (h : List Record) (e : Waiting) → Fitting h → Among e (
 was_made p [] e fit inside = absurd inside
 was_made p (r ∷ h) e fit inside =
     ⊎_elim
-    (λ (own : by p r ≡ true). made_own p r.event r.outcome h e (addressed_of r.event.cpu.number r.outcome h fit.0) (eqb-true r.event.cpu.number p own) (rw own at inside) (λ old. was_made p h e fit.1 old))
-    (λ (foreign : by p r ≡ false). made_later p r h e (was_made p h e fit.1 (rw foreign at inside)))
-    (cases_Bool (by p r))
+    (λ (own : is_of p r ≡ true). made_own p r.event r.outcome h e (addressed_of r.event.cpu.number r.outcome h fit.0) (eqb-true r.event.cpu.number p own) (rw own at inside) (λ old. was_made p h e fit.1 old))
+    (λ (foreign : is_of p r ≡ false). made_later p r h e (was_made p h e fit.1 (rw foreign at inside)))
+    (cases_Bool (is_of p r))
 
 pub entry_was_made : (image : ℕ → ℕ) (ps : Processors) (h : List Record) → AreInLine ps → IsRun image ps h → (p : ℕ) (e : Waiting) → Contains (buffer p h).waiting e → WasMade h p e
 entry_was_made image ps h inside run p e a = was_made p h e (run_fits image ps h inside run) (among_of (buffer p h).waiting e a)

@@ -15,13 +15,13 @@ use Rattle.axp_model.specs.Entries.{Waiting, buffer, oldest}
 use Rattle.axp_model.specs.Late.{late}
 use Rattle.axp_access.specs.declared.Intent.{Intent}
 use Rattle.axp_access.specs.Acts.{is_poll_act, is_step}
-use Rattle.axp_model.specs.Outcomes.{IsRun, step_by, stepped, filled, drained_as, taken, outcome_by, outcome_of}
+use Rattle.axp_model.specs.Outcomes.{IsRun, step_outcome_by, step_outcome, fill_outcome, drain_outcome, take_outcome, outcome_by, outcome_of}
 use Rattle.axp_model.specs.Processors.{Processors}
 use Rattle.axp_access.specs.declared.Record.{Record}
 use Rattle.axp_model.specs.Records.{access_in}
 use Rattle.axp_access.specs.Kinds.{is_write, is_plain_write, is_conditional, is_signal, is_write_barrier}
 use Rattle.axp_model.specs.Accesses.{with_access, accesses}
-use Rattle.axp_access.specs.Numbering.{Item, cpu_of, next_item, parts_in}
+use Rattle.axp_access.specs.Numbering.{NumberedAccess, cpu_of, next_access, write_barriers_in}
 use Rattle.axp_access.specs.Order.{precedes}
 use Rattle.axp_model.specs.Issue.{barrier_demands}
 use Rattle.axp_laws.specs.EntryLaws.{IsParted, ArePartedWrites, access_of}
@@ -29,11 +29,11 @@ use Rattle.axp_laws.proofs.CauseMoments.{Among, among_of}
 use Rattle.axp_laws.proofs.PollSignals.{contains_of}
 
 -- each of a list is the next of those behind it
-abbrev pub Listed : List Item → Type 0
+abbrev pub Listed : List NumberedAccess → Type 0
 Listed [] = Unit {0}
-Listed (u ∷ us) = (u ≡ next_item us u.access) × Listed us
+Listed (u ∷ us) = (u ≡ next_access us u.access) × Listed us
 
-listed_with : (o : Option Access) (us : List Item) → Listed us → Listed (with_access o us)
+listed_with : (o : Option Access) (us : List NumberedAccess) → Listed us → Listed (with_access o us)
 listed_with None us l = l
 listed_with (Some a) us l = (refl, l)
 
@@ -41,21 +41,21 @@ pub listed : (h : List Record) → Listed (accesses h)
 listed [] = tt
 listed (r ∷ h) = listed_with (access_in r.event.cpu r.outcome) (accesses h) (listed h)
 
-number_is : (u : Item) (us : List Item) → u ≡ next_item us u.access → u.number ≡ length us + 1
+number_is : (u : NumberedAccess) (us : List NumberedAccess) → u ≡ next_access us u.access → u.number ≡ length us + 1
 number_is u us e = ap (λ z. z.number) e
 
-parts_is : (u : Item) (us : List Item) → u ≡ next_item us u.access → u.parts ≡ parts_in (cpu_of u) us
+parts_is : (u : NumberedAccess) (us : List NumberedAccess) → u ≡ next_access us u.access → u.parts ≡ write_barriers_in (cpu_of u) us
 parts_is u us e = ap (λ z. z.parts) e
 
-number_at : (us : List Item) (k : ℕ) (u : Item) → Listed us → slice_get us k ≡ Some u → u.number + k ≡ length us
+number_at : (us : List NumberedAccess) (k : ℕ) (u : NumberedAccess) → Listed us → slice_get us k ≡ Some u → u.number + k ≡ length us
 number_at [] k u l e = cc
-number_at (x ∷ us) zero u l e = let same : x ≡ u = cc in let number = ap (λ (z : Item). z.number) same in omega (arith, number, number_is x us l.0)
+number_at (x ∷ us) zero u l e = let same : x ≡ u = cc in let number = ap (λ (z : NumberedAccess). z.number) same in omega (arith, number, number_is x us l.0)
 number_at (x ∷ us) (suc k) u l e = omega (arith, number_at us k u l.1 e)
 
-pub numbers_down : (h : List Record) (k : ℕ) (u : Item) → slice_get (accesses h) k ≡ Some u → u.number + k ≡ length (accesses h)
+pub numbers_down : (h : List Record) (k : ℕ) (u : NumberedAccess) → slice_get (accesses h) k ≡ Some u → u.number + k ≡ length (accesses h)
 numbers_down h k u e = number_at (accesses h) k u (listed h) e
 
-access_with : (o : Option Access) (us : List Item) → map (λ u. u.access) (with_access o us) ≡ cons_option o (map (λ u. u.access) us)
+access_with : (o : Option Access) (us : List NumberedAccess) → map (λ u. u.access) (with_access o us) ≡ cons_option o (map (λ u. u.access) us)
 access_with None us = refl
 access_with (Some a) us = refl
 
@@ -63,52 +63,52 @@ pub accesses_shown : (h : List Record) → map (λ u. u.access) (accesses h) ≡
 accesses_shown [] = refl
 accesses_shown (r ∷ h) = access_with (access_of r) (accesses h) ∙ ap (λ as_. cons_option (access_of r) as_) (accesses_shown h)
 
-number_most : (us : List Item) (u : Item) → Listed us → Among u us → u.number ≤ length us
+number_most : (us : List NumberedAccess) (u : NumberedAccess) → Listed us → Among u us → u.number ≤ length us
 number_most [] u l a = absurd a
-number_most (x ∷ us) u l a = ⊎_elim (λ (same : x ≡ u). let number = ap (λ (z : Item). z.number) same in omega (arith, number, number_is x us l.0)) (λ back. omega (arith, number_most us u l.1 back)) a
+number_most (x ∷ us) u l a = ⊎_elim (λ (same : x ≡ u). let number = ap (λ (z : NumberedAccess). z.number) same in omega (arith, number, number_is x us l.0)) (λ back. omega (arith, number_most us u l.1 back)) a
 
-parts_grow : (p : ℕ) (x : Item) (us : List Item) → parts_in p us ≤ parts_in p (x ∷ us)
-parts_grow p x us = cond_both (eqb (cpu_of x) p && is_write_barrier x.access.kind) (parts_in p us + 1) (parts_in p us) (λ n. parts_in p us ≤ n) (λ _. omega arith) (λ _. omega arith)
+parts_grow : (p : ℕ) (x : NumberedAccess) (us : List NumberedAccess) → write_barriers_in p us ≤ write_barriers_in p (x ∷ us)
+parts_grow p x us = cond_both (eqb (cpu_of x) p && is_write_barrier x.access.kind) (write_barriers_in p us + 1) (write_barriers_in p us) (λ n. write_barriers_in p us ≤ n) (λ _. omega arith) (λ _. omega arith)
 
 -- an own access has no more WMBs before it than there are
-parts_most : (us : List Item) (u : Item) → Listed us → Among u us → u.parts ≤ parts_in (cpu_of u) us
+parts_most : (us : List NumberedAccess) (u : NumberedAccess) → Listed us → Among u us → u.parts ≤ write_barriers_in (cpu_of u) us
 parts_most [] u l a = absurd a
 parts_most (x ∷ us) u l a =
     ⊎_elim
-    (λ (same : x ≡ u). subst (λ (z : Item). z.parts ≤ parts_in (cpu_of z) (x ∷ us)) same (omega (arith, parts_is x us l.0, parts_grow (cpu_of x) x us)))
+    (λ (same : x ≡ u). subst (λ (z : NumberedAccess). z.parts ≤ write_barriers_in (cpu_of z) (x ∷ us)) same (omega (arith, parts_is x us l.0, parts_grow (cpu_of x) x us)))
     (λ back. omega (arith, parts_most us u l.1 back, parts_grow (cpu_of u) x us))
     a
 
 -- a WMB of the processor is behind the newest of these and after u
-record HasParted (us : List Item) (u : Item) : Type 0 where
-  barrier : Item
+record HasParted (us : List NumberedAccess) (u : NumberedAccess) : Type 0 where
+  barrier : NumberedAccess
   known : Among barrier us
   parts : is_write_barrier barrier.access.kind ≡ true
   own : cpu_of barrier ≡ cpu_of u
   after : u.number < barrier.number
 
-abbrev Parts : List Item → Item → Type 0
-Parts us u = (u.parts < parts_in (cpu_of u) us) ↔ ((is_write_barrier u.access.kind ≡ true) ⊎ HasParted us u)
+abbrev Parts : List NumberedAccess → NumberedAccess → Type 0
+Parts us u = (u.parts < write_barriers_in (cpu_of u) us) ↔ ((is_write_barrier u.access.kind ≡ true) ⊎ HasParted us u)
 
-parts_here : (x : Item) (us : List Item) → Listed (x ∷ us) → Parts (x ∷ us) x
+parts_here : (x : NumberedAccess) (us : List NumberedAccess) → Listed (x ∷ us) → Parts (x ∷ us) x
 parts_here x us l =
     let was = parts_is x us l.0 in
     let number = number_is x us l.0 in (
       λ less. ⊎_elim
           (λ (yes_ : is_write_barrier x.access.kind ≡ true). inl yes_)
           (λ (no_ : is_write_barrier x.access.kind ≡ false).
-          let same : parts_in (cpu_of x) (x ∷ us) ≡ parts_in (cpu_of x) us = rw (eq-eqb (cpu_of x) (cpu_of x) refl, no_) refl in
+          let same : write_barriers_in (cpu_of x) (x ∷ us) ≡ write_barriers_in (cpu_of x) us = rw (eq-eqb (cpu_of x) (cpu_of x) refl, no_) refl in
           absurd (omega (arith, was, same, less)))
           (cases_Bool (is_write_barrier x.access.kind)),
       λ either. ⊎_elim
           (λ (yes_ : is_write_barrier x.access.kind ≡ true).
-          let more : parts_in (cpu_of x) (x ∷ us) ≡ parts_in (cpu_of x) us + 1 = rw (eq-eqb (cpu_of x) (cpu_of x) refl, yes_) refl in
+          let more : write_barriers_in (cpu_of x) (x ∷ us) ≡ write_barriers_in (cpu_of x) us + 1 = rw (eq-eqb (cpu_of x) (cpu_of x) refl, yes_) refl in
           omega (arith, was, more))
           (λ (is : HasParted (x ∷ us) x). absurd (omega (arith, is.after, number, number_most (x ∷ us) is.barrier l is.known)))
           either,
     )
 
-parts_back : (x : Item) (us : List Item) (u : Item) → Listed (x ∷ us) → Among u us → Parts us u → Parts (x ∷ us) u
+parts_back : (x : NumberedAccess) (us : List NumberedAccess) (u : NumberedAccess) → Listed (x ∷ us) → Among u us → Parts us u → Parts (x ∷ us) u
 parts_back x us u l a was =
     let number = number_is x us l.0 in
     let most = parts_most us u l.1 a in
@@ -116,12 +116,12 @@ parts_back x us u l a was =
     ⊎_elim
     (λ (here : (eqb (cpu_of x) (cpu_of u) && is_write_barrier x.access.kind) ≡ true).
     let both = and_parts (eqb (cpu_of x) (cpu_of u)) (is_write_barrier x.access.kind) here in
-    let more : parts_in (cpu_of u) (x ∷ us) ≡ parts_in (cpu_of u) us + 1 = rw here refl in (
+    let more : write_barriers_in (cpu_of u) (x ∷ us) ≡ write_barriers_in (cpu_of u) us + 1 = rw here refl in (
       λ less. inr (record { barrier = x; known = inl refl; parts = both.1; own = eqb-true (cpu_of x) (cpu_of u) both.0; after = omega (arith, number, low) }),
       λ either. omega (arith, more, most),
     ))
     (λ (other : (eqb (cpu_of x) (cpu_of u) && is_write_barrier x.access.kind) ≡ false).
-    let same : parts_in (cpu_of u) (x ∷ us) ≡ parts_in (cpu_of u) us = rw other refl in (
+    let same : write_barriers_in (cpu_of u) (x ∷ us) ≡ write_barriers_in (cpu_of u) us = rw other refl in (
       λ less. ⊎_elim
           (λ yes_. inl yes_)
           (λ (is : HasParted us u). inr (record { barrier = is.barrier; known = inr is.known; parts = is.parts; own = is.own; after = is.after }))
@@ -130,38 +130,38 @@ parts_back x us u l a was =
           (λ yes_. inl yes_)
           (λ (is : HasParted (x ∷ us) u). ⊎_elim
           (λ (itself : x ≡ is.barrier).
-          absurd (false≢true (sym other ∙ subst (λ (z : Item). (eqb (cpu_of z) (cpu_of u) && is_write_barrier z.access.kind) ≡ true) (sym itself) (and_from (eqb (cpu_of is.barrier) (cpu_of u)) (is_write_barrier is.barrier.access.kind) (eq-eqb (cpu_of is.barrier) (cpu_of u) is.own) is.parts))))
+          absurd (false≢true (sym other ∙ subst (λ (z : NumberedAccess). (eqb (cpu_of z) (cpu_of u) && is_write_barrier z.access.kind) ≡ true) (sym itself) (and_from (eqb (cpu_of is.barrier) (cpu_of u)) (is_write_barrier is.barrier.access.kind) (eq-eqb (cpu_of is.barrier) (cpu_of u) is.own) is.parts))))
           (λ back. inr (record { barrier = is.barrier; known = back; parts = is.parts; own = is.own; after = is.after }))
           is.known)
           either) in omega (arith, same, less),
     ))
     (cases_Bool (eqb (cpu_of x) (cpu_of u) && is_write_barrier x.access.kind))
 
-parts_of : (us : List Item) (u : Item) → Listed us → Among u us → Parts us u
+parts_of : (us : List NumberedAccess) (u : NumberedAccess) → Listed us → Among u us → Parts us u
 parts_of [] u l a = absurd a
-parts_of (x ∷ us) u l a = ⊎_elim (λ (same : x ≡ u). subst (λ (z : Item). Parts (x ∷ us) z) same (parts_here x us l)) (λ back. parts_back x us u l back (parts_of us u l.1 back)) a
+parts_of (x ∷ us) u l a = ⊎_elim (λ (same : x ≡ u). subst (λ (z : NumberedAccess). Parts (x ∷ us) z) same (parts_here x us l)) (λ back. parts_back x us u l back (parts_of us u l.1 back)) a
 
 -- a WMB of the processor is among these, and between u and v
-record HasBetween (us : List Item) (u v : Item) : Type 0 where
-  barrier : Item
+record HasBetween (us : List NumberedAccess) (u v : NumberedAccess) : Type 0 where
+  barrier : NumberedAccess
   known : Among barrier us
   parts : is_write_barrier barrier.access.kind ≡ true
   own : cpu_of barrier ≡ cpu_of u
   after : u.number < barrier.number
   until : barrier.number < v.number
 
-abbrev Between : List Item → Item → Item → Type 0
+abbrev Between : List NumberedAccess → NumberedAccess → NumberedAccess → Type 0
 Between us u v = (u.parts < v.parts) ↔ ((is_write_barrier u.access.kind ≡ true) ⊎ HasBetween us u v)
 
-back_of : (x : Item) (us : List Item) (u : Item) → Listed (x ∷ us) → Among u (x ∷ us) → u.number < length us + 1 → Among u us
-back_of x us u l a less = ⊎_elim (λ (same : x ≡ u). let number = ap (λ (z : Item). z.number) same in absurd (omega (arith, number, number_is x us l.0, less))) (λ back. back) a
+back_of : (x : NumberedAccess) (us : List NumberedAccess) (u : NumberedAccess) → Listed (x ∷ us) → Among u (x ∷ us) → u.number < length us + 1 → Among u us
+back_of x us u l a less = ⊎_elim (λ (same : x ≡ u). let number = ap (λ (z : NumberedAccess). z.number) same in absurd (omega (arith, number, number_is x us l.0, less))) (λ back. back) a
 
 -- where v is the newest
-between_last : (x : Item) (us : List Item) (u : Item) → Listed (x ∷ us) → Among u us → cpu_of u ≡ cpu_of x → Between (x ∷ us) u x
+between_last : (x : NumberedAccess) (us : List NumberedAccess) (u : NumberedAccess) → Listed (x ∷ us) → Among u us → cpu_of u ≡ cpu_of x → Between (x ∷ us) u x
 between_last x us u l a own =
     let number = number_is x us l.0 in
     let parts = parts_is x us l.0 in
-    let counted : parts_in (cpu_of u) us ≡ parts_in (cpu_of x) us = ap (λ p. parts_in p us) own in
+    let counted : write_barriers_in (cpu_of u) us ≡ write_barriers_in (cpu_of x) us = ap (λ p. write_barriers_in p us) own in
     let was = parts_of us u l.1 a in (
       λ less. ⊎_elim
           (λ yes_. inl yes_)
@@ -173,7 +173,7 @@ between_last x us u l a own =
           either) in omega (arith, parts, counted, less),
     )
 
-between_back : (x : Item) (us : List Item) (u v : Item) → Listed (x ∷ us) → Among v us → Between us u v → Between (x ∷ us) u v
+between_back : (x : NumberedAccess) (us : List NumberedAccess) (u v : NumberedAccess) → Listed (x ∷ us) → Among v us → Between us u v → Between (x ∷ us) u v
 between_back x us u v l a was =
     let low = number_most us v l.1 a in (
       λ less. ⊎_elim
@@ -186,24 +186,24 @@ between_back x us u v l a was =
           either),
     )
 
-between : (us : List Item) (u v : Item) → Listed us → Among u us → Among v us → cpu_of u ≡ cpu_of v → u.number < v.number → Between us u v
+between : (us : List NumberedAccess) (u v : NumberedAccess) → Listed us → Among u us → Among v us → cpu_of u ≡ cpu_of v → u.number < v.number → Between us u v
 between [] u v l a b own less = absurd a
 between (x ∷ us) u v l a b own less =
     ⊎_elim
     (λ (same : x ≡ v).
-    let number = ap (λ (z : Item). z.number) same in
+    let number = ap (λ (z : NumberedAccess). z.number) same in
     subst (λ z. Between (x ∷ us) u z) same (between_last x us u l (back_of x us u l a (omega (arith, number, number_is x us l.0, less))) (own ∙ sym (ap (λ z. cpu_of z) same))))
     (λ back. between_back x us u v l back (between us u v l.1 (back_of x us u l a (omega (arith, less, number_most us v l.1 back))) back own less))
     b
 
 -- in the words of the law
-parted_of : (h : List Record) (u v : Item) → HasBetween (accesses h) u v → IsParted h u v
+parted_of : (h : List Record) (u v : NumberedAccess) → HasBetween (accesses h) u v → IsParted h u v
 parted_of h u v is = record { barrier = is.barrier; known = contains_of (accesses h) is.barrier is.known; wmb = is.parts; own = is.own; after = is.after; until = is.until }
 
-between_of : (h : List Record) (u v : Item) → IsParted h u v → HasBetween (accesses h) u v
+between_of : (h : List Record) (u v : NumberedAccess) → IsParted h u v → HasBetween (accesses h) u v
 between_of h u v is = record { barrier = is.barrier; known = among_of (accesses h) is.barrier is.known; parts = is.wmb; own = is.own; after = is.after; until = is.until }
 
-pub parts_between : (h : List Record) (u v : Item) → Contains (accesses h) u → Contains (accesses h) v → cpu_of u ≡ cpu_of v → u.number < v.number → (u.parts < v.parts) ↔ ((is_write_barrier u.access.kind ≡ true) ⊎ IsParted h u v)
+pub parts_between : (h : List Record) (u v : NumberedAccess) → Contains (accesses h) u → Contains (accesses h) v → cpu_of u ≡ cpu_of v → u.number < v.number → (u.parts < v.parts) ↔ ((is_write_barrier u.access.kind ≡ true) ⊎ IsParted h u v)
 parts_between h u v a b own less =
     let exactly = between (accesses h) u v (listed h) (among_of (accesses h) u a) (among_of (accesses h) v b) own less in (
       λ more. ⊎_elim (λ yes_. inl yes_) (λ is. inr (parted_of h u v is)) (exactly.0 more),
@@ -215,7 +215,7 @@ write_is_none : (k : Kind) (b : Bool) → ((is_plain_write k || (is_conditional 
 write_is_none kind.WriteBarrier b w e = absurd (false≢true w)
 write_is_none _ b w e = absurd (false≢true e)
 
-pub demands_between : (h : List Record) (u v : Item) → Contains (accesses h) u → Contains (accesses h) v → (barrier_demands u v ≡ true) ↔ ArePartedWrites h u v
+pub demands_between : (h : List Record) (u v : NumberedAccess) → Contains (accesses h) u → Contains (accesses h) v → (barrier_demands u v ≡ true) ↔ ArePartedWrites h u v
 demands_between h u v a b = (
   λ demand.
       let x = and_parts (precedes u v) ((is_write u.access && is_write v.access) && ltb u.parts v.parts) demand in
@@ -238,23 +238,23 @@ demands_between h u v a b = (
 )
 
 -- which records show an access
-step_shows : (k : Kind) (image : ℕ → ℕ) (armed : Bool) (c : Cpu) (a s v : ℕ) (h : List Record) → is_some (access_in c (step_by k image armed c (record { kind = k; address = a; size = s; value = v }) h)) ≡ true
+step_shows : (k : Kind) (image : ℕ → ℕ) (armed : Bool) (c : Cpu) (a s v : ℕ) (h : List Record) → is_some (access_in c (step_outcome_by k image armed c (record { kind = k; address = a; size = s; value = v }) h)) ≡ true
 step_shows kind.Fetch image armed c a s v h = refl
 step_shows _ image armed c a s v h = refl
 
-want_shows : (image : ℕ → ℕ) (armed : Bool) (o : Option Wanted) (c : Cpu) (h : List Record) → is_some (access_in c (stepped image armed c o h)) ≡ is_some o
+want_shows : (image : ℕ → ℕ) (armed : Bool) (o : Option Wanted) (c : Cpu) (h : List Record) → is_some (access_in c (step_outcome image armed c o h)) ≡ is_some o
 want_shows image armed None c h = refl
 want_shows image armed (Some w) c h = step_shows w.kind image armed c w.address w.size w.value h
 
-drain_shows : (c : Cpu) (h : List Record) (o : Option Waiting) → is_some (access_in c (drained_as o h)) ≡ false
+drain_shows : (c : Cpu) (h : List Record) (o : Option Waiting) → is_some (access_in c (drain_outcome o h)) ≡ false
 drain_shows c h None = refl
 drain_shows c h (Some w) = refl
 
-take_shows : (c : Cpu) (p : ℕ) (h : List Record) (q : List (Line × ℕ)) → is_some (access_in c (taken p q h)) ≡ false
+take_shows : (c : Cpu) (p : ℕ) (h : List Record) (q : List (Line × ℕ)) → is_some (access_in c (take_outcome p q h)) ≡ false
 take_shows c p h [] = refl
 take_shows c p h ((line, turn) ∷ q) = refl
 
-fill_shows : (c : Cpu) (o : Option Wanted) (h : List Record) → is_some (access_in c (filled o h)) ≡ false
+fill_shows : (c : Cpu) (o : Option Wanted) (h : List Record) → is_some (access_in c (fill_outcome o h)) ≡ false
 fill_shows c None h = refl
 fill_shows c (Some a) h = refl
 

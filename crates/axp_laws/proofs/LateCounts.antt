@@ -10,16 +10,16 @@ use Rattle.axp_base.specs.LatePairs.{others, late_by_other}
 use Rattle.axp_access.specs.declared.Outcome.{Outcome}
 use Rattle.axp_access.specs.declared.Outcome.TheVariants as outcome
 use Rattle.axp_access.specs.declared.Record.{Record}
-use Rattle.axp_model.specs.Records.{by, turned, fences}
+use Rattle.axp_model.specs.Records.{is_of, line_of_turn, fences}
 use Rattle.axp_model.specs.Turns.{turns}
-use Rattle.axp_model.specs.Late.{late, takes}
+use Rattle.axp_model.specs.Late.{late, takes_from}
 use Rattle.axp_laws.specs.Counts.{others_since, takes_since}
 use Rattle.axp_laws.specs.LateLaws.{IsCounted}
 use Rattle.axp_laws.proofs.RunFacts.{FitsOutcome, Fitting}
 use Rattle.axp_laws.proofs.LateReached.{bank_of_line}
 
 -- what a Take takes is there
-taken_is_late : (p : ℕ) (b : Bank) (o : Outcome) (h : List Record) → FitsOutcome p o h → takes b o ≡ true → 0 < length (late p b h)
+taken_is_late : (p : ℕ) (b : Bank) (o : Outcome) (h : List Record) → FitsOutcome p o h → takes_from b o ≡ true → 0 < length (late p b h)
 taken_is_late p b (outcome.Taken line turn gone) h fit e =
     let shown : late p b h ≡ (line, turn) ∷ fit.0 = rw (← bank_of_line b (line_number line) e) fit.1 in
     rw shown (omega arith)
@@ -48,19 +48,19 @@ counted p b [] fit = record { rest = refl; within = omega arith }
 counted p b (r ∷ h) fit =
     let was = counted p b h fit.1 in
     ⊎_elim
-    (λ (own : by p r ≡ true).
+    (λ (own : is_of p r ≡ true).
     let its : FitsOutcome p r.outcome h = subst (λ q. FitsOutcome q r.outcome h) (eqb-true (cpu_number r.event.cpu) p own) fit.0 in
     ⊎_elim
     (λ (fence : fences r.outcome ≡ true). record { rest = rw own (rw fence refl); within = rw own (rw fence (omega arith)) })
     (λ (none : fences r.outcome ≡ false).
     ⊎_elim
-    (λ (t : takes b r.outcome ≡ true).
+    (λ (t : takes_from b r.outcome ≡ true).
     let now = counted_take (takes_since p b h) (late p b h) (others_since p b h) was.rest was.within (taken_is_late p b r.outcome h its t) in
     record { rest = rw own (rw none (rw t now.0)); within = rw own (rw none (rw t now.1)) })
-    (λ (t : takes b r.outcome ≡ false). record { rest = rw own (rw none (rw t was.rest)); within = rw own (rw none (rw t was.within)) })
-    (cases_Bool (takes b r.outcome)))
+    (λ (t : takes_from b r.outcome ≡ false). record { rest = rw own (rw none (rw t was.rest)); within = rw own (rw none (rw t was.within)) })
+    (cases_Bool (takes_from b r.outcome)))
     (cases_Bool (fences r.outcome)))
-    (λ (foreign : by p r ≡ false).
-    let now = counted_other b (takes_since p b h) (turns h + 1) (turned r.outcome) (late p b h) (others_since p b h) was.rest was.within in
+    (λ (foreign : is_of p r ≡ false).
+    let now = counted_other b (takes_since p b h) (turns h + 1) (line_of_turn r.outcome) (late p b h) (others_since p b h) was.rest was.within in
     record { rest = rw foreign now.0; within = rw foreign now.1 })
-    (cases_Bool (by p r))
+    (cases_Bool (is_of p r))

@@ -13,15 +13,15 @@ use Rattle.axp_access.specs.declared.Outcome.TheVariants as outcome
 use Rattle.axp_access.specs.declared.Place.{Place}
 use Rattle.axp_access.specs.declared.Place.TheVariants.{At, Entry, Absent}
 use Rattle.axp_access.specs.declared.Record.{Record}
-use Rattle.axp_model.specs.Records.{by, drains, turns_on}
+use Rattle.axp_model.specs.Records.{is_of, drains, turns_on}
 use Rattle.axp_access.specs.Kinds.{is_memory_write}
 use Rattle.axp_model.specs.Turns.{turns, drained}
 use Rattle.axp_model.specs.Entries.{Waiting, buffer, least_age, entry_for}
 use Rattle.axp_model.specs.Accesses.{accesses, times}
-use Rattle.axp_access.specs.Numbering.{Item, cpu_of}
+use Rattle.axp_access.specs.Numbering.{NumberedAccess, cpu_of}
 use Rattle.axp_access.specs.Order.{Spot, spot, spot_at}
 use Rattle.axp_laws.specs.Counts.{last_other}
-use Rattle.axp_laws.proofs.RunFacts.{Fits, FitsOutcome, Fitting, Known, KnownItem, Kept, SoundBuffer, waits, Named, Goes}
+use Rattle.axp_laws.proofs.RunFacts.{Fits, FitsOutcome, Fitting, Known, KnownItem, RunFacts, SoundBuffer, waits, Named, Goes}
 use Rattle.axp_laws.proofs.RunKnown.{waits_has}
 use Rattle.axp_laws.proofs.OrderDrains.{entry_write, of_age_waits}
 use Rattle.axp_laws.proofs.LateReached.{last_other_most}
@@ -31,13 +31,13 @@ use Rattle.axp_laws.proofs.RunSteps.{kept, fresh_at, turn_same}
 abbrev pub Bound : ℕ → Spot → Type 0
 Bound n s = s.last ≡ false → s.place ≤ n
 
-abbrev pub Seen : List Record → Item → Type 0
+abbrev pub Seen : List Record → NumberedAccess → Type 0
 Seen h w = (p : ℕ) → cpu_of w ≢ p → is_memory_write w.access ≡ true → Bound (last_other p (line_of w.access.address) h) (spot (times h) (cpu_of w) w.access.place)
 
 last_other_grows : (p l : ℕ) (r : Record) (h : List Record) → last_other p l h ≤ last_other p l (r ∷ h)
-last_other_grows p l r h = cond_both (not (by p r) && turns_on l r.outcome) (turns h + 1) (last_other p l h) (λ x. last_other p l h ≤ x) (λ _. omega (arith, last_other_most p l h)) (λ _. omega arith)
+last_other_grows p l r h = cond_both (not (is_of p r) && turns_on l r.outcome) (turns h + 1) (last_other p l h) (λ x. last_other p l h ≤ x) (λ _. omega (arith, last_other_most p l h)) (λ _. omega arith)
 
-last_other_new : (p l : ℕ) (r : Record) (h : List Record) → by p r ≡ false → turns_on l r.outcome ≡ true → last_other p l (r ∷ h) ≡ turns h + 1
+last_other_new : (p l : ℕ) (r : Record) (h : List Record) → is_of p r ≡ false → turns_on l r.outcome ≡ true → last_other p l (r ∷ h) ≡ turns h + 1
 last_other_new p l r h foreign on = rw foreign (rw on refl)
 
 -- the entry that a drain names is of its line
@@ -53,7 +53,7 @@ drain_line (outcome.Drained m line t) q n l g h fit sound e goes =
     eq-eqb (line_number line) l (sym named.4 ∙ sym same)
 drain_line _ q n l g h fit sound e goes = cc
 
-other_cpu : (p q : ℕ) (r : Record) → by q r ≡ true → q ≢ p → by p r ≡ false
+other_cpu : (p q : ℕ) (r : Record) → is_of q r ≡ true → q ≢ p → is_of p r ≡ false
 other_cpu p q r own apart = ne_eqb (cpu_number r.event.cpu) p (λ e. apart (sym (eqb-true (cpu_number r.event.cpu) q own) ∙ e))
 
 bound_more : (m n : ℕ) (s : Spot) → m ≤ n → Bound m s → Bound n s
@@ -65,19 +65,19 @@ seen_spot p q l g k (At t) r h fit sound known apart bound = bound_more (last_ot
 seen_spot p q l g k Absent r h fit sound known apart bound = bound_more (last_other p l h) (last_other p l (r ∷ h)) (spot (times h) q Absent) (last_other_grows p l r h) bound
 seen_spot p q l g k (Entry n) r h fit sound known apart bound =
     ⊎_elim
-    (λ (named : (by q r && drains n r.outcome) ≡ true).
-    let both = and_parts (by q r) (drains n r.outcome) named in
+    (λ (named : (is_of q r && drains n r.outcome) ≡ true).
+    let both = and_parts (is_of q r) (drains n r.outcome) named in
     let write : k ≡ kind.Write = entry_write k q l g n h known in
     let goes : Goes q l g (Entry n) h = rw write at known in
     let its : FitsOutcome q r.outcome h = subst (λ c. FitsOutcome c r.outcome h) (eqb-true (cpu_number r.event.cpu) q both.0) fit in
     let on : turns_on l r.outcome ≡ true = drain_line r.outcome q n l g h its sound both.1 goes in
     let now : last_other p l (r ∷ h) ≡ turns h + 1 = last_other_new p l r h (other_cpu p q r both.0 apart) on in
     rw now (rw named (λ _. omega arith)))
-    (λ (other : (by q r && drains n r.outcome) ≡ false).
+    (λ (other : (is_of q r && drains n r.outcome) ≡ false).
     rw other (bound_more (last_other p l h) (last_other p l (r ∷ h)) (spot (times h) q (Entry n)) (last_other_grows p l r h) bound))
-    (cases_Bool (by q r && drains n r.outcome))
+    (cases_Bool (is_of q r && drains n r.outcome))
 
-pub seen_step : (r : Record) (h : List Record) → FitsOutcome (cpu_number r.event.cpu) r.outcome h → Kept h → (w : Item) → KnownItem h w → Seen h w → Seen (r ∷ h) w
+pub seen_step : (r : Record) (h : List Record) → FitsOutcome (cpu_number r.event.cpu) r.outcome h → RunFacts h → (w : NumberedAccess) → KnownItem h w → Seen h w → Seen (r ∷ h) w
 seen_step r h fit whole w known seen p apart write =
     seen_spot p (cpu_of w) (line_of w.access.address) w.parts w.access.kind w.access.place r h fit (whole.sound (cpu_of w)) known.known apart (seen p apart write)
 
@@ -85,7 +85,7 @@ seen_step r h fit whole w known seen p apart write =
 entry_waits : (o : Option ℕ) (n : ℕ) → o ≡ None → Bound n (spot_at o)
 entry_waits o n none = rw none (λ last. absurd (false≢true (sym last)))
 
-new_spot : (p q : ℕ) (k : Kind) (e : Event) (a : Access) (h : List Record) → FitsOutcome q (outcome.Access a) h → Kept h → cpu_number e.cpu ≡ q → q ≢ p → a.kind ≡ k → is_memory_write a ≡ true → Fits k q (line_of a.address) a.yes a.place h
+new_spot : (p q : ℕ) (k : Kind) (e : Event) (a : Access) (h : List Record) → FitsOutcome q (outcome.Access a) h → RunFacts h → cpu_number e.cpu ≡ q → q ≢ p → a.kind ≡ k → is_memory_write a ≡ true → Fits k q (line_of a.address) a.yes a.place h
     → Bound (last_other p (line_of a.address) (record { event = e; outcome = outcome.Access a } ∷ h)) (spot (times (record { event = e; outcome = outcome.Access a } ∷ h)) q a.place)
 new_spot p q kind.Write e a h fit whole own apart is write place =
     let r : Record = record { event = e; outcome = outcome.Access a } in
@@ -105,7 +105,7 @@ pub each_both : {X : Type 0} (K P Q : X → Type 0) (xs : List X) → ((x : X) �
 each_both K P Q [] f k e = tt
 each_both K P Q (x ∷ xs) f k e = (f x k.0 e.0, each_both K P Q xs f k.1 e.1)
 
-seen_more : (e : Event) (o : Outcome) (h : List Record) → FitsOutcome (cpu_number e.cpu) o h → Kept h → AllByRecursion (Seen (record { event = e; outcome = o } ∷ h)) (accesses h) → AllByRecursion (Seen (record { event = e; outcome = o } ∷ h)) (accesses (record { event = e; outcome = o } ∷ h))
+seen_more : (e : Event) (o : Outcome) (h : List Record) → FitsOutcome (cpu_number e.cpu) o h → RunFacts h → AllByRecursion (Seen (record { event = e; outcome = o } ∷ h)) (accesses h) → AllByRecursion (Seen (record { event = e; outcome = o } ∷ h)) (accesses (record { event = e; outcome = o } ∷ h))
 seen_more e (outcome.Access a) h fit whole each =
     let its : FitsOutcome (cpu_number a.cpu) (outcome.Access a) h = subst (λ q. FitsOutcome q (outcome.Access a) h) (sym fit.0) fit in
     (λ p apart write. new_spot p (cpu_number a.cpu) a.kind e a h its whole (sym fit.0) apart refl write its.2, each)

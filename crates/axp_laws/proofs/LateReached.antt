@@ -14,11 +14,11 @@ use Rattle.axp_access.specs.declared.Place.{Place}
 use Rattle.axp_access.specs.declared.Outcome.{Outcome}
 use Rattle.axp_access.specs.declared.Outcome.TheVariants as outcome
 use Rattle.axp_access.specs.declared.Record.{Record}
-use Rattle.axp_model.specs.Records.{by, is_turn, turned, turns_on, fills, locks, fences, drops}
+use Rattle.axp_model.specs.Records.{is_of, is_turn, line_of_turn, turns_on, fills, locks, fences, drops}
 use Rattle.axp_access.specs.Kinds.{is_success, is_signal}
 use Rattle.axp_model.specs.Turns.{turns, stamps, stamp}
 use Rattle.axp_model.specs.Entries.{buffer, buffer_after}
-use Rattle.axp_model.specs.Late.{late, late_by_own, takes_away, loses, held}
+use Rattle.axp_model.specs.Late.{late, late_by_own, takes_away, loses_copy, held}
 use Rattle.axp_laws.specs.Counts.{last_other}
 use Rattle.axp_laws.specs.LateLaws.{IsReached, HasJustFenced}
 use Rattle.axp_laws.proofs.RunFacts.{Fits, FitsOutcome, Fitting}
@@ -44,7 +44,7 @@ bank_of_line Code l e = cc
 
 -- the line of a turn
 abbrev pub Turning : ℕ → Outcome → Type 0
-Turning l o = (line : Line) × (turned o ≡ Some line) × (line_number line ≡ l)
+Turning l o = (line : Line) × (line_of_turn o ≡ Some line) × (line_number line ≡ l)
 
 pub turned_line : (l : ℕ) (o : Outcome) → IsAddressed o → turns_on l o ≡ true → Turning l o
 turned_line l (outcome.Access a) low e =
@@ -69,8 +69,8 @@ turns_on_turn l (outcome.Polled x y z) e = cc
 pub last_other_most : (p l : ℕ) (h : List Record) → last_other p l h ≤ turns h
 last_other_most p l [] = omega arith
 last_other_most p l (r ∷ h) =
-    cond_both (not (by p r) && turns_on l r.outcome) (turns h + 1) (last_other p l h) (λ x. x ≤ turns (r ∷ h))
-    (λ e. rw (turns_on_turn l r.outcome (and_parts (not (by p r)) (turns_on l r.outcome) e).1) (omega arith))
+    cond_both (not (is_of p r) && turns_on l r.outcome) (turns h + 1) (last_other p l h) (λ x. x ≤ turns (r ∷ h))
+    (λ e. rw (turns_on_turn l r.outcome (and_parts (not (is_of p r)) (turns_on l r.outcome) e).1) (omega arith))
     (λ e. omega (arith, last_other_most p l h, turns_grow r h))
 
 -- what is late stays so where more comes
@@ -114,7 +114,7 @@ own_reached p l s (outcome.Drained x y z) h q is fit kept stays e = e
 own_reached p l s outcome.Done h q is fit kept stays e = e
 own_reached p l s (outcome.Polled x y z) h q is fit kept stays e = e
 
-reached_foreign : (p l : ℕ) (r : Record) (h : List Record) → IsAddressed r.outcome → by p r ≡ false → IsReached p l h → IsReached p l (r ∷ h)
+reached_foreign : (p l : ℕ) (r : Record) (h : List Record) → IsAddressed r.outcome → is_of p r ≡ false → IsReached p l h → IsReached p l (r ∷ h)
 reached_foreign p l r h low foreign before e older =
     let was : held p l h ≡ true = rw foreign at e in
     rw foreign
@@ -124,23 +124,23 @@ reached_foreign p l r h low foreign before e older =
     rw turn.1 (later_new l (stamp p l h) (turns h + 1) turn.0 (late p (data_bank l) h) turn.2 (omega (arith, stamp_most p l h))))
     (λ (none : turns_on l r.outcome ≡ false).
     let less : stamp p l h < last_other p l h = rw none at (rw foreign at older) in
-    later_other l (stamp p l h) (turns h + 1) (data_bank l) (turned r.outcome) (late p (data_bank l) h) (before was less))
+    later_other l (stamp p l h) (turns h + 1) (data_bank l) (line_of_turn r.outcome) (late p (data_bank l) h) (before was less))
     (cases_Bool (turns_on l r.outcome)))
 
 -- the stamp after the line's bytes came from the bus is not below any turn
 refreshed : (p l : ℕ) (r : Record) (h : List Record) → stamps p l r ≡ true → stamp p l (r ∷ h) < last_other p l (r ∷ h) → ⊥
 refreshed p l r h s older = let now : stamp p l (r ∷ h) ≡ turns (r ∷ h) = rw s refl in omega (arith, last_other_most p l (r ∷ h))
 
-reached_own : (p l : ℕ) (r : Record) (h : List Record) → FitsOutcome (cpu_number r.event.cpu) r.outcome h → by p r ≡ true → IsReached p l h → IsReached p l (r ∷ h)
+reached_own : (p l : ℕ) (r : Record) (h : List Record) → FitsOutcome (cpu_number r.event.cpu) r.outcome h → is_of p r ≡ true → IsReached p l h → IsReached p l (r ∷ h)
 reached_own p l r h fit own before e older =
     ⊎_elim
     (λ (new : stamps p l r ≡ true). absurd (refreshed p l r h new older))
     (λ (none : stamps p l r ≡ false).
     let parts = or_parts (fills l r.outcome) (locks l r.outcome || turns_on l r.outcome) (rw own at none) in
     let more = or_parts (locks l r.outcome) (turns_on l r.outcome) parts.1 in
-    let kept : (held p l h && not (loses l (stamp p l h) (late p (data_bank l) h) r)) ≡ true = rw more.0 at (rw parts.0 at (rw own at e)) in
-    let both = and_parts (held p l h) (not (loses l (stamp p l h) (late p (data_bank l) h) r)) kept in
-    let lost = or_parts (drops l r.event.act) ((fences r.outcome && has_later l (stamp p l h) (late p (data_bank l) h)) || takes_away l (stamp p l h) r.outcome) (not-true (loses l (stamp p l h) (late p (data_bank l) h) r) both.1) in
+    let kept : (held p l h && not (loses_copy l (stamp p l h) (late p (data_bank l) h) r)) ≡ true = rw more.0 at (rw parts.0 at (rw own at e)) in
+    let both = and_parts (held p l h) (not (loses_copy l (stamp p l h) (late p (data_bank l) h) r)) kept in
+    let lost = or_parts (drops l r.event.act) ((fences r.outcome && has_later l (stamp p l h) (late p (data_bank l) h)) || takes_away l (stamp p l h) r.outcome) (not-true (loses_copy l (stamp p l h) (late p (data_bank l) h) r) both.1) in
     let two = or_parts (fences r.outcome && has_later l (stamp p l h) (late p (data_bank l) h)) (takes_away l (stamp p l h) r.outcome) lost.1 in
     let same : stamp p l (r ∷ h) ≡ stamp p l h = rw none refl in
     let there : last_other p l (r ∷ h) ≡ last_other p l h = rw own refl in
@@ -153,9 +153,9 @@ pub reached : (p l : ℕ) (h : List Record) → Fitting h → IsReached p l h
 reached p l [] fit e older = cc
 reached p l (r ∷ h) fit e older =
     ⊎_elim
-    (λ (own : by p r ≡ true). reached_own p l r h fit.0 own (reached p l h fit.1) e older)
-    (λ (foreign : by p r ≡ false). reached_foreign p l r h (fits_addressed (cpu_number r.event.cpu) r.outcome h fit.0) foreign (reached p l h fit.1) e older)
-    (cases_Bool (by p r))
+    (λ (own : is_of p r ≡ true). reached_own p l r h fit.0 own (reached p l h fit.1) e older)
+    (λ (foreign : is_of p r ≡ false). reached_foreign p l r h (fits_addressed (cpu_number r.event.cpu) r.outcome h fit.0) foreign (reached p l h fit.1) e older)
+    (cases_Bool (is_of p r))
 
 -- after an MB or IMB
 pub none_late : (p : ℕ) (b : Bank) (r : Record) (h : List Record) → HasJustFenced p r → late p b (r ∷ h) ≡ []

@@ -10,10 +10,10 @@ use Rattle.axp_base.proofs.LatePairLemmas.{ascending_push, ascending_others}
 use Rattle.axp_access.specs.declared.Outcome.{Outcome}
 use Rattle.axp_access.specs.declared.Outcome.TheVariants as outcome
 use Rattle.axp_access.specs.declared.Record.{Record}
-use Rattle.axp_model.specs.Records.{by, is_turn, turned, fences}
+use Rattle.axp_model.specs.Records.{is_of, is_turn, line_of_turn, fences}
 use Rattle.axp_access.specs.Kinds.{is_success, is_signal}
 use Rattle.axp_model.specs.Turns.{turns}
-use Rattle.axp_model.specs.Late.{late, late_by_own, takes}
+use Rattle.axp_model.specs.Late.{late, late_by_own, takes_from}
 use Rattle.axp_laws.specs.LateLaws.{IsOthersTurn, AreTurns}
 use Rattle.axp_laws.proofs.OrderCounts.{turns_grow}
 use Rattle.axp_laws.proofs.RunSteps.{each_map}
@@ -57,7 +57,7 @@ before_next : (p : ℕ) (b : Bank) (h : List Record) (q : List (Line × ℕ)) �
 before_next p b h [] each = tt
 before_next p b h (x ∷ q) each = (omega (arith, each.0.bounded), before_next p b h q each.1)
 
-turned_turn : (o : Outcome) (line : Line) → turned o ≡ Some line → is_turn o ≡ true
+turned_turn : (o : Outcome) (line : Line) → line_of_turn o ≡ Some line → is_turn o ≡ true
 turned_turn (outcome.Access a) line e =
     ⊎_elim
     (λ (t : is_success a ≡ true). or_left (is_success a) (is_signal a.kind) t)
@@ -70,7 +70,7 @@ turned_turn (outcome.Taken k t g) line e = cc
 turned_turn outcome.Done line e = cc
 turned_turn (outcome.Polled x y z) line e = cc
 
-known_new : (p : ℕ) (b : Bank) (r : Record) (h : List Record) (line : Line) → by p r ≡ false → turned r.outcome ≡ Some line → in_bank b (line_number line) ≡ true → Known p b (r ∷ h) (line, turns h + 1)
+known_new : (p : ℕ) (b : Bank) (r : Record) (h : List Record) (line : Line) → is_of p r ≡ false → line_of_turn r.outcome ≡ Some line → in_bank b (line_number line) ≡ true → Known p b (r ∷ h) (line, turns h + 1)
 known_new p b r h line foreign on banked = record {
   banked = banked;
   made = record { since = []; making = r; before = h; split = refl; other = foreign; on = on; count = refl };
@@ -80,10 +80,10 @@ known_new p b r h line foreign on banked = record {
 kept_own : (p : ℕ) (b : Bank) (r : Record) (h : List Record) (q : List (Line × ℕ)) → Kept p b h q → Kept p b (r ∷ h) (late_by_own b r.outcome q)
 kept_own p b r h q kept =
     let more : Kept p b (r ∷ h) q = kept_more p b r h q kept in
-    cond_both (fences r.outcome) [] (cond (takes b r.outcome) (others q) q) (Kept p b (r ∷ h)) (λ _. (tt, tt))
-    (λ _. cond_both (takes b r.outcome) (others q) q (Kept p b (r ∷ h)) (λ _. (others_each (Known p b (r ∷ h)) q more.0, ascending_others q more.1)) (λ _. more))
+    cond_both (fences r.outcome) [] (cond (takes_from b r.outcome) (others q) q) (Kept p b (r ∷ h)) (λ _. (tt, tt))
+    (λ _. cond_both (takes_from b r.outcome) (others q) q (Kept p b (r ∷ h)) (λ _. (others_each (Known p b (r ∷ h)) q more.0, ascending_others q more.1)) (λ _. more))
 
-kept_other : (p : ℕ) (b : Bank) (r : Record) (h : List Record) (q : List (Line × ℕ)) (turn : Option Line) → by p r ≡ false → turned r.outcome ≡ turn → Kept p b h q → Kept p b (r ∷ h) (late_by_other b turn (turns h + 1) q)
+kept_other : (p : ℕ) (b : Bank) (r : Record) (h : List Record) (q : List (Line × ℕ)) (turn : Option Line) → is_of p r ≡ false → line_of_turn r.outcome ≡ turn → Kept p b h q → Kept p b (r ∷ h) (late_by_other b turn (turns h + 1) q)
 kept_other p b r h q None foreign on kept = kept_more p b r h q kept
 kept_other p b r h q (Some line) foreign on kept =
     let more : Kept p b (r ∷ h) q = kept_more p b r h q kept in
@@ -94,9 +94,9 @@ kept_other p b r h q (Some line) foreign on kept =
 late_kept : (p : ℕ) (b : Bank) (h : List Record) → Kept p b h (late p b h)
 late_kept p b [] = (tt, tt)
 late_kept p b (r ∷ h) =
-    cond_both (by p r) (late_by_own b r.outcome (late p b h)) (late_by_other b (turned r.outcome) (turns h + 1) (late p b h)) (Kept p b (r ∷ h))
+    cond_both (is_of p r) (late_by_own b r.outcome (late p b h)) (late_by_other b (line_of_turn r.outcome) (turns h + 1) (late p b h)) (Kept p b (r ∷ h))
     (λ _. kept_own p b r h (late p b h) (late_kept p b h))
-    (λ foreign. kept_other p b r h (late p b h) (turned r.outcome) foreign refl (late_kept p b h))
+    (λ foreign. kept_other p b r h (late p b h) (line_of_turn r.outcome) foreign refl (late_kept p b h))
 
 pub late_turns : (p : ℕ) (b : Bank) (h : List Record) → AreTurns p b h
 late_turns p b h =

@@ -15,17 +15,17 @@ use Rattle.axp_access.specs.declared.Outcome.TheVariants as outcome
 use Rattle.axp_access.specs.declared.Place.{Place}
 use Rattle.axp_access.specs.declared.Place.TheVariants.{At, Entry, Absent}
 use Rattle.axp_access.specs.declared.Record.{Record}
-use Rattle.axp_model.specs.Records.{by, drains}
+use Rattle.axp_model.specs.Records.{is_of, drains}
 use Rattle.axp_access.specs.Kinds.{is_locked, is_conditional, is_signal, is_success, is_memory_write, is_write}
 use Rattle.axp_base.specs.Lines.{line_of}
 use Rattle.axp_model.specs.Turns.{turns, drained}
 use Rattle.axp_model.specs.Entries.{buffer, entry_for}
 use Rattle.axp_model.specs.Accesses.{accesses, times}
-use Rattle.axp_access.specs.Numbering.{Item, cpu_of, next_item}
+use Rattle.axp_access.specs.Numbering.{NumberedAccess, cpu_of, next_access}
 use Rattle.axp_access.specs.Order.{Times, Spot, spot, spot_at, Key, key, key_before, before}
 use Rattle.axp_laws.specs.Counts.{last_other}
 use Rattle.axp_model.specs.Locking.{is_locking, IsNotBetween, IsPaired, IsApart, HasLock, KeepsLocking}
-use Rattle.axp_laws.proofs.RunFacts.{Fits, FitsOutcome, Fitting, AtMost, Known, KnownItem, Kept}
+use Rattle.axp_laws.proofs.RunFacts.{Fits, FitsOutcome, Fitting, AtMost, Known, KnownItem, RunFacts}
 use Rattle.axp_laws.proofs.OrderCounts.{turns_grow}
 use Rattle.axp_laws.proofs.OrderKeys.{at_key, at_last, at_less}
 use Rattle.axp_laws.proofs.OrderDrains.{at_before_last}
@@ -35,8 +35,8 @@ use Rattle.axp_laws.proofs.LateOthers.{Bound, Seen, seen, each_both}
 use Rattle.axp_laws.proofs.RunSteps.{each_map, kept, fresh_at, turn_same, spot_same}
 
 -- a successful STx_C v among accesses us: its LDx_L, and the writes of others
-record Guarded (us : List Item) (t : Times) (n : ℕ) (v : Item) : Type 0 where
-  lock : Item
+record Guarded (us : List NumberedAccess) (t : Times) (n : ℕ) (v : NumberedAccess) : Type 0 where
+  lock : NumberedAccess
   place : ℕ
   at : ℕ
   mine : ℕ
@@ -59,11 +59,11 @@ spot_step r h q (At t) = inl refl
 spot_step r h q Absent = inl refl
 spot_step r h q (Entry n) =
     ⊎_elim
-    (λ (named : (by q r && drains n r.outcome) ≡ true). inr (rw named refl))
-    (λ (other : (by q r && drains n r.outcome) ≡ false). inl (rw other refl))
-    (cases_Bool (by q r && drains n r.outcome))
+    (λ (named : (is_of q r && drains n r.outcome) ≡ true). inr (rw named refl))
+    (λ (other : (is_of q r && drains n r.outcome) ≡ false). inl (rw other refl))
+    (cases_Bool (is_of q r && drains n r.outcome))
 
-apart_step : (r : Record) (h : List Record) (at mine : ℕ) (u v w : Item) → u.access.place ≡ At at → v.access.place ≡ At mine → mine ≤ turns h → IsApart (times h) u v w → IsApart (times (r ∷ h)) u v w
+apart_step : (r : Record) (h : List Record) (at mine : ℕ) (u v w : NumberedAccess) → u.access.place ≡ At at → v.access.place ≡ At mine → mine ≤ turns h → IsApart (times h) u v w → IsApart (times (r ∷ h)) u v w
 apart_step r h at mine u v w stands own within apart write other line =
     ⊎_elim
     (λ (same : spot (times (r ∷ h)) (cpu_of w) w.access.place ≡ spot (times h) (cpu_of w) w.access.place).
@@ -74,7 +74,7 @@ apart_step r h at mine u v w stands own within apart write other line =
     (rw own (rw now (at_less mine (turns h + 1) (cpu_of v) (cpu_of w) v.number w.number (not (is_write v.access)) (not (is_write w.access)) (omega arith)))))
     (spot_step r h (cpu_of w) w.access.place)
 
-guarded_step : (us : List Item) (r : Record) (h : List Record) (v : Item) → Guarded us (times h) (turns h) v → Guarded us (times (r ∷ h)) (turns (r ∷ h)) v
+guarded_step : (us : List NumberedAccess) (r : Record) (h : List Record) (v : NumberedAccess) → Guarded us (times h) (turns h) v → Guarded us (times (r ∷ h)) (turns (r ∷ h)) v
 guarded_step us r h v g = record {
   lock = g.lock;
   place = g.place;
@@ -92,7 +92,7 @@ guarded_step us r h v g = record {
 abbrev IsNext : ℕ → Spot → Type 0
 IsNext n s = (s ≡ last_spot) ⊎ (s ≡ placed_at (n + 1))
 
-apart_new : (t : Times) (n mine : ℕ) (u v w : Item) → v.access.place ≡ At mine → mine ≤ n → IsNext n (spot t (cpu_of w) w.access.place) → (before t w u || before t v w) ≡ true
+apart_new : (t : Times) (n mine : ℕ) (u v w : NumberedAccess) → v.access.place ≡ At mine → mine ≤ n → IsNext n (spot t (cpu_of w) w.access.place) → (before t w u || before t v w) ≡ true
 apart_new t n mine u v w own within next =
     or_right (before t w u) (before t v w)
     (⊎_elim
@@ -102,7 +102,7 @@ apart_new t n mine u v w own within next =
     rw own (rw now (at_less mine (n + 1) (cpu_of v) (cpu_of w) v.number w.number (not (is_write v.access)) (not (is_write w.access)) (omega arith))))
     next)
 
-guarded_add : (us : List Item) (t : Times) (n : ℕ) (v w : Item) → v.number < w.number → (is_memory_write w.access ≡ true → IsNext n (spot t (cpu_of w) w.access.place)) → Guarded us t n v → Guarded (w ∷ us) t n v
+guarded_add : (us : List NumberedAccess) (t : Times) (n : ℕ) (v w : NumberedAccess) → v.number < w.number → (is_memory_write w.access ≡ true → IsNext n (spot t (cpu_of w) w.access.place)) → Guarded us t n v → Guarded (w ∷ us) t n v
 guarded_add us t n v w later next g = record {
   lock = g.lock;
   place = suc g.place;
@@ -158,7 +158,7 @@ before_lock a s d m placed last other less =
     (λ (over : s ≤ a.spot.place). let same : s ≡ a.spot.place = omega arith in rw (placed, last, other) (rw same (rw (same_place a.spot.place) refl)))
     (cases_lt a.spot.place s)
 
-write_apart : (t : Times) (n at mine : ℕ) (u v w : Item) → u.access.place ≡ At at → is_locked u.access.kind ≡ true → v.access.place ≡ At mine → is_memory_write w.access ≡ true → n ≤ at → (spot t (cpu_of w) w.access.place).placed ≡ true → Bound n (spot t (cpu_of w) w.access.place) → (before t w u || before t v w) ≡ true
+write_apart : (t : Times) (n at mine : ℕ) (u v w : NumberedAccess) → u.access.place ≡ At at → is_locked u.access.kind ≡ true → v.access.place ≡ At mine → is_memory_write w.access ≡ true → n ≤ at → (spot t (cpu_of w) w.access.place).placed ≡ true → Bound n (spot t (cpu_of w) w.access.place) → (before t w u || before t v w) ≡ true
 write_apart t n at mine u v w stands locked own write less placed bound =
     ⊎_elim
     (λ (last : (spot t (cpu_of w) w.access.place).last ≡ true).
@@ -169,11 +169,11 @@ write_apart t n at mine u v w stands locked own write less placed bound =
     (cases_Bool (spot t (cpu_of w) w.access.place).last)
 
 -- the newest access, an STx_C that succeeds
-guarded_new : (e : Event) (a : Access) (h : List Record) → FitsOutcome (cpu_number e.cpu) (outcome.Access a) h → Fitting h → is_success a ≡ true → Guarded (next_item (accesses h) a ∷ accesses h) (times (record { event = e; outcome = outcome.Access a } ∷ h)) (turns (record { event = e; outcome = outcome.Access a } ∷ h)) (next_item (accesses h) a)
+guarded_new : (e : Event) (a : Access) (h : List Record) → FitsOutcome (cpu_number e.cpu) (outcome.Access a) h → Fitting h → is_success a ≡ true → Guarded (next_access (accesses h) a ∷ accesses h) (times (record { event = e; outcome = outcome.Access a } ∷ h)) (turns (record { event = e; outcome = outcome.Access a } ∷ h)) (next_access (accesses h) a)
 guarded_new e a h fit before_it success =
     let r : Record = record { event = e; outcome = outcome.Access a } in
     let p : ℕ = cpu_number e.cpu in
-    let v : Item = next_item (accesses h) a in
+    let v : NumberedAccess = next_access (accesses h) a in
     let l : Locker (accesses h) p a.address (last_other p (line_of a.address) h) = locker p a.address h before_it (fit.3 success) in
     let mine : a.place ≡ At (turns h + 1) = success_at a.kind p (line_of a.address) a.yes a.place h success fit.2 in
     let cpus : cpu_of l.lock ≡ cpu_number a.cpu = l.own ∙ sym fit.0 in
@@ -211,7 +211,7 @@ guarded_new e a h fit before_it success =
     }
 
 -- where a new memory write stands
-next_spot : (k : Kind) (e : Event) (a : Access) (h : List Record) → FitsOutcome (cpu_number a.cpu) (outcome.Access a) h → Kept h → cpu_number a.cpu ≡ cpu_number e.cpu → a.kind ≡ k → is_memory_write a ≡ true → Fits k (cpu_number a.cpu) (line_of a.address) a.yes a.place h → IsNext (turns h) (spot (times h) (cpu_number a.cpu) a.place)
+next_spot : (k : Kind) (e : Event) (a : Access) (h : List Record) → FitsOutcome (cpu_number a.cpu) (outcome.Access a) h → RunFacts h → cpu_number a.cpu ≡ cpu_number e.cpu → a.kind ≡ k → is_memory_write a ≡ true → Fits k (cpu_number a.cpu) (line_of a.address) a.yes a.place h → IsNext (turns h) (spot (times h) (cpu_number a.cpu) a.place)
 next_spot kind.Write e a h fit whole same is write place =
     let none : drained h (cpu_number a.cpu) (entry_for (line_of a.address) (buffer (cpu_number a.cpu) h)) ≡ None =
     fresh_at h e a same (rw (← same) fit.2) whole is (entry_for (line_of a.address) (buffer (cpu_number a.cpu) h)) place in
@@ -219,11 +219,11 @@ next_spot kind.Write e a h fit whole same is write place =
 next_spot kind.Conditional e a h fit whole same is write place = let success : a.yes ≡ true = rw is at write in rw place.0 (rw success (inr refl))
 next_spot _ e a h fit whole same is write place = let never : false ≡ true = rw is at write in absurd (false≢true never)
 
-abbrev Guards : List Item → Times → ℕ → Item → Type 0
+abbrev Guards : List NumberedAccess → Times → ℕ → NumberedAccess → Type 0
 Guards us t n v = is_success v.access ≡ true → Guarded us t n v
 
 -- one access more
-guards_add : (r : Record) (h : List Record) (w : Item) → Fitting h → w.number ≡ length (accesses h) + 1 → (is_memory_write w.access ≡ true → IsNext (turns h) (spot (times h) (cpu_of w) w.access.place)) → AllByRecursion (Guards (accesses h) (times h) (turns h)) (accesses h) → AllByRecursion (Guards (w ∷ accesses h) (times (r ∷ h)) (turns (r ∷ h))) (accesses h)
+guards_add : (r : Record) (h : List Record) (w : NumberedAccess) → Fitting h → w.number ≡ length (accesses h) + 1 → (is_memory_write w.access ≡ true → IsNext (turns h) (spot (times h) (cpu_of w) w.access.place)) → AllByRecursion (Guards (accesses h) (times h) (turns h)) (accesses h) → AllByRecursion (Guards (w ∷ accesses h) (times (r ∷ h)) (turns (r ∷ h))) (accesses h)
 guards_add r h w fit last next each =
     each_both (λ v. v.number ≤ length (accesses h)) (Guards (accesses h) (times h) (turns h)) (Guards (w ∷ accesses h) (times (r ∷ h)) (turns (r ∷ h))) (accesses h)
     (λ v less guards success. guarded_step (w ∷ accesses h) r h v (guarded_add (accesses h) (times h) (turns h) v w (omega (arith, less, last)) next (guards success)))
@@ -237,7 +237,7 @@ guards_more : (e : Event) (o : Outcome) (h : List Record) → FitsOutcome (cpu_n
 guards_more e (outcome.Access a) h fit rest each =
     let its : FitsOutcome (cpu_number a.cpu) (outcome.Access a) h = subst (λ q. FitsOutcome q (outcome.Access a) h) (sym fit.0) fit in (
       λ success. guarded_new e a h fit rest success,
-      guards_add (record { event = e; outcome = outcome.Access a }) h (next_item (accesses h) a) rest refl (λ write. next_spot a.kind e a h its (kept h rest) fit.0 refl write its.2) each,
+      guards_add (record { event = e; outcome = outcome.Access a }) h (next_access (accesses h) a) rest refl (λ write. next_spot a.kind e a h its (kept h rest) fit.0 refl write its.2) each,
     )
 guards_more e outcome.NoAccess h fit rest each = guards_same (record { event = e; outcome = outcome.NoAccess }) h each
 guards_more e (outcome.Filled b k t) h fit rest each = guards_same (record { event = e; outcome = outcome.Filled b k t }) h each
@@ -246,7 +246,7 @@ guards_more e (outcome.Taken k t g) h fit rest each = guards_same (record { even
 guards_more e outcome.Done h fit rest each = guards_same (record { event = e; outcome = outcome.Done }) h each
 guards_more e (outcome.Polled v x t) h fit rest each = (
   λ success. absurd (false≢true success),
-  guards_add (record { event = e; outcome = outcome.Polled v x t }) h (next_item (accesses h) (record { cpu = e.cpu; kind = kind.Poll; address = 0; size = 0; value = 0; yes = v; place = At t })) rest refl (λ write. absurd (false≢true write)) each,
+  guards_add (record { event = e; outcome = outcome.Polled v x t }) h (next_access (accesses h) (record { cpu = e.cpu; kind = kind.Poll; address = 0; size = 0; value = 0; yes = v; place = At t })) rest refl (λ write. absurd (false≢true write)) each,
 )
 
 guards : (h : List Record) → Fitting h → AllByRecursion (Guards (accesses h) (times h) (turns h)) (accesses h)

@@ -9,7 +9,7 @@ use Rattle.axp_access.specs.declared.Access.{Access}
 use Rattle.axp_access.specs.declared.Outcome.{Outcome}
 use Rattle.axp_access.specs.declared.Outcome.TheVariants as outcome
 use Rattle.axp_access.specs.declared.Record.{Record}
-use Rattle.axp_model.specs.Records.{by, made, turned}
+use Rattle.axp_model.specs.Records.{is_of, makes_access, line_of_turn}
 use Rattle.axp_access.specs.Kinds.{is_locked, is_conditional}
 use Rattle.axp_model.specs.Locks.{lock, lock_by_own}
 use Rattle.axp_laws.specs.LockLaws.{IsElsewhere, LeavesLock, IsStillLocked}
@@ -19,7 +19,7 @@ pub block_line : (address : ℕ) → line_of_block (block_of address) ≡ line_o
 block_line address = omega arith
 
 -- an own record that is no LDx_L or STx_C leaves the register
-own_leaves : (o : Outcome) (g : Option ℕ) → made is_locking o ≡ false → lock_by_own o g ≡ g
+own_leaves : (o : Outcome) (g : Option ℕ) → makes_access is_locking o ≡ false → lock_by_own o g ≡ g
 own_leaves (outcome.Access a) g e = let both = or_parts (is_locked a.kind) (is_conditional a.kind) e in rw both.0 (rw both.1 refl)
 own_leaves outcome.NoAccess g e = refl
 own_leaves (outcome.Filled x y z) g e = refl
@@ -36,16 +36,16 @@ other_leaves l k (Some line) apart e = rw (ne_eqb (line_of_block k) (line_number
 lock_leaves : (p k : ℕ) (r : Record) (h : List Record) → LeavesLock p (line_of_block k) r → lock p h ≡ Some k → lock p (r ∷ h) ≡ Some k
 lock_leaves p k r h leaves e =
     ⊎_elim
-    (λ (own : by p r ≡ true). rw own (own_leaves r.outcome (lock p h) (leaves.own own) ∙ e))
-    (λ (foreign : by p r ≡ false). rw foreign (rw e (other_leaves (line_of_block k) k (turned r.outcome) (leaves.other foreign) refl)))
-    (cases_Bool (by p r))
+    (λ (own : is_of p r ≡ true). rw own (own_leaves r.outcome (lock p h) (leaves.own own) ∙ e))
+    (λ (foreign : is_of p r ≡ false). rw foreign (rw e (other_leaves (line_of_block k) k (line_of_turn r.outcome) (leaves.other foreign) refl)))
+    (cases_Bool (is_of p r))
 
 lock_stays : (p k : ℕ) (since before : List Record) → AllByRecursion (LeavesLock p (line_of_block k)) since → lock p before ≡ Some k → lock p (since ++ before) ≡ Some k
 lock_stays p k [] before quiet e = e
 lock_stays p k (r ∷ since) before quiet e = lock_leaves p k r (since ++ before) quiet.0 (lock_stays p k since before quiet.1 e)
 
-lock_set : (p : ℕ) (r : Record) (h : List Record) (a : Access) → by p r ≡ true → r.outcome ≡ outcome.Access a → is_locked a.kind ≡ true → lock p (r ∷ h) ≡ Some (block_of a.address)
-lock_set p r h a own made locked = rw own (rw made (rw locked refl))
+lock_set : (p : ℕ) (r : Record) (h : List Record) (a : Access) → is_of p r ≡ true → r.outcome ≡ outcome.Access a → is_locked a.kind ≡ true → lock p (r ∷ h) ≡ Some (block_of a.address)
+lock_set p r h a own makes_access locked = rw own (rw makes_access (rw locked refl))
 
 still_allows : (p address : ℕ) (h : List Record) → IsStillLocked p address h → is_allowed address (lock p h) ≡ true
 still_allows p address h still =
@@ -71,7 +71,7 @@ still_more p address r h leaves still = record {
 }
 
 -- an own record after which the address is allowed
-still_own : (p address : ℕ) (r : Record) (h : List Record) (o : Outcome) → r.outcome ≡ o → by p r ≡ true → (is_allowed address (lock p h) ≡ true → IsStillLocked p address h) → is_allowed address (lock_by_own o (lock p h)) ≡ true → IsStillLocked p address (r ∷ h)
+still_own : (p address : ℕ) (r : Record) (h : List Record) (o : Outcome) → r.outcome ≡ o → is_of p r ≡ true → (is_allowed address (lock p h) ≡ true → IsStillLocked p address h) → is_allowed address (lock_by_own o (lock p h)) ≡ true → IsStillLocked p address (r ∷ h)
 still_own p address r h (outcome.Access a) is own before e =
     ⊎_elim
     (λ (t : is_locked a.kind ≡ true).
@@ -106,11 +106,11 @@ allowed_still : (p address : ℕ) (h : List Record) → is_allowed address (lock
 allowed_still p address [] e = cc
 allowed_still p address (r ∷ h) e =
     ⊎_elim
-    (λ (own : by p r ≡ true). still_own p address r h r.outcome refl own (allowed_still p address h) (rw own at e))
-    (λ (foreign : by p r ≡ false).
-    let both = other_before address (turned r.outcome) (lock p h) (rw foreign at e) in
+    (λ (own : is_of p r ≡ true). still_own p address r h r.outcome refl own (allowed_still p address h) (rw own at e))
+    (λ (foreign : is_of p r ≡ false).
+    let both = other_before address (line_of_turn r.outcome) (lock p h) (rw foreign at e) in
     still_more p address r h (record { own = λ own. absurd (false≢true (sym foreign ∙ own)); other = λ _. both.1 }) (allowed_still p address h both.0))
-    (cases_Bool (by p r))
+    (cases_Bool (is_of p r))
 
 pub allowed_exactly : (p address : ℕ) (h : List Record) → (is_allowed address (lock p h) ≡ true) ↔ IsStillLocked p address h
 allowed_exactly p address h = (allowed_still p address h, still_allows p address h)

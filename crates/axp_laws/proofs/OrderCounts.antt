@@ -4,7 +4,7 @@ use Rattle.std.proofs.lemmas.Bool.{cond_both}
 use Rattle.axp_access.specs.declared.Outcome.{Outcome}
 use Rattle.axp_access.specs.declared.Outcome.TheVariants as outcome
 use Rattle.axp_access.specs.declared.Record.{Record}
-use Rattle.axp_model.specs.Records.{by, is_turn, fences, code_fences, fills_code, drains}
+use Rattle.axp_model.specs.Records.{is_of, is_turn, fences, code_fences, fills_code, drains}
 use Rattle.axp_model.specs.Turns.{turns, stamps, stamp, barrier, code_barrier, code_stamp, read_place, drained}
 
 pub turns_grow : (r : Record) (h : List Record) → turns h ≤ turns (r ∷ h)
@@ -19,24 +19,24 @@ stamp_grows p l r h = cond_both (stamps p l r) (turns (r ∷ h)) (stamp p l h) (
 
 pub barrier_most : (p : ℕ) (h : List Record) → barrier p h ≤ turns h
 barrier_most p [] = omega arith
-barrier_most p (r ∷ h) = cond_both (by p r && fences r.outcome) (turns h) (barrier p h) (λ x. x ≤ turns (r ∷ h)) (λ e. turns_grow r h) (λ e. omega (arith, barrier_most p h, turns_grow r h))
+barrier_most p (r ∷ h) = cond_both (is_of p r && fences r.outcome) (turns h) (barrier p h) (λ x. x ≤ turns (r ∷ h)) (λ e. turns_grow r h) (λ e. omega (arith, barrier_most p h, turns_grow r h))
 
 pub barrier_grows : (p : ℕ) (r : Record) (h : List Record) → barrier p h ≤ barrier p (r ∷ h)
-barrier_grows p r h = cond_both (by p r && fences r.outcome) (turns h) (barrier p h) (λ x. barrier p h ≤ x) (λ e. barrier_most p h) (λ e. omega arith)
+barrier_grows p r h = cond_both (is_of p r && fences r.outcome) (turns h) (barrier p h) (λ x. barrier p h ≤ x) (λ e. barrier_most p h) (λ e. omega arith)
 
 pub code_barrier_most : (p : ℕ) (h : List Record) → code_barrier p h ≤ turns h
 code_barrier_most p [] = omega arith
-code_barrier_most p (r ∷ h) = cond_both (by p r && code_fences r.outcome) (turns h) (code_barrier p h) (λ x. x ≤ turns (r ∷ h)) (λ e. turns_grow r h) (λ e. omega (arith, code_barrier_most p h, turns_grow r h))
+code_barrier_most p (r ∷ h) = cond_both (is_of p r && code_fences r.outcome) (turns h) (code_barrier p h) (λ x. x ≤ turns (r ∷ h)) (λ e. turns_grow r h) (λ e. omega (arith, code_barrier_most p h, turns_grow r h))
 
 pub code_barrier_grows : (p : ℕ) (r : Record) (h : List Record) → code_barrier p h ≤ code_barrier p (r ∷ h)
-code_barrier_grows p r h = cond_both (by p r && code_fences r.outcome) (turns h) (code_barrier p h) (λ x. code_barrier p h ≤ x) (λ e. code_barrier_most p h) (λ e. omega arith)
+code_barrier_grows p r h = cond_both (is_of p r && code_fences r.outcome) (turns h) (code_barrier p h) (λ x. code_barrier p h ≤ x) (λ e. code_barrier_most p h) (λ e. omega arith)
 
 pub code_stamp_most : (p l : ℕ) (h : List Record) → code_stamp p l h ≤ turns h
 code_stamp_most p l [] = omega arith
-code_stamp_most p l (r ∷ h) = cond_both (by p r && fills_code l r.outcome) (turns h) (code_stamp p l h) (λ x. x ≤ turns (r ∷ h)) (λ e. turns_grow r h) (λ e. omega (arith, code_stamp_most p l h, turns_grow r h))
+code_stamp_most p l (r ∷ h) = cond_both (is_of p r && fills_code l r.outcome) (turns h) (code_stamp p l h) (λ x. x ≤ turns (r ∷ h)) (λ e. turns_grow r h) (λ e. omega (arith, code_stamp_most p l h, turns_grow r h))
 
 pub code_stamp_grows : (p l : ℕ) (r : Record) (h : List Record) → code_stamp p l h ≤ code_stamp p l (r ∷ h)
-code_stamp_grows p l r h = cond_both (by p r && fills_code l r.outcome) (turns h) (code_stamp p l h) (λ x. code_stamp p l h ≤ x) (λ e. code_stamp_most p l h) (λ e. omega arith)
+code_stamp_grows p l r h = cond_both (is_of p r && fills_code l r.outcome) (turns h) (code_stamp p l h) (λ x. code_stamp p l h ≤ x) (λ e. code_stamp_most p l h) (λ e. omega arith)
 
 pub read_place_most : (p l : ℕ) (h : List Record) → read_place p l h ≤ turns h
 read_place_most p l h = omega (arith, stamp_most p l h, barrier_most p h)
@@ -69,6 +69,6 @@ and_right_true false b e = cc
 pub drained_most : (p n : ℕ) (h : List Record) → AtMostO (turns h) (drained h p n)
 drained_most p n [] = tt
 drained_most p n (r ∷ h) =
-    cond_both (by p r && drains n r.outcome) (Some (turns h + 1)) (drained h p n) (λ o. AtMostO (turns (r ∷ h)) o)
-    (λ e. rw (drain_turns n r.outcome (and_right_true (by p r) (drains n r.outcome) e)) (omega arith))
+    cond_both (is_of p r && drains n r.outcome) (Some (turns h + 1)) (drained h p n) (λ o. AtMostO (turns (r ∷ h)) o)
+    (λ e. rw (drain_turns n r.outcome (and_right_true (is_of p r) (drains n r.outcome) e)) (omega arith))
     (λ e. at_most_more (drained h p n) (turns h) (turns (r ∷ h)) (turns_grow r h) (drained_most p n h))

@@ -12,7 +12,7 @@ use Rattle.axp_base.specs.Lines.{line_of}
 use Rattle.axp_model.specs.Turns.{turns, drained}
 use Rattle.axp_model.specs.Entries.{Waiting, least_age, of_age}
 use Rattle.axp_model.specs.Accesses.{times}
-use Rattle.axp_access.specs.Numbering.{Item}
+use Rattle.axp_access.specs.Numbering.{NumberedAccess}
 use Rattle.axp_access.specs.Order.{Times, spot, spot_at, Key, key, key_cmp, key_before, before}
 use Rattle.axp_laws.proofs.RunFacts.{waits, Known, KnownItem}
 use Rattle.axp_laws.proofs.OrderCounts.{AtMostO, drained_most}
@@ -107,34 +107,34 @@ pub first_placed : (a b : Key) → key_before a b ≡ true → a.spot.placed ≡
 unfolding key_before
 first_placed a b e = (and_parts a.spot.placed b.spot.placed (and_parts (a.spot.placed && b.spot.placed) (is_lt (key_cmp a b)) e).0).0
 
-abbrev pub IsNamed : ℕ → ℕ → Item → Type 0
+abbrev pub IsNamed : ℕ → ℕ → NumberedAccess → Type 0
 IsNamed p n u = (u.access.cpu.number ≡ p) × (u.access.place ≡ Entry n)
 
-abbrev pub IsOther : Times → Times → ℕ → ℕ → Item → Type 0
+abbrev pub IsOther : Times → Times → ℕ → ℕ → NumberedAccess → Type 0
 IsOther turn now p n u = (IsNamed p n u → ⊥) × (spot now u.access.cpu.number u.access.place ≡ spot turn u.access.cpu.number u.access.place)
 
-kind_named : (h : List Record) (p n : ℕ) (u : Item) → KnownItem h u → IsNamed p n u → u.access.kind ≡ kind.Write
+kind_named : (h : List Record) (p n : ℕ) (u : NumberedAccess) → KnownItem h u → IsNamed p n u → u.access.kind ≡ kind.Write
 kind_named h p n u ku un = entry_write u.access.kind u.access.cpu.number (line_of u.access.address) u.parts n h (rw un.1 at ku.known)
 
-pub both_named : (h : List Record) (p n : ℕ) (now : Times) (u v : Item) → Naming (times h) now p n (turns h + 1) → KnownItem h u → KnownItem h v → u.number < v.number → IsNamed p n u → IsNamed p n v → before now u v ≡ true
+pub both_named : (h : List Record) (p n : ℕ) (now : Times) (u v : NumberedAccess) → Naming (times h) now p n (turns h + 1) → KnownItem h u → KnownItem h v → u.number < v.number → IsNamed p n u → IsNamed p n v → before now u v ≡ true
 both_named h p n now u v naming ku kv later un vn =
     let x = kind_named h p n u ku un in
     let y = kind_named h p n v kv vn in
     rw (un.1, un.0, vn.1, vn.0, naming.is, x, y) (at_same (turns h + 1) p u.number v.number false later)
 
-late_named : (h : List Record) (p n : ℕ) (now : Times) (u v : Item) → Naming (times h) now p n (turns h + 1) → KnownItem h u → ((m : ℕ) → u.access.place ≡ Entry m → v.access.place ≡ Entry n → v.access.cpu.number ≡ p → drained h u.access.cpu.number m ≡ None → (m ≡ n → ⊥) → ⊥) → before (times h) u v ≡ true → u.access.cpu.number ≡ v.access.cpu.number → IsOther (times h) now p n u → IsNamed p n v → before now u v ≡ true
+late_named : (h : List Record) (p n : ℕ) (now : Times) (u v : NumberedAccess) → Naming (times h) now p n (turns h + 1) → KnownItem h u → ((m : ℕ) → u.access.place ≡ Entry m → v.access.place ≡ Entry n → v.access.cpu.number ≡ p → drained h u.access.cpu.number m ≡ None → (m ≡ n → ⊥) → ⊥) → before (times h) u v ≡ true → u.access.cpu.number ≡ v.access.cpu.number → IsOther (times h) now p n u → IsNamed p n v → before now u v ≡ true
 late_named h p n now u v naming ku apart old same uo vn =
     rw (vn.1, vn.0, naming.is, uo.1)
     (u_before u.access.kind u.access.cpu.number (line_of u.access.address) u.parts u.access.place h (mark u.access) (mark v.access) u.number p v.number ku.known (first_placed (key (times h) u) (key (times h) v) old)
     (λ m is none. apart m is vn.1 vn.0 none (λ e. uo.0 (same ∙ vn.0, is ∙ ap (λ x. Entry x) e))))
 
-early_named : (h : List Record) (p n : ℕ) (now : Times) (u v : Item) → Naming (times h) now p n (turns h + 1) → before (times h) u v ≡ true → IsNamed p n u → IsOther (times h) now p n v → before now u v ≡ true
+early_named : (h : List Record) (p n : ℕ) (now : Times) (u v : NumberedAccess) → Naming (times h) now p n (turns h + 1) → before (times h) u v ≡ true → IsNamed p n u → IsOther (times h) now p n v → before now u v ≡ true
 early_named h p n now u v naming old un vo =
     let was : key_before (last_key (mark u.access) p u.number) (key (times h) v) ≡ true = rw (un.1, un.0, naming.was) at old in
     let both = after_last (mark u.access) p u.number (key (times h) v) was in
     rw (un.1, un.0, naming.is, vo.1) (at_before_last (turns h + 1) p u.number (mark u.access) (key (times h) v) both.0 both.1)
 
-pub drain_pair : (h : List Record) (p n : ℕ) (now : Times) (u v : Item) → Naming (times h) now p n (turns h + 1) → KnownItem h u → KnownItem h v → u.access.cpu.number ≡ v.access.cpu.number → u.number < v.number → ((m : ℕ) → u.access.place ≡ Entry m → v.access.place ≡ Entry n → v.access.cpu.number ≡ p → drained h u.access.cpu.number m ≡ None → (m ≡ n → ⊥) → ⊥) → before (times h) u v ≡ true → before now u v ≡ true
+pub drain_pair : (h : List Record) (p n : ℕ) (now : Times) (u v : NumberedAccess) → Naming (times h) now p n (turns h + 1) → KnownItem h u → KnownItem h v → u.access.cpu.number ≡ v.access.cpu.number → u.number < v.number → ((m : ℕ) → u.access.place ≡ Entry m → v.access.place ≡ Entry n → v.access.cpu.number ≡ p → drained h u.access.cpu.number m ≡ None → (m ≡ n → ⊥) → ⊥) → before (times h) u v ≡ true → before now u v ≡ true
 drain_pair h p n now u v naming ku kv same later apart old =
     ⊎_elim
     (λ vn. ⊎_elim (λ un. both_named h p n now u v naming ku kv later un vn) (λ uo. late_named h p n now u v naming ku apart old same uo vn) (named_or (times h) now p n (turns h + 1) u.access.cpu.number u.access.place naming))

@@ -11,9 +11,9 @@ use Rattle.axp_access.specs.Kinds.{is_read, is_fetch, is_memory_write}
 use Rattle.axp_base.specs.Lines.{line_of}
 use Rattle.axp_model.specs.Turns.{turns, drained}
 use Rattle.axp_model.specs.Accesses.{accesses, times}
-use Rattle.axp_access.specs.Numbering.{Item}
+use Rattle.axp_access.specs.Numbering.{NumberedAccess}
 use Rattle.axp_access.specs.Order.{spot, spot_at, key}
-use Rattle.axp_model.specs.Issue.{in_memory, touch, AllPairs}
+use Rattle.axp_model.specs.Issue.{in_memory, share_a_byte, AllPairs}
 use Rattle.axp_model.specs.Outcomes.{IsRun}
 use Rattle.axp_model.specs.Processors.{Processors, AreInLine}
 use Rattle.axp_laws.specs.OrderLaws.{StandsBy}
@@ -32,7 +32,7 @@ read_placed : (k : Kind) (p l g : ℕ) (at : Place) (h : List Record) → (is_re
 read_placed k p l g at h e known = let placed = read_at_place k p l g at h e known in rw placed.1 refl
 
 -- and so has every access to memory
-memory_placed : (h : List Record) (u : Item) → KnownItem h u → in_memory u.access ≡ true → is_placed (times h) u ≡ true
+memory_placed : (h : List Record) (u : NumberedAccess) → KnownItem h u → in_memory u.access ≡ true → is_placed (times h) u ≡ true
 memory_placed h u known e =
     ⊎_elim
     (λ reads. read_placed u.access.kind u.access.cpu.number (line_of u.access.address) u.parts u.access.place h (first (is_read u.access.kind) (is_fetch u.access.kind) reads) known.known)
@@ -48,9 +48,9 @@ memory_placed h u known e =
       second true b e = refl
       second false b e = e
 
-located : (h : List Record) (u v : Item) → KnownItem h u → KnownItem h v → PairOk (times h) u v → IsLocated (times h) u v
+located : (h : List Record) (u v : NumberedAccess) → KnownItem h u → KnownItem h v → PairOk (times h) u v → IsLocated (times h) u v
 located h u v ku kv ok meets writes =
-    let both = and_parts (in_memory u.access) (in_memory v.access) (and_parts (in_memory u.access && in_memory v.access) (touch u.access.address u.access.size v.access.address v.access.size) meets).0 in
+    let both = and_parts (in_memory u.access) (in_memory v.access) (and_parts (in_memory u.access && in_memory v.access) (share_a_byte u.access.address u.access.size v.access.address v.access.size) meets).0 in
     let first = ok.first in
     before_total (key (times h) u) (key (times h) v) (memory_placed h u ku both.0) (memory_placed h v kv both.1) (λ who number. omega (arith, first, number))
 

@@ -19,23 +19,23 @@ use Rattle.axp_access.specs.declared.Place.{Place}
 use Rattle.axp_access.specs.declared.Place.TheVariants.{At, Entry, Absent}
 use Rattle.axp_access.specs.declared.Record.{Record}
 use Rattle.axp_access.specs.declared.Wanted.{Wanted}
-use Rattle.axp_model.specs.Records.{by, signals, enters, access_in}
+use Rattle.axp_model.specs.Records.{is_of, signals, enters, access_in}
 use Rattle.axp_access.specs.Kinds.{is_signal, is_poll}
 use Rattle.axp_base.specs.Lines.{line_of}
 use Rattle.axp_model.specs.Turns.{turns}
 use Rattle.axp_model.specs.Entries.{Waiting, buffer, oldest}
 use Rattle.axp_model.specs.Accesses.{with_access, accesses, times}
-use Rattle.axp_access.specs.Numbering.{Item, cpu_of, next_item}
+use Rattle.axp_access.specs.Numbering.{NumberedAccess, cpu_of, next_access}
 use Rattle.axp_access.specs.Order.{Times, key, key_before, before}
-use Rattle.axp_model.specs.Locks.{signalled}
+use Rattle.axp_model.specs.Locks.{is_signalled}
 use Rattle.axp_model.specs.Late.{late}
 use Rattle.axp_access.specs.declared.Intent.{Intent}
-use Rattle.axp_model.specs.Outcomes.{IsRun, step_by, stepped, filled, drained_as, taken, outcome_by, outcome_of}
+use Rattle.axp_model.specs.Outcomes.{IsRun, step_outcome_by, step_outcome, fill_outcome, drain_outcome, take_outcome, outcome_by, outcome_of}
 use Rattle.axp_model.specs.Processors.{Processors, AreInLine}
 use Rattle.axp_model.specs.Issue.{AllPairs}
 use Rattle.axp_laws.specs.PollLaws.{is_signal_or_poll}
 use Rattle.axp_model.specs.Polls.{polled, poll_item, with_shown, entered_polls, signals_to, IsAwaited}
-use Rattle.axp_laws.proofs.RunFacts.{Fits, FitsOutcome, Fitting, AtMost, Known, KnownItem, PairOk, Kept}
+use Rattle.axp_laws.proofs.RunFacts.{Fits, FitsOutcome, Fitting, AtMost, Known, KnownItem, PairOk, RunFacts}
 use Rattle.axp_laws.proofs.RunRecords.{run_fits}
 use Rattle.axp_laws.proofs.OrderKeys.{at_key, at_less, at_upto, before_asymmetric}
 use Rattle.axp_laws.proofs.OrderCases.{mark}
@@ -69,21 +69,21 @@ unfolding key_before
 write_first t s c d n m less = ⊎_elim (λ lt. rw (lt-ltb t s lt) refl) (λ ge. let same : s ≡ t = omega arith in rw same (rw (nat_cmp_refl t) refl)) (cases_lt t s)
 
 -- how an earlier access and a later one stand, where each is a signal or a Poll, whatever is drained
-pub record Told (u v : Item) : Type 0 where
+pub record Told (u v : NumberedAccess) : Type 0 where
   pub heard : is_signal u.access.kind ≡ true → is_poll v.access.kind ≡ true → (t : Times) → before t u v ≡ true
   pub missed : is_poll u.access.kind ≡ true → is_signal v.access.kind ≡ true → (t : Times) → before t v u ≡ false
   pub next : is_poll u.access.kind ≡ true → is_poll v.access.kind ≡ true → cpu_of u ≡ cpu_of v → (t : Times) → before t u v ≡ true
 
-signal_first : (t : Times) (u v : Item) (m n : ℕ) → u.access.kind ≡ kind.Signal → v.access.kind ≡ kind.Poll → u.access.place ≡ At m → v.access.place ≡ At n → m ≤ n → before t u v ≡ true
+signal_first : (t : Times) (u v : NumberedAccess) (m n : ℕ) → u.access.kind ≡ kind.Signal → v.access.kind ≡ kind.Poll → u.access.place ≡ At m → v.access.place ≡ At n → m ≤ n → before t u v ≡ true
 signal_first t u v m n ku kv pu pv less = rw (pu, pv, ku, kv) (write_first m n u.access.cpu.number v.access.cpu.number u.number v.number less)
 
-place_first : (t : Times) (u v : Item) (m n : ℕ) → u.access.place ≡ At m → v.access.place ≡ At n → m < n → before t u v ≡ true
+place_first : (t : Times) (u v : NumberedAccess) (m n : ℕ) → u.access.place ≡ At m → v.access.place ≡ At n → m < n → before t u v ≡ true
 place_first t u v m n pu pv less = rw (pu, pv) (at_less m n u.access.cpu.number v.access.cpu.number u.number v.number (mark u.access) (mark v.access) less)
 
-poll_first : (t : Times) (u v : Item) (m n : ℕ) → u.access.kind ≡ kind.Poll → v.access.kind ≡ kind.Poll → cpu_of u ≡ cpu_of v → u.access.place ≡ At m → v.access.place ≡ At n → m ≤ n → u.number < v.number → before t u v ≡ true
+poll_first : (t : Times) (u v : NumberedAccess) (m n : ℕ) → u.access.kind ≡ kind.Poll → v.access.kind ≡ kind.Poll → cpu_of u ≡ cpu_of v → u.access.place ≡ At m → v.access.place ≡ At n → m ≤ n → u.number < v.number → before t u v ≡ true
 poll_first t u v m n ku kv same pu pv less later = rw (pu, pv, ku, kv, same) (at_upto m n v.access.cpu.number u.number v.number true less later)
 
-told_new : (h : List Record) (p : ℕ) (u v : Item) → KnownItem h u → u.number < v.number → Fits v.access.kind p (line_of v.access.address) v.access.yes v.access.place h → Told u v
+told_new : (h : List Record) (p : ℕ) (u v : NumberedAccess) → KnownItem h u → u.number < v.number → Fits v.access.kind p (line_of v.access.address) v.access.yes v.access.place h → Told u v
 told_new h p u v ku later fit = record {
   heard = λ su pv t.
       let xu = signal_kind u.access.kind su in
@@ -101,11 +101,11 @@ told_new h p u v ku later fit = record {
 }
 
 -- with each earlier one
-told_each : (h : List Record) (p : ℕ) (a : Access) (us : List Item) → AllByRecursion (KnownItem h) us → Fits a.kind p (line_of a.address) a.yes a.place h → AllByRecursion (λ u. Told u (next_item (accesses h) a)) us
+told_each : (h : List Record) (p : ℕ) (a : Access) (us : List NumberedAccess) → AllByRecursion (KnownItem h) us → Fits a.kind p (line_of a.address) a.yes a.place h → AllByRecursion (λ u. Told u (next_access (accesses h) a)) us
 told_each h p a [] items fit = tt
-told_each h p a (u ∷ us) items fit = (told_new h p u (next_item (accesses h) a) items.0 (omega (arith, items.0.number)) fit, told_each h p a us items.1 fit)
+told_each h p a (u ∷ us) items fit = (told_new h p u (next_access (accesses h) a) items.0 (omega (arith, items.0.number)) fit, told_each h p a us items.1 fit)
 
-told_by : (e : Event) (o : Outcome) (h : List Record) → FitsOutcome e.cpu.number o h → Kept h → AllPairs Told (accesses h) → AllPairs Told (accesses (record { event = e; outcome = o } ∷ h))
+told_by : (e : Event) (o : Outcome) (h : List Record) → FitsOutcome e.cpu.number o h → RunFacts h → AllPairs Told (accesses h) → AllPairs Told (accesses (record { event = e; outcome = o } ∷ h))
 told_by e (outcome.Access a) h fit kept was = (told_each h e.cpu.number a (accesses h) kept.items fit.2, was)
 told_by e outcome.NoAccess h fit kept was = was
 told_by e (outcome.Filled b l t) h fit kept was = was
@@ -119,15 +119,15 @@ told [] fit = tt
 told (r ∷ h) fit = told_by r.event r.outcome h fit.0 (kept h fit.1) (told h fit.1)
 
 -- a later record adds at most an access, with a number of its own
-one_more : (o : Option Access) (us : List Item) (x : Item) → Among x us → Among x (with_access o us)
+one_more : (o : Option Access) (us : List NumberedAccess) (x : NumberedAccess) → Among x us → Among x (with_access o us)
 one_more None us x a = a
 one_more (Some b) us x a = inr a
 
-one_back : (o : Option Access) (us : List Item) (x : Item) → Among x (with_access o us) → x.number ≤ length us → Among x us
+one_back : (o : Option Access) (us : List NumberedAccess) (x : NumberedAccess) → Among x (with_access o us) → x.number ≤ length us → Among x us
 one_back None us x a less = a
-one_back (Some b) us x a less = ⊎_elim (λ (same : next_item us b ≡ x). let number : length us + 1 ≡ x.number = ap (λ (z : Item). z.number) same in absurd (omega (arith, number, less))) (λ back. back) a
+one_back (Some b) us x a less = ⊎_elim (λ (same : next_access us b ≡ x). let number : length us + 1 ≡ x.number = ap (λ (z : NumberedAccess). z.number) same in absurd (omega (arith, number, less))) (λ back. back) a
 
-longer : (o : Option Access) (us : List Item) → length us ≤ length (with_access o us)
+longer : (o : Option Access) (us : List NumberedAccess) → length us ≤ length (with_access o us)
 longer None us = omega arith
 longer (Some b) us = omega arith
 
@@ -135,51 +135,51 @@ accesses_grow : (later : List Record) (h : List Record) → length (accesses h) 
 accesses_grow [] h = omega arith
 accesses_grow (s ∷ later) h = omega (arith, accesses_grow later h, longer (access_in s.event.cpu s.outcome) (accesses (later ++ h)))
 
-among_later : (later : List Record) (h : List Record) (x : Item) → Among x (accesses h) → Among x (accesses (later ++ h))
+among_later : (later : List Record) (h : List Record) (x : NumberedAccess) → Among x (accesses h) → Among x (accesses (later ++ h))
 among_later [] h x a = a
 among_later (s ∷ later) h x a = one_more (access_in s.event.cpu s.outcome) (accesses (later ++ h)) x (among_later later h x a)
 
-among_back : (later : List Record) (h : List Record) (x : Item) → Among x (accesses (later ++ h)) → x.number ≤ length (accesses h) → Among x (accesses h)
+among_back : (later : List Record) (h : List Record) (x : NumberedAccess) → Among x (accesses (later ++ h)) → x.number ≤ length (accesses h) → Among x (accesses h)
 among_back [] h x a less = a
 among_back (s ∷ later) h x a less = among_back later h x (one_back (access_in s.event.cpu s.outcome) (accesses (later ++ h)) x a (omega (arith, less, accesses_grow later h))) less
 
 -- so with the Polls that entered
-shown_back : (o : Option Access) (us polls : List Item) (x : Item) → Among x (with_shown o us polls) → x.number ≤ length us → Among x polls
+shown_back : (o : Option Access) (us polls : List NumberedAccess) (x : NumberedAccess) → Among x (with_shown o us polls) → x.number ≤ length us → Among x polls
 shown_back None us polls x a less = a
-shown_back (Some b) us polls x a less = ⊎_elim (λ (same : next_item us b ≡ x). let number : length us + 1 ≡ x.number = ap (λ (z : Item). z.number) same in absurd (omega (arith, number, less))) (λ back. back) a
+shown_back (Some b) us polls x a less = ⊎_elim (λ (same : next_access us b ≡ x). let number : length us + 1 ≡ x.number = ap (λ (z : NumberedAccess). z.number) same in absurd (omega (arith, number, less))) (λ back. back) a
 
-shown_more : (o : Option Access) (us polls : List Item) (x : Item) → Among x polls → Among x (with_shown o us polls)
+shown_more : (o : Option Access) (us polls : List NumberedAccess) (x : NumberedAccess) → Among x polls → Among x (with_shown o us polls)
 shown_more None us polls x a = a
 shown_more (Some b) us polls x a = inr a
 
-entered_more : (p : ℕ) (r : Record) (h : List Record) (x : Item) → Among x (entered_polls p h) → Among x (entered_polls p (r ∷ h))
-entered_more p r h x a = cond_both (by p r && enters r.outcome) (with_shown (access_in r.event.cpu r.outcome) (accesses h) (entered_polls p h)) (entered_polls p h) (λ us. Among x us) (λ _. shown_more (access_in r.event.cpu r.outcome) (accesses h) (entered_polls p h) x a) (λ _. a)
+entered_more : (p : ℕ) (r : Record) (h : List Record) (x : NumberedAccess) → Among x (entered_polls p h) → Among x (entered_polls p (r ∷ h))
+entered_more p r h x a = cond_both (is_of p r && enters r.outcome) (with_shown (access_in r.event.cpu r.outcome) (accesses h) (entered_polls p h)) (entered_polls p h) (λ us. Among x us) (λ _. shown_more (access_in r.event.cpu r.outcome) (accesses h) (entered_polls p h) x a) (λ _. a)
 
-entered_one : (p : ℕ) (r : Record) (h : List Record) (x : Item) → Among x (entered_polls p (r ∷ h)) → x.number ≤ length (accesses h) → Among x (entered_polls p h)
+entered_one : (p : ℕ) (r : Record) (h : List Record) (x : NumberedAccess) → Among x (entered_polls p (r ∷ h)) → x.number ≤ length (accesses h) → Among x (entered_polls p h)
 entered_one p r h x a less =
     ⊎_elim
-    (λ (here : (by p r && enters r.outcome) ≡ true). shown_back (access_in r.event.cpu r.outcome) (accesses h) (entered_polls p h) x (rw here at a) less)
-    (λ (other : (by p r && enters r.outcome) ≡ false). rw other at a)
-    (cases_Bool (by p r && enters r.outcome))
+    (λ (here : (is_of p r && enters r.outcome) ≡ true). shown_back (access_in r.event.cpu r.outcome) (accesses h) (entered_polls p h) x (rw here at a) less)
+    (λ (other : (is_of p r && enters r.outcome) ≡ false). rw other at a)
+    (cases_Bool (is_of p r && enters r.outcome))
 
-entered_later : (p : ℕ) (later : List Record) (h : List Record) (x : Item) → Among x (entered_polls p h) → Among x (entered_polls p (later ++ h))
+entered_later : (p : ℕ) (later : List Record) (h : List Record) (x : NumberedAccess) → Among x (entered_polls p h) → Among x (entered_polls p (later ++ h))
 entered_later p [] h x a = a
 entered_later p (s ∷ later) h x a = entered_more p s (later ++ h) x (entered_later p later h x a)
 
-entered_back : (p : ℕ) (later : List Record) (h : List Record) (x : Item) → Among x (entered_polls p (later ++ h)) → x.number ≤ length (accesses h) → Among x (entered_polls p h)
+entered_back : (p : ℕ) (later : List Record) (h : List Record) (x : NumberedAccess) → Among x (entered_polls p (later ++ h)) → x.number ≤ length (accesses h) → Among x (entered_polls p h)
 entered_back p [] h x a less = a
 entered_back p (s ∷ later) h x a less = entered_back p later h x (entered_one p s (later ++ h) x a (omega (arith, less, accesses_grow later h))) less
 
 -- a Poll that entered is a Poll of the processor
-record Entered (p : ℕ) (h : List Record) (w : Item) : Type 0 where
+record Entered (p : ℕ) (h : List Record) (w : NumberedAccess) : Type 0 where
   among : Among w (accesses h)
   polls : is_poll w.access.kind ≡ true
   own : cpu_of w ≡ p
 
-entered_new : (e : Event) (o : Outcome) (p : ℕ) (h : List Record) (w : Item) → (eqb e.cpu.number p && enters o) ≡ true → Among w (with_shown (access_in e.cpu o) (accesses h) (entered_polls p h)) → (Among w (entered_polls p h) → Entered p h w) → Entered p (record { event = e; outcome = o } ∷ h) w
+entered_new : (e : Event) (o : Outcome) (p : ℕ) (h : List Record) (w : NumberedAccess) → (eqb e.cpu.number p && enters o) ≡ true → Among w (with_shown (access_in e.cpu o) (accesses h) (entered_polls p h)) → (Among w (entered_polls p h) → Entered p h w) → Entered p (record { event = e; outcome = o } ∷ h) w
 entered_new e (outcome.Polled v x t) p h w here a old =
     ⊎_elim
-    (λ (same : next_item (accesses h) (poll_access e v t) ≡ w).
+    (λ (same : next_access (accesses h) (poll_access e v t) ≡ w).
     subst (λ z. Entered p (record { event = e; outcome = outcome.Polled v x t } ∷ h) z) same
     (record { among = inl refl; polls = refl; own = eqb-true e.cpu.number p (and_parts (eqb e.cpu.number p) x here).0 }))
     (λ back. let was = old back in record { among = inr was.among; polls = was.polls; own = was.own })
@@ -191,67 +191,67 @@ entered_new e (outcome.Drained n l t) p h w here a old = absurd (false≢true (s
 entered_new e (outcome.Taken l t g) p h w here a old = absurd (false≢true (sym (and_right (eqb e.cpu.number p) false refl) ∙ here))
 entered_new e outcome.Done p h w here a old = absurd (false≢true (sym (and_right (eqb e.cpu.number p) false refl) ∙ here))
 
-entered_known : (p : ℕ) (h : List Record) (w : Item) → Among w (entered_polls p h) → Entered p h w
+entered_known : (p : ℕ) (h : List Record) (w : NumberedAccess) → Among w (entered_polls p h) → Entered p h w
 entered_known p [] w a = absurd a
 entered_known p (r ∷ h) w a =
     ⊎_elim
-    (λ (here : (by p r && enters r.outcome) ≡ true). entered_new r.event r.outcome p h w here (rw here at a) (λ back. entered_known p h w back))
-    (λ (other : (by p r && enters r.outcome) ≡ false).
+    (λ (here : (is_of p r && enters r.outcome) ≡ true). entered_new r.event r.outcome p h w here (rw here at a) (λ back. entered_known p h w back))
+    (λ (other : (is_of p r && enters r.outcome) ≡ false).
     let was = entered_known p h w (rw other at a) in
     record { among = one_more (access_in r.event.cpu r.outcome) (accesses h) w was.among; polls = was.polls; own = was.own })
-    (cases_Bool (by p r && enters r.outcome))
+    (cases_Bool (is_of p r && enters r.outcome))
 
 -- each number is one of the list's
-numbers_most : (h : List Record) (x : Item) → Among x (accesses h) → x.number ≤ length (accesses h)
+numbers_most : (h : List Record) (x : NumberedAccess) → Among x (accesses h) → x.number ≤ length (accesses h)
 numbers_most [] x a = absurd a
 numbers_most (r ∷ h) x a = most_with (access_in r.event.cpu r.outcome) (accesses h) x a (λ back. numbers_most h x back) where
-  most_with : (o : Option Access) (us : List Item) (x : Item) → Among x (with_access o us) → (Among x us → x.number ≤ length us) → x.number ≤ length (with_access o us)
+  most_with : (o : Option Access) (us : List NumberedAccess) (x : NumberedAccess) → Among x (with_access o us) → (Among x us → x.number ≤ length us) → x.number ≤ length (with_access o us)
   most_with None us x a most = most a
-  most_with (Some b) us x a most = ⊎_elim (λ (same : next_item us b ≡ x). let number : length us + 1 ≡ x.number = ap (λ (z : Item). z.number) same in omega (arith, number)) (λ back. omega (arith, most back)) a
+  most_with (Some b) us x a most = ⊎_elim (λ (same : next_access us b ≡ x). let number : length us + 1 ≡ x.number = ap (λ (z : NumberedAccess). z.number) same in omega (arith, number)) (λ back. omega (arith, most back)) a
 
 -- a signal to the processor that no Poll which entered follows
-record Unheard (p : ℕ) (h : List Record) (u : Item) : Type 0 where
+record Unheard (p : ℕ) (h : List Record) (u : NumberedAccess) : Type 0 where
   among : Among u (accesses h)
   sent : signals_to p u ≡ true
-  after : (w : Item) → Among w (entered_polls p h) → w.number < u.number
+  after : (w : NumberedAccess) → Among w (entered_polls p h) → w.number < u.number
 
 -- a record that is neither a signal to the processor nor a Poll of it that entered changes nothing
-unheard_same : (p : ℕ) (r : Record) (h : List Record) (u : Item) → (by p r && enters r.outcome) ≡ false → Unheard p h u → Unheard p (r ∷ h) u
+unheard_same : (p : ℕ) (r : Record) (h : List Record) (u : NumberedAccess) → (is_of p r && enters r.outcome) ≡ false → Unheard p h u → Unheard p (r ∷ h) u
 unheard_same p r h u other was = record {
   among = one_more (access_in r.event.cpu r.outcome) (accesses h) u was.among;
   sent = was.sent;
   after = λ w a. was.after w (rw other at a);
 }
 
-entered_numbers : (p : ℕ) (h : List Record) (w : Item) → Among w (entered_polls p h) → w.number ≤ length (accesses h)
+entered_numbers : (p : ℕ) (h : List Record) (w : NumberedAccess) → Among w (entered_polls p h) → w.number ≤ length (accesses h)
 entered_numbers p h w a = numbers_most h w (entered_known p h w a).among
 
 -- a record that signals to the processor
-signal_heard : (p : ℕ) (e : Event) (o : Outcome) (h : List Record) → signals p o ≡ true → (u : Item) × Unheard p (record { event = e; outcome = o } ∷ h) u
+signal_heard : (p : ℕ) (e : Event) (o : Outcome) (h : List Record) → signals p o ≡ true → (u : NumberedAccess) × Unheard p (record { event = e; outcome = o } ∷ h) u
 signal_heard p e (outcome.Access a) h sent =
     let other : (eqb e.cpu.number p && false) ≡ false = and_right (eqb e.cpu.number p) false refl in
-    (next_item (accesses h) a, record { among = inl refl; sent = sent; after = λ w inside. let most = entered_numbers p h w (rw other at inside) in omega (arith, most) })
+    (next_access (accesses h) a, record { among = inl refl; sent = sent; after = λ w inside. let most = entered_numbers p h w (rw other at inside) in omega (arith, most) })
 signal_heard p e _ h sent = absurd (false≢true sent)
 
-heard : (p : ℕ) (h : List Record) → signalled p h ≡ true → (u : Item) × Unheard p h u
+heard : (p : ℕ) (h : List Record) → is_signalled p h ≡ true → (u : NumberedAccess) × Unheard p h u
 heard p [] e = absurd (false≢true e)
 heard p (r ∷ h) e =
     ⊎_elim
     (λ (sent : signals p r.outcome ≡ true). signal_heard p r.event r.outcome h sent)
     (λ (silent : signals p r.outcome ≡ false). ⊎_elim
-    (λ (here : (by p r && enters r.outcome) ≡ true). absurd (false≢true (rw silent at (rw here at e))))
-    (λ (other : (by p r && enters r.outcome) ≡ false).
+    (λ (here : (is_of p r && enters r.outcome) ≡ true). absurd (false≢true (rw silent at (rw here at e))))
+    (λ (other : (is_of p r && enters r.outcome) ≡ false).
     let was = heard p h (rw silent at (rw other at e)) in
     (was.0, unheard_same p r h was.0 other was.1))
-    (cases_Bool (by p r && enters r.outcome)))
+    (cases_Bool (is_of p r && enters r.outcome)))
     (cases_Bool (signals p r.outcome))
 
 -- a Poll that enters has heard each signal
-none_unheard : (p : ℕ) (e : Event) (o : Outcome) (h : List Record) (u : Item) → (eqb e.cpu.number p && enters o) ≡ true → Unheard p (record { event = e; outcome = o } ∷ h) u → ⊥
+none_unheard : (p : ℕ) (e : Event) (o : Outcome) (h : List Record) (u : NumberedAccess) → (eqb e.cpu.number p && enters o) ≡ true → Unheard p (record { event = e; outcome = o } ∷ h) u → ⊥
 none_unheard p e (outcome.Polled v x t) h u here is =
-    let shown : entered_polls p (record { event = e; outcome = outcome.Polled v x t } ∷ h) ≡ next_item (accesses h) (poll_access e v t) ∷ entered_polls p h = rw here refl in
+    let shown : entered_polls p (record { event = e; outcome = outcome.Polled v x t } ∷ h) ≡ next_access (accesses h) (poll_access e v t) ∷ entered_polls p h = rw here refl in
     let most = numbers_most (record { event = e; outcome = outcome.Polled v x t } ∷ h) u is.among in
-    let less = is.after (next_item (accesses h) (poll_access e v t)) (rw shown (inl refl)) in
+    let less = is.after (next_access (accesses h) (poll_access e v t)) (rw shown (inl refl)) in
     omega (arith, most, less)
 none_unheard p e (outcome.Access b) h u here is = absurd (false≢true (sym (and_right (eqb e.cpu.number p) false refl) ∙ here))
 none_unheard p e outcome.NoAccess h u here is = absurd (false≢true (sym (and_right (eqb e.cpu.number p) false refl) ∙ here))
@@ -261,42 +261,42 @@ none_unheard p e (outcome.Taken l t g) h u here is = absurd (false≢true (sym (
 none_unheard p e outcome.Done h u here is = absurd (false≢true (sym (and_right (eqb e.cpu.number p) false refl) ∙ here))
 
 -- a signal that is not the new record's is an earlier one
-signal_back : (p : ℕ) (e : Event) (o : Outcome) (h : List Record) (u : Item) → signals p o ≡ false → signals_to p u ≡ true → Among u (accesses (record { event = e; outcome = o } ∷ h)) → Among u (accesses h)
-signal_back p e (outcome.Access b) h u silent sent a = ⊎_elim (λ (same : next_item (accesses h) b ≡ u). absurd (false≢true (sym silent ∙ subst (λ (z : Item). signals_to p z ≡ true) (sym same) sent))) (λ back. back) a
-signal_back p e (outcome.Polled v x t) h u silent sent a = ⊎_elim (λ (same : next_item (accesses h) (poll_access e v t) ≡ u). absurd (false≢true (subst (λ (z : Item). signals_to p z ≡ true) (sym same) sent))) (λ back. back) a
+signal_back : (p : ℕ) (e : Event) (o : Outcome) (h : List Record) (u : NumberedAccess) → signals p o ≡ false → signals_to p u ≡ true → Among u (accesses (record { event = e; outcome = o } ∷ h)) → Among u (accesses h)
+signal_back p e (outcome.Access b) h u silent sent a = ⊎_elim (λ (same : next_access (accesses h) b ≡ u). absurd (false≢true (sym silent ∙ subst (λ (z : NumberedAccess). signals_to p z ≡ true) (sym same) sent))) (λ back. back) a
+signal_back p e (outcome.Polled v x t) h u silent sent a = ⊎_elim (λ (same : next_access (accesses h) (poll_access e v t) ≡ u). absurd (false≢true (subst (λ (z : NumberedAccess). signals_to p z ≡ true) (sym same) sent))) (λ back. back) a
 signal_back p e outcome.NoAccess h u silent sent a = a
 signal_back p e (outcome.Filled b l t) h u silent sent a = a
 signal_back p e (outcome.Drained n l t) h u silent sent a = a
 signal_back p e (outcome.Taken l t g) h u silent sent a = a
 signal_back p e outcome.Done h u silent sent a = a
 
-unheard_signalled : (p : ℕ) (h : List Record) (u : Item) → Unheard p h u → signalled p h ≡ true
+unheard_signalled : (p : ℕ) (h : List Record) (u : NumberedAccess) → Unheard p h u → is_signalled p h ≡ true
 unheard_signalled p [] u is = absurd is.among
 unheard_signalled p (r ∷ h) u is =
     ⊎_elim
     (λ (sent : signals p r.outcome ≡ true). rw sent refl)
     (λ (silent : signals p r.outcome ≡ false). ⊎_elim
-    (λ (here : (by p r && enters r.outcome) ≡ true). absurd (none_unheard p r.event r.outcome h u here is))
-    (λ (other : (by p r && enters r.outcome) ≡ false).
+    (λ (here : (is_of p r && enters r.outcome) ≡ true). absurd (none_unheard p r.event r.outcome h u here is))
+    (λ (other : (is_of p r && enters r.outcome) ≡ false).
     rw silent (rw other (unheard_signalled p h u (record { among = signal_back p r.event r.outcome h u silent is.sent is.among; sent = is.sent; after = λ w a. is.after w (rw other a) }))))
-    (cases_Bool (by p r && enters r.outcome)))
+    (cases_Bool (is_of p r && enters r.outcome)))
     (cases_Bool (signals p r.outcome))
 
 pub contains_of : {X : Type 0} (xs : List X) (y : X) → Among y xs → Contains xs y
 contains_of xs y a = among_all (λ z. Contains xs z) xs y (recursion_from_All (λ z. Contains xs z) xs (All-contains_itself xs)) a
 
 -- two accesses of which one is a signal and the other a Poll are not the same
-apart : (u v : Item) → is_signal u.access.kind ≡ true → is_poll v.access.kind ≡ true → u ≡ v → ⊥
+apart : (u v : NumberedAccess) → is_signal u.access.kind ≡ true → is_poll v.access.kind ≡ true → u ≡ v → ⊥
 apart u v su pv same = never_both v.access.kind (subst (λ z. is_signal z.access.kind ≡ true) same su) pv
 
-abbrev Stands : List Record → Item → Item → Type 0
+abbrev Stands : List Record → NumberedAccess → NumberedAccess → Type 0
 Stands h u v = PairOk (times h) u v × Told u v
 
 stands : (h : List Record) → Fitting h → AllPairs (Stands h) (accesses h)
 stands h fit = pairs_both (PairOk (times h)) Told (accesses h) (kept h fit).pairs (told h fit)
 
 -- a signal and a Poll stand as in the history
-signal_before : (h : List Record) (u v : Item) → AllPairs (Stands h) (accesses h) → Among u (accesses h) → Among v (accesses h) → is_signal u.access.kind ≡ true → is_poll v.access.kind ≡ true → u.number < v.number → before (times h) u v ≡ true
+signal_before : (h : List Record) (u v : NumberedAccess) → AllPairs (Stands h) (accesses h) → Among u (accesses h) → Among v (accesses h) → is_signal u.access.kind ≡ true → is_poll v.access.kind ≡ true → u.number < v.number → before (times h) u v ≡ true
 signal_before h u v pairs a b su pv less =
     ⊎_elim
     (λ (same : u ≡ v). absurd (apart u v su pv same))
@@ -306,7 +306,7 @@ signal_before h u v pairs a b su pv less =
     either)
     (among_pair (Stands h) (accesses h) u v pairs a b)
 
-signal_number : (h : List Record) (u v : Item) → AllPairs (Stands h) (accesses h) → Among u (accesses h) → Among v (accesses h) → is_signal u.access.kind ≡ true → is_poll v.access.kind ≡ true → before (times h) u v ≡ true → u.number < v.number
+signal_number : (h : List Record) (u v : NumberedAccess) → AllPairs (Stands h) (accesses h) → Among u (accesses h) → Among v (accesses h) → is_signal u.access.kind ≡ true → is_poll v.access.kind ≡ true → before (times h) u v ≡ true → u.number < v.number
 signal_number h u v pairs a b su pv seen =
     ⊎_elim
     (λ (same : u ≡ v). absurd (apart u v su pv same))
@@ -317,17 +317,17 @@ signal_number h u v pairs a b su pv seen =
     (among_pair (Stands h) (accesses h) u v pairs a b)
 
 -- so do two Polls of one processor
-poll_before : (h : List Record) (u v : Item) → AllPairs (Stands h) (accesses h) → Among u (accesses h) → Among v (accesses h) → is_poll u.access.kind ≡ true → is_poll v.access.kind ≡ true → cpu_of u ≡ cpu_of v → u.number < v.number → before (times h) u v ≡ true
+poll_before : (h : List Record) (u v : NumberedAccess) → AllPairs (Stands h) (accesses h) → Among u (accesses h) → Among v (accesses h) → is_poll u.access.kind ≡ true → is_poll v.access.kind ≡ true → cpu_of u ≡ cpu_of v → u.number < v.number → before (times h) u v ≡ true
 poll_before h u v pairs a b pu pv own less =
     ⊎_elim
-    (λ (same : u ≡ v). let number : u.number ≡ v.number = ap (λ (z : Item). z.number) same in absurd (omega (arith, number, less)))
+    (λ (same : u ≡ v). let number : u.number ≡ v.number = ap (λ (z : NumberedAccess). z.number) same in absurd (omega (arith, number, less)))
     (λ either. ⊎_elim
     (λ (first : Stands h u v). first.1.next pu pv own (times h))
     (λ (later : Stands h v u). absurd (omega (arith, less, later.0.first)))
     either)
     (among_pair (Stands h) (accesses h) u v pairs a b)
 
-poll_number : (h : List Record) (u v : Item) → AllPairs (Stands h) (accesses h) → Among u (accesses h) → Among v (accesses h) → is_poll u.access.kind ≡ true → is_poll v.access.kind ≡ true → cpu_of u ≡ cpu_of v → before (times h) u v ≡ true → u.number < v.number
+poll_number : (h : List Record) (u v : NumberedAccess) → AllPairs (Stands h) (accesses h) → Among u (accesses h) → Among v (accesses h) → is_poll u.access.kind ≡ true → is_poll v.access.kind ≡ true → cpu_of u ≡ cpu_of v → before (times h) u v ≡ true → u.number < v.number
 poll_number h u v pairs a b pu pv own seen =
     ⊎_elim
     (λ (same : u ≡ v). absurd (false≢true (sym (before_asymmetric (key (times h) u) (key (times h) v) seen) ∙ subst (λ z. before (times h) z u ≡ true) same (subst (λ z. before (times h) u z ≡ true) (sym same) seen))))
@@ -337,7 +337,7 @@ poll_number h u v pairs a b pu pv own seen =
     either)
     (among_pair (Stands h) (accesses h) u v pairs a b)
 
-sent_signal : (p : ℕ) (u : Item) → signals_to p u ≡ true → is_signal u.access.kind ≡ true
+sent_signal : (p : ℕ) (u : NumberedAccess) → signals_to p u ≡ true → is_signal u.access.kind ≡ true
 sent_signal p u sent = (and_parts (is_signal u.access.kind) (eqb u.access.value p) sent).0
 
 fitting_later : (later h : List Record) → Fitting (later ++ h) → Fitting h
@@ -348,11 +348,11 @@ awaited : (later : List Record) (e : Event) (pending entered : Bool) (turn : ℕ
 awaited later e pending entered turn h fit yes_ =
     let all : List Record = later ++ polled e pending entered turn ∷ h in
     let p : ℕ = e.cpu.number in
-    let v : Item = poll_item e pending turn h in
+    let v : NumberedAccess = poll_item e pending turn h in
     let pairs = stands all fit in
     let now = fitting_later later (polled e pending entered turn ∷ h) fit in
     let found = heard p h (sym now.0.1 ∙ yes_) in
-    let u : Item = found.0 in
+    let u : NumberedAccess = found.0 in
     let is : Unheard p h u = found.1 in
     let su = sent_signal p u is.sent in
     let av : Among v (accesses all) = among_later later (polled e pending entered turn ∷ h) v (inl refl) in
@@ -378,8 +378,8 @@ pending_of : (later : List Record) (e : Event) (pending entered : Bool) (turn : 
 pending_of later e pending entered turn h fit is =
     let all : List Record = later ++ polled e pending entered turn ∷ h in
     let p : ℕ = e.cpu.number in
-    let v : Item = poll_item e pending turn h in
-    let u : Item = is.signal in
+    let v : NumberedAccess = poll_item e pending turn h in
+    let u : NumberedAccess = is.signal in
     let pairs = stands all fit in
     let now = fitting_later later (polled e pending entered turn ∷ h) fit in
     let su = sent_signal p u is.sent in
@@ -417,13 +417,13 @@ settled kind.Signal p l g at h e known = let place = at_of (turns h) at known in
 settled kind.Poll p l g at h e known = let place = at_of (turns h) at known in (place.0, place.1)
 settled _ p l g at h e known = absurd (false≢true e)
 
-settled_same : (t now : Times) (u v : Item) (m n : ℕ) → u.access.place ≡ At m → v.access.place ≡ At n → before now u v ≡ before t u v
+settled_same : (t now : Times) (u v : NumberedAccess) (m n : ℕ) → u.access.place ≡ At m → v.access.place ≡ At n → before now u v ≡ before t u v
 settled_same t now u v m n pu pv = rw (pu, pv) refl
 
-settled_item : (h : List Record) (u : Item) → AllByRecursion (KnownItem h) (accesses h) → Contains (accesses h) u → is_signal_or_poll u ≡ true → (s : ℕ) × (u.access.place ≡ At s)
+settled_item : (h : List Record) (u : NumberedAccess) → AllByRecursion (KnownItem h) (accesses h) → Contains (accesses h) u → is_signal_or_poll u ≡ true → (s : ℕ) × (u.access.place ≡ At s)
 settled_item h u items inside e = settled u.access.kind u.access.cpu.number (line_of u.access.address) u.parts u.access.place h e (among_all (KnownItem h) (accesses h) u items (among_of (accesses h) u inside)).known
 
-pub order_stays : (image : ℕ → ℕ) (ps : Processors) (later h : List Record) → AreInLine ps → IsRun image ps h → (u v : Item) → Contains (accesses h) u → is_signal_or_poll u ≡ true → Contains (accesses h) v → is_signal_or_poll v ≡ true → before (times (later ++ h)) u v ≡ before (times h) u v
+pub order_stays : (image : ℕ → ℕ) (ps : Processors) (later h : List Record) → AreInLine ps → IsRun image ps h → (u v : NumberedAccess) → Contains (accesses h) u → is_signal_or_poll u ≡ true → Contains (accesses h) v → is_signal_or_poll v ≡ true → before (times (later ++ h)) u v ≡ before (times h) u v
 order_stays image ps later h inside run u v au eu av ev =
     let items = (kept h (run_fits image ps h inside run)).items in
     let pu = settled_item h u items au eu in
@@ -435,23 +435,23 @@ abbrev EntersIf : Bool → Outcome → Type 0
 EntersIf low (outcome.Polled pending entered turn) = entered ≡ (pending && low)
 EntersIf low _ = Unit {0}
 
-step_shows : (k : Kind) (image : ℕ → ℕ) (armed low : Bool) (c : Cpu) (a s v : ℕ) (h : List Record) → EntersIf low (step_by k image armed c (record { kind = k; address = a; size = s; value = v }) h)
+step_shows : (k : Kind) (image : ℕ → ℕ) (armed low : Bool) (c : Cpu) (a s v : ℕ) (h : List Record) → EntersIf low (step_outcome_by k image armed c (record { kind = k; address = a; size = s; value = v }) h)
 step_shows kind.Fetch image armed low c a s v h = tt
 step_shows _ image armed low c a s v h = tt
 
-want_shows : (image : ℕ → ℕ) (armed low : Bool) (o : Option Wanted) (c : Cpu) (h : List Record) → EntersIf low (stepped image armed c o h)
+want_shows : (image : ℕ → ℕ) (armed low : Bool) (o : Option Wanted) (c : Cpu) (h : List Record) → EntersIf low (step_outcome image armed c o h)
 want_shows image armed low None c h = tt
 want_shows image armed low (Some a) c h = step_shows a.kind image armed low c a.address a.size a.value h
 
-drain_shows : (low : Bool) (h : List Record) (o : Option Waiting) → EntersIf low (drained_as o h)
+drain_shows : (low : Bool) (h : List Record) (o : Option Waiting) → EntersIf low (drain_outcome o h)
 drain_shows low h None = tt
 drain_shows low h (Some w) = tt
 
-take_shows : (low : Bool) (p : ℕ) (h : List Record) (q : List (Line × ℕ)) → EntersIf low (taken p q h)
+take_shows : (low : Bool) (p : ℕ) (h : List Record) (q : List (Line × ℕ)) → EntersIf low (take_outcome p q h)
 take_shows low p h [] = tt
 take_shows low p h ((line, turn) ∷ q) = tt
 
-fill_shows : (low : Bool) (o : Option Wanted) (h : List Record) → EntersIf low (filled o h)
+fill_shows : (low : Bool) (o : Option Wanted) (h : List Record) → EntersIf low (fill_outcome o h)
 fill_shows low None h = tt
 fill_shows low (Some a) h = tt
 

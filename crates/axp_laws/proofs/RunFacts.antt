@@ -17,10 +17,10 @@ use Rattle.axp_access.specs.Kinds.{is_success}
 use Rattle.axp_model.specs.Turns.{turns, stamp, code_stamp, read_place, barrier, code_barrier, drained}
 use Rattle.axp_model.specs.Entries.{Waiting, Buffer, has_number, buffer, oldest, has_closed, has_line, entry_for}
 use Rattle.axp_model.specs.Accesses.{accesses, times}
-use Rattle.axp_access.specs.Numbering.{Item, cpu_of, parts_in}
+use Rattle.axp_access.specs.Numbering.{NumberedAccess, cpu_of, write_barriers_in}
 use Rattle.axp_access.specs.Order.{Times, before}
 use Rattle.axp_model.specs.Issue.{issue_demands, barrier_demands, AllPairs}
-use Rattle.axp_model.specs.Locks.{lock, signalled}
+use Rattle.axp_model.specs.Locks.{lock, is_signalled}
 use Rattle.axp_model.specs.Late.{late, held, code_held}
 use Rattle.axp_model.specs.Processors.{IsInLine}
 
@@ -53,7 +53,7 @@ FitsOutcome p (outcome.Access a) h =
     × (is_success a ≡ true → is_allowed a.address (lock p h) ≡ true)
 FitsOutcome p (outcome.Drained n line turn) h = (turn ≡ turns h + 1) × Named n (line_number line) (buffer p h).waiting
 FitsOutcome p (outcome.Taken line turn gone) h = IsFirstLate p line turn h
-FitsOutcome p (outcome.Polled pending entered turn) h = (turn ≡ turns h) × (pending ≡ signalled p h)
+FitsOutcome p (outcome.Polled pending entered turn) h = (turn ≡ turns h) × (pending ≡ is_signalled p h)
 FitsOutcome p _ h = Unit {0}
 
 abbrev pub Fitting : List Record → Type 0
@@ -90,7 +90,7 @@ Known kind.Signal p l g at h = AtMost (turns h) at
 Known kind.Console p l g at h = AtMost (turns h) at
 Known kind.Poll p l g at h = AtMost (turns h) at
 
-pub record KnownItem (h : List Record) (u : Item) : Type 0 where
+pub record KnownItem (h : List Record) (u : NumberedAccess) : Type 0 where
   pub number : u.number ≤ length (accesses h)
   pub parts : u.parts ≤ (buffer (cpu_of u) h).age
   pub inside : IsInLine u.access.address u.access.size
@@ -103,15 +103,15 @@ pub record SoundBuffer (b : Buffer) (turn : ℕ → Option ℕ) : Type 0 where
   pub single : (n l g k f : ℕ) → waits n l g b.waiting ≡ true → waits n k f b.waiting ≡ true → (l ≡ k) × (g ≡ f)
   pub unique : (m n l g : ℕ) → waits m l g b.waiting ≡ true → waits n l g b.waiting ≡ true → m ≡ n
 
-pub record PairOk (t : Times) (u v : Item) : Type 0 where
+pub record PairOk (t : Times) (u v : NumberedAccess) : Type 0 where
   pub first : u.number < v.number
   pub parts : cpu_of u ≡ cpu_of v → u.parts ≤ v.parts
   pub issue : issue_demands u v ≡ true → before t u v ≡ true
   pub barrier : barrier_demands u v ≡ true → before t u v ≡ true
 
 -- what every history of records that fit keeps
-pub record Kept (h : List Record) : Type 0 where
+pub record RunFacts (h : List Record) : Type 0 where
   pub sound : (p : ℕ) → SoundBuffer (buffer p h) (drained h p)
-  pub age : (p : ℕ) → parts_in p (accesses h) ≡ (buffer p h).age
+  pub age : (p : ℕ) → write_barriers_in p (accesses h) ≡ (buffer p h).age
   pub items : AllByRecursion (KnownItem h) (accesses h)
   pub pairs : AllPairs (PairOk (times h)) (accesses h)

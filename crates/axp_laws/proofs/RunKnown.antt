@@ -12,11 +12,11 @@ use Rattle.axp_access.specs.declared.Outcome.{Outcome}
 use Rattle.axp_access.specs.declared.Outcome.TheVariants as outcome
 use Rattle.axp_access.specs.declared.Record.{Record}
 use Rattle.axp_base.specs.declared.lines.Line.{Line}
-use Rattle.axp_model.specs.Records.{by, drains}
+use Rattle.axp_model.specs.Records.{is_of, drains}
 use Rattle.axp_access.specs.Kinds.{is_plain_write}
 use Rattle.axp_base.specs.Lines.{line_of, line_at}
 use Rattle.axp_model.specs.Turns.{turns, stamp, barrier, code_barrier, code_stamp, read_place, drained}
-use Rattle.axp_model.specs.Entries.{Waiting, Buffer, buffer, buffer_after, joins, joined, without, has_number, entry_or, one_if_none}
+use Rattle.axp_model.specs.Entries.{Waiting, Buffer, buffer, buffer_after, entry_joined, entries_after_write, without_entry, has_number, entry_or, one_if_none}
 use Rattle.axp_laws.proofs.RunFacts.{Fits, AtMost, waits, Goes, Known, SoundBuffer}
 use Rattle.axp_laws.proofs.RunRecords.{line_at-number}
 use Rattle.axp_laws.proofs.OrderCases.{acc}
@@ -35,7 +35,7 @@ waits_append n l g [] fs e = cc
 waits_append n l g (x ∷ es) fs e =
     ⊎_elim (λ here. or_left (is_it n l g x) (waits n l g (es ++ fs)) here) (λ there. or_right (is_it n l g x) (waits n l g (es ++ fs)) (waits_append n l g es fs there)) (or_cases (is_it n l g x) (waits n l g es) e)
 
-waits_joined : (o : Option ℕ) (x : Waiting) (n l g : ℕ) (es : List Waiting) → waits n l g es ≡ true → waits n l g (joined o x es) ≡ true
+waits_joined : (o : Option ℕ) (x : Waiting) (n l g : ℕ) (es : List Waiting) → waits n l g es ≡ true → waits n l g (entries_after_write o x es) ≡ true
 waits_joined None x n l g es e = waits_append n l g es (x ∷ []) e
 waits_joined (Some j) x n l g es e = e
 
@@ -43,23 +43,23 @@ waits_joined (Some j) x n l g es e = e
 abbrev pub next_entry : Line → Buffer → Waiting
 next_entry line b = record { number = b.made + 1; line = line; age = b.age }
 
-waits_without : (m n l g : ℕ) (es : List Waiting) → eqb m n ≡ false → waits n l g es ≡ true → waits n l g (without m es) ≡ true
+waits_without : (m n l g : ℕ) (es : List Waiting) → eqb m n ≡ false → waits n l g es ≡ true → waits n l g (without_entry m es) ≡ true
 waits_without m n l g [] apart e = e
 waits_without m n l g (x ∷ es) apart e =
     ⊎_elim
     (λ here.
     let number : x.number ≡ n = eqb-true x.number n (and_parts (eqb x.number n) (eqb x.line.number l && eqb x.age g) here).0 in
     let other : eqb x.number m ≡ false = ne_eqb x.number m (λ q. eqb-false m n apart (sym q ∙ number)) in
-    rw other (or_left (is_it n l g x) (waits n l g (without m es)) here))
+    rw other (or_left (is_it n l g x) (waits n l g (without_entry m es)) here))
     (λ there.
-    cond_both (eqb x.number m) (without m es) (x ∷ without m es) (λ fs. waits n l g fs ≡ true) (λ _. waits_without m n l g es apart there) (λ _. or_right (is_it n l g x) (waits n l g (without m es)) (waits_without m n l g es apart there)))
+    cond_both (eqb x.number m) (without_entry m es) (x ∷ without_entry m es) (λ fs. waits n l g fs ≡ true) (λ _. waits_without m n l g es apart there) (λ _. or_right (is_it n l g x) (waits n l g (without_entry m es)) (waits_without m n l g es apart there)))
     (or_cases (is_it n l g x) (waits n l g es) e)
 
 -- an own outcome
 goes_own : (o : Outcome) (b : Buffer) (n l g t : ℕ) (d : Option ℕ) → (d ≡ None → waits n l g b.waiting ≡ true) → cond (drains n o) (Some t) d ≡ None → waits n l g (buffer_after o b).waiting ≡ true
 goes_own (outcome.Access a) b n l g t d goes e =
-    cond_both (is_plain_write a.kind) (joined (joins (line_of a.address) b.age b.waiting) (next_entry (line_at a.address) b) b.waiting) b.waiting (λ es. waits n l g es ≡ true)
-    (λ _. waits_joined (joins (line_of a.address) b.age b.waiting) (next_entry (line_at a.address) b) n l g b.waiting (goes e)) (λ _. goes e)
+    cond_both (is_plain_write a.kind) (entries_after_write (entry_joined (line_of a.address) b.age b.waiting) (next_entry (line_at a.address) b) b.waiting) b.waiting (λ es. waits n l g es ≡ true)
+    (λ _. waits_joined (entry_joined (line_of a.address) b.age b.waiting) (next_entry (line_at a.address) b) n l g b.waiting (goes e)) (λ _. goes e)
 goes_own outcome.NoAccess b n l g t d goes e = goes e
 goes_own (outcome.Filled x y z) b n l g t d goes e = goes e
 goes_own (outcome.Drained m k z) b n l g t d goes e =
@@ -78,7 +78,7 @@ goes_step p l g (Entry n) r h goes =
     ⊎_elim
     (λ own. λ e. rw own (goes_own r.outcome (buffer p h) n l g (turns h + 1) (drained h p n) goes (rw own at e)))
     (λ foreign. λ e. rw foreign (goes (rw foreign at e)))
-    (cases_Bool (by p r))
+    (cases_Bool (is_of p r))
 
 -- what is known stays known
 pub known_step : (k : Kind) (p l g : ℕ) (at : Place) (r : Record) (h : List Record) → Known k p l g at h → Known k p l g at (r ∷ h)
@@ -97,7 +97,7 @@ known_step kind.Poll p l g at r h known = at_most_up (turns h) (turns (r ∷ h))
 at_is : (m n : ℕ) (at : Place) → at ≡ At m → m ≤ n → AtMost n at
 at_is m n at e less = rw e less
 
-pub joins_waits : (l g m : ℕ) (es : List Waiting) → joins l g es ≡ Some m → waits m l g es ≡ true
+pub joins_waits : (l g m : ℕ) (es : List Waiting) → entry_joined l g es ≡ Some m → waits m l g es ≡ true
 joins_waits l g m [] e = cc
 joins_waits l g m (x ∷ es) e =
     ⊎_elim
@@ -112,7 +112,7 @@ waits_last : (x : Waiting) (es : List Waiting) → waits x.number x.line.number 
 waits_last x [] = rw (eq-eqb x.number x.number refl, eq-eqb x.line.number x.line.number refl, eq-eqb x.age x.age refl) refl
 waits_last x (y ∷ es) = or_right (is_it x.number x.line.number x.age y) (waits x.number x.line.number x.age (es ++ x ∷ [])) (waits_last x es)
 
-joined_waits : (o : Option ℕ) (l : ℕ) (x : Waiting) (es : List Waiting) → joins l x.age es ≡ o → x.line.number ≡ l → waits (entry_or o x.number) l x.age (joined o x es) ≡ true
+joined_waits : (o : Option ℕ) (l : ℕ) (x : Waiting) (es : List Waiting) → entry_joined l x.age es ≡ o → x.line.number ≡ l → waits (entry_or o x.number) l x.age (entries_after_write o x es) ≡ true
 joined_waits None l x es e same = rw (sym same) (waits_last x es)
 joined_waits (Some m) l x es e same = joins_waits l x.age m es e
 
@@ -124,7 +124,7 @@ pub known_new : (k : Kind) (e : Event) (c : Cpu) (a s x : ℕ) (y : Bool) (at : 
 known_new kind.Fetch e c a s x y at h low fit = at_is (code_stamp e.cpu.number (line_of a) h) (code_stamp e.cpu.number (line_of a) (made_by e (acc c kind.Fetch a s x y at) ∷ h)) at fit.0 (code_stamp_grows e.cpu.number (line_of a) (made_by e (acc c kind.Fetch a s x y at)) h)
 known_new kind.Read e c a s x y at h low fit = at_is (read_place e.cpu.number (line_of a) h) (read_place e.cpu.number (line_of a) (made_by e (acc c kind.Read a s x y at) ∷ h)) at fit.0 (read_place_grows e.cpu.number (line_of a) (made_by e (acc c kind.Read a s x y at)) h)
 known_new kind.Locked e c a s x y at h low fit = at_is (turns h) (stamp e.cpu.number (line_of a) (made_by e (acc c kind.Locked a s x y at) ∷ h)) at fit.0 (rw (eq-eqb e.cpu.number e.cpu.number refl, eq-eqb (line_of a) (line_of a) refl) (omega arith))
-known_new kind.Write e c a s x y at h low fit = rw fit (λ d. rw (eq-eqb e.cpu.number e.cpu.number refl) (joined_waits (joins (line_of a) (buffer e.cpu.number h).age (buffer e.cpu.number h).waiting) (line_of a) (next_entry (line_at a) (buffer e.cpu.number h)) (buffer e.cpu.number h).waiting refl (line_at-number a low)))
+known_new kind.Write e c a s x y at h low fit = rw fit (λ d. rw (eq-eqb e.cpu.number e.cpu.number refl) (joined_waits (entry_joined (line_of a) (buffer e.cpu.number h).age (buffer e.cpu.number h).waiting) (line_of a) (next_entry (line_at a) (buffer e.cpu.number h)) (buffer e.cpu.number h).waiting refl (line_at-number a low)))
 known_new kind.Conditional e c a s x true at h low fit = at_is (turns h + 1) (turns h + 1) at fit.0 (omega arith)
 known_new kind.Conditional e c a s x false at h low fit = at_is (turns h) (turns h) at fit.0 (omega arith)
 known_new kind.Barrier e c a s x y at h low fit = at_is (turns h) (barrier e.cpu.number (made_by e (acc c kind.Barrier a s x y at) ∷ h)) at fit.0 (rw (eq-eqb e.cpu.number e.cpu.number refl) (omega arith))
@@ -135,7 +135,7 @@ known_new kind.Console e c a s x y at h low fit = at_is (turns h) (turns h) at f
 known_new kind.Poll e c a s x y at h low fit = at_is (turns h) (turns h) at fit (omega arith)
 
 -- the entries stay sound
-joins_none : (m l g : ℕ) (es : List Waiting) → joins l g es ≡ None → waits m l g es ≡ true → ⊥
+joins_none : (m l g : ℕ) (es : List Waiting) → entry_joined l g es ≡ None → waits m l g es ≡ true → ⊥
 joins_none m l g [] e w = false≢true w
 joins_none m l g (x ∷ es) e w =
     ⊎_elim
@@ -151,16 +151,16 @@ waits_split n l g (z ∷ es) x e =
     (λ there. ⊎_elim (λ a. inl (or_right (is_it n l g z) (waits n l g es) a)) (λ b. inr b) (waits_split n l g es x there))
     (or_cases (is_it n l g z) (waits n l g (es ++ x ∷ [])) e)
 
-waits_of_without : (m n l g : ℕ) (es : List Waiting) → waits n l g (without m es) ≡ true → waits n l g es ≡ true
+waits_of_without : (m n l g : ℕ) (es : List Waiting) → waits n l g (without_entry m es) ≡ true → waits n l g es ≡ true
 waits_of_without m n l g [] e = e
 waits_of_without m n l g (x ∷ es) e =
     ⊎_elim
     (λ gone. or_right (is_it n l g x) (waits n l g es) (waits_of_without m n l g es (rw gone at e)))
     (λ stays.
-    ⊎_elim (λ here. or_left (is_it n l g x) (waits n l g es) here) (λ there. or_right (is_it n l g x) (waits n l g es) (waits_of_without m n l g es there)) (or_cases (is_it n l g x) (waits n l g (without m es)) (rw stays at e)))
+    ⊎_elim (λ here. or_left (is_it n l g x) (waits n l g es) here) (λ there. or_right (is_it n l g x) (waits n l g es) (waits_of_without m n l g es there)) (or_cases (is_it n l g x) (waits n l g (without_entry m es)) (rw stays at e)))
     (cases_Bool (eqb x.number m))
 
-has_of_without : (m n : ℕ) (es : List Waiting) → has_number n (without m es) ≡ true → (eqb m n ≡ false) × (has_number n es ≡ true)
+has_of_without : (m n : ℕ) (es : List Waiting) → has_number n (without_entry m es) ≡ true → (eqb m n ≡ false) × (has_number n es ≡ true)
 has_of_without m n [] e = cc
 has_of_without m n (x ∷ es) e =
     ⊎_elim
@@ -169,7 +169,7 @@ has_of_without m n (x ∷ es) e =
     ⊎_elim
     (λ here. (ne_eqb m n (λ q. eqb-false x.number m stays (eqb-true x.number n here ∙ sym q)), or_left (eqb x.number n) (has_number n es) here))
     (λ there. let r = has_of_without m n es there in (r.0, or_right (eqb x.number n) (has_number n es) r.1))
-    (or_cases (eqb x.number n) (has_number n (without m es)) (rw stays at e)))
+    (or_cases (eqb x.number n) (has_number n (without_entry m es)) (rw stays at e)))
     (cases_Bool (eqb x.number m))
 
 has_split : (n : ℕ) (es : List Waiting) (x : Waiting) → has_number n (es ++ x ∷ []) ≡ true → (has_number n es ≡ true) ⊎ (x.number ≡ n)
@@ -202,8 +202,8 @@ waits_has n l g (x ∷ es) e = ⊎_elim (λ here. or_left (eqb x.number n) (has_
 too_new : (b : Buffer) (turn : ℕ → Option ℕ) (s : SoundBuffer b turn) (n k g j f : ℕ) (x : Waiting) → waits n k g b.waiting ≡ true → is_it n j f x ≡ true → b.made < x.number → ⊥
 too_new b turn s n k g j f x old new more = let least : n ≤ b.made = (s.waiting n (waits_has n k g b.waiting old)).1 in let same : x.number ≡ n = number_of_new n j f x new in omega arith
 
-sound_joined : (o : Option ℕ) (line : Line) (b : Buffer) (turn : ℕ → Option ℕ) → joins line.number b.age b.waiting ≡ o → SoundBuffer b turn
-    → SoundBuffer (record { made = b.made + one_if_none o; age = b.age; waiting = joined o (next_entry line b) b.waiting }) turn
+sound_joined : (o : Option ℕ) (line : Line) (b : Buffer) (turn : ℕ → Option ℕ) → entry_joined line.number b.age b.waiting ≡ o → SoundBuffer b turn
+    → SoundBuffer (record { made = b.made + one_if_none o; age = b.age; waiting = entries_after_write o (next_entry line b) b.waiting }) turn
 sound_joined (Some m) line b turn e s = record { waiting = λ n h. ((s.waiting n h).0, omega (arith, (s.waiting n h).1)); above = λ n less. s.above n (omega arith); single = s.single; unique = s.unique }
 sound_joined None line b turn e s =
     let x : Waiting = next_entry line b in
@@ -236,8 +236,8 @@ sound_own : (o : Outcome) (b : Buffer) (turn : ℕ → Option ℕ) (t : ℕ) →
     → SoundBuffer (buffer_after o b) (λ n. cond (drains n o) (Some t) (turn n))
 sound_own (outcome.Access a) b turn t low named s =
     let line : (line_at a.address).number ≡ line_of a.address = line_at-number a.address low in
-    let e : SoundBuffer (record { made = b.made + one_if_none (joins (line_of a.address) b.age b.waiting); age = b.age; waiting = joined (joins (line_of a.address) b.age b.waiting) (next_entry (line_at a.address) b) b.waiting }) turn =
-    sound_joined (joins (line_of a.address) b.age b.waiting) (line_at a.address) b turn (rw line refl) s in
+    let e : SoundBuffer (record { made = b.made + one_if_none (entry_joined (line_of a.address) b.age b.waiting); age = b.age; waiting = entries_after_write (entry_joined (line_of a.address) b.age b.waiting) (next_entry (line_at a.address) b) b.waiting }) turn =
+    sound_joined (entry_joined (line_of a.address) b.age b.waiting) (line_at a.address) b turn (rw line refl) s in
     ⊎_elim
     (λ w. record { waiting = λ n. rw w (e.waiting n); above = λ n. rw w (e.above n); single = λ n k g j f. rw w (e.single n k g j f); unique = λ m n k g. rw w (e.unique m n k g) })
     (λ w. record { waiting = λ n. rw w (s.waiting n); above = λ n. rw w (s.above n); single = λ n k g j f. rw w (s.single n k g j f); unique = λ m n k g. rw w (s.unique m n k g) })
@@ -254,11 +254,11 @@ sound_own (outcome.Taken x y z) b turn t low named s = record { waiting = s.wait
 sound_own outcome.Done b turn t low named s = record { waiting = s.waiting; above = s.above; single = s.single; unique = s.unique }
 sound_own (outcome.Polled x y z) b turn t low named s = record { waiting = s.waiting; above = s.above; single = s.single; unique = s.unique }
 
-pub sound_step : (p : ℕ) (r : Record) (h : List Record) → IsAddressed r.outcome → ((m : ℕ) → by p r ≡ true → drains m r.outcome ≡ true → has_number m (buffer p h).waiting ≡ true) → SoundBuffer (buffer p h) (drained h p) → SoundBuffer (buffer p (r ∷ h)) (drained (r ∷ h) p)
+pub sound_step : (p : ℕ) (r : Record) (h : List Record) → IsAddressed r.outcome → ((m : ℕ) → is_of p r ≡ true → drains m r.outcome ≡ true → has_number m (buffer p h).waiting ≡ true) → SoundBuffer (buffer p h) (drained h p) → SoundBuffer (buffer p (r ∷ h)) (drained (r ∷ h) p)
 sound_step p r h low named s =
     ⊎_elim
     (λ own.
     let e : SoundBuffer (buffer_after r.outcome (buffer p h)) (λ n. cond (drains n r.outcome) (Some (turns h + 1)) (drained h p n)) = sound_own r.outcome (buffer p h) (drained h p) (turns h + 1) low (λ m. named m own) s in
     record { waiting = λ n. rw own (e.waiting n); above = λ n. rw own (e.above n); single = λ n k g j f. rw own (e.single n k g j f); unique = λ m n k g. rw own (e.unique m n k g) })
     (λ foreign. record { waiting = λ n. rw foreign (s.waiting n); above = λ n. rw foreign (s.above n); single = λ n k g j f. rw foreign (s.single n k g j f); unique = λ m n k g. rw foreign (s.unique m n k g) })
-    (cases_Bool (by p r))
+    (cases_Bool (is_of p r))

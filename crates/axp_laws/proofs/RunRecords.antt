@@ -19,16 +19,16 @@ use Rattle.axp_access.specs.declared.Event.{Event}
 use Rattle.axp_access.specs.declared.Outcome.{Outcome}
 use Rattle.axp_access.specs.declared.Record.{Record}
 use Rattle.axp_access.specs.declared.Wanted.{Wanted}
-use Rattle.axp_model.specs.Records.{by, turned, fences}
+use Rattle.axp_model.specs.Records.{is_of, line_of_turn, fences}
 use Rattle.axp_model.specs.Turns.{turns}
 use Rattle.axp_model.specs.Entries.{Waiting, buffer, oldest, has_closed, has_line}
 use Rattle.axp_model.specs.Locks.{lock}
-use Rattle.axp_model.specs.Late.{late, late_by_own, takes}
+use Rattle.axp_model.specs.Late.{late, late_by_own, takes_from}
 use Rattle.axp_access.specs.declared.Intent.{Intent}
-use Rattle.axp_model.specs.Legal.{legal, ready, may, may_act, may_now, since_step}
+use Rattle.axp_model.specs.Legal.{legal, is_ready, is_enabled, is_legal_act, is_timely, since_step}
 use Rattle.axp_base.specs.Lists.{is_empty}
 use Rattle.axp_access.specs.Acts.{is_fill}
-use Rattle.axp_model.specs.Outcomes.{step_by, outcome_by, outcome_of, drained_as, taken, filled, IsRun}
+use Rattle.axp_model.specs.Outcomes.{step_outcome_by, outcome_by, outcome_of, drain_outcome, take_outcome, fill_outcome, IsRun}
 use Rattle.axp_model.specs.Processors.{Processors, IsInLine, WantsInLine, AreInLine}
 use Rattle.axp_laws.proofs.RunFacts.{FitsOutcome, Fitting}
 
@@ -70,21 +70,21 @@ other_in b t (Some l) q e = cond_both (in_bank b (line_number l)) (q ++ (l, t) �
 
 own_in : (b : Bank) (o : Outcome) (q : List (Line × ℕ)) → AllByRecursion (InBank b) q → AllByRecursion (InBank b) (late_by_own b o q)
 own_in b o q e =
-    cond_both (fences o) [] (cond (takes b o) (others q) q) (λ z. AllByRecursion (InBank b) z) (λ _. tt)
-    (λ _. cond_both (takes b o) (others q) q (λ z. AllByRecursion (InBank b) z) (λ _. others_in b q e) (λ _. e))
+    cond_both (fences o) [] (cond (takes_from b o) (others q) q) (λ z. AllByRecursion (InBank b) z) (λ _. tt)
+    (λ _. cond_both (takes_from b o) (others q) q (λ z. AllByRecursion (InBank b) z) (λ _. others_in b q e) (λ _. e))
 
 pub late_in : (p : ℕ) (b : Bank) (h : List Record) → AllByRecursion (InBank b) (late p b h)
 late_in p b [] = tt
 late_in p b (r ∷ h) =
-    cond_both (by p r) (late_by_own b r.outcome (late p b h)) (late_by_other b (turned r.outcome) (turns h + 1) (late p b h)) (λ z. AllByRecursion (InBank b) z)
-    (λ _. own_in b r.outcome (late p b h) (late_in p b h)) (λ _. other_in b (turns h + 1) (turned r.outcome) (late p b h) (late_in p b h))
+    cond_both (is_of p r) (late_by_own b r.outcome (late p b h)) (late_by_other b (line_of_turn r.outcome) (turns h + 1) (late p b h)) (λ z. AllByRecursion (InBank b) z)
+    (λ _. own_in b r.outcome (late p b h) (late_in p b h)) (λ _. other_in b (turns h + 1) (line_of_turn r.outcome) (late p b h) (late_in p b h))
 
 empty_is : {X : Type 0} (es : List X) → is_empty es ≡ true → es ≡ []
 empty_is [] e = refl
 empty_is (x ∷ es) e = cc
 
-step_fits : (k : Kind) (image : ℕ → ℕ) (armed : Bool) (c : Cpu) (a s v : ℕ) (h : List Record) → IsInLine a s → ready k (line_of a) (cpu_number c) h ≡ true
-    → FitsOutcome (cpu_number c) (step_by k image armed c (record { kind = k; address = a; size = s; value = v }) h) h
+step_fits : (k : Kind) (image : ℕ → ℕ) (armed : Bool) (c : Cpu) (a s v : ℕ) (h : List Record) → IsInLine a s → is_ready k (line_of a) (cpu_number c) h ≡ true
+    → FitsOutcome (cpu_number c) (step_outcome_by k image armed c (record { kind = k; address = a; size = s; value = v }) h) h
 step_fits kind.Fetch image armed c a s v h i r = (refl, i, (refl, r), λ e. cc)
 step_fits kind.Read image armed c a s v h i r = (refl, i, (refl, r), λ e. cc)
 step_fits kind.Write image armed c a s v h i r = (refl, i, refl, λ e. cc)
@@ -104,19 +104,19 @@ step_fits kind.Signal image armed c a s v h i r = (refl, i, (refl, not-true (has
 step_fits kind.Console image armed c a s v h i r = (refl, i, refl, λ e. cc)
 step_fits kind.Poll image armed c a s v h i r = cc
 
-drain_fits : (k p : ℕ) (h : List Record) (o : Option Waiting) → slice_get (oldest (buffer p h).waiting) k ≡ o → FitsOutcome p (drained_as o h) h
+drain_fits : (k p : ℕ) (h : List Record) (o : Option Waiting) → slice_get (oldest (buffer p h).waiting) k ≡ o → FitsOutcome p (drain_outcome o h) h
 drain_fits k p h None e = tt
 drain_fits k p h (Some w) e = (refl, (k, w, e, refl, refl))
 
-take_fits : (p : ℕ) (b : Bank) (h : List Record) (q : List (Line × ℕ)) → late p b h ≡ q → AllByRecursion (InBank b) q → FitsOutcome p (taken p q h) h
+take_fits : (p : ℕ) (b : Bank) (h : List Record) (q : List (Line × ℕ)) → late p b h ≡ q → AllByRecursion (InBank b) q → FitsOutcome p (take_outcome p q h) h
 take_fits p b h [] is e = tt
 take_fits p b h ((line, turn) ∷ q) is e = (q, rw (bank_is b (line_number line) e.0) is)
 
-fill_fits : (p : ℕ) (o : Option Wanted) (h : List Record) → FitsOutcome p (filled o h) h
+fill_fits : (p : ℕ) (o : Option Wanted) (h : List Record) → FitsOutcome p (fill_outcome o h) h
 fill_fits p None h = tt
 fill_fits p (Some a) h = tt
 
-by_fits : (a : Act) (image : ℕ → ℕ) (i : Intent) (o : Option Wanted) (c : Cpu) (h : List Record) → i.wanted ≡ o → WantsInLine o → may a i (cpu_number c) h ≡ true
+by_fits : (a : Act) (image : ℕ → ℕ) (i : Intent) (o : Option Wanted) (c : Cpu) (h : List Record) → i.wanted ≡ o → WantsInLine o → is_enabled a i (cpu_number c) h ≡ true
     → FitsOutcome (cpu_number c) (outcome_by a image i c h) h
 by_fits act.Step image i None c h is inside e = rw is tt
 by_fits act.Step image i (Some w) c h is inside e = rw is (step_fits w.kind image i.armed c w.address w.size w.value h inside (rw is at e))
@@ -127,14 +127,14 @@ by_fits (act.Drop b l) image i o c h is inside e = tt
 by_fits act.Poll image i o c h is inside e = (refl, refl)
 by_fits act.Tick image i o c h is inside e = tt
 
-fits : (image : ℕ → ℕ) (i : Intent) (h : List Record) (e : Event) → WantsInLine i.wanted → may_act e.act i (cpu_number e.cpu) h ≡ true → FitsOutcome (cpu_number e.cpu) (outcome_by e.act image i e.cpu h) h
+fits : (image : ℕ → ℕ) (i : Intent) (h : List Record) (e : Event) → WantsInLine i.wanted → is_legal_act e.act i (cpu_number e.cpu) h ≡ true → FitsOutcome (cpu_number e.cpu) (outcome_by e.act image i e.cpu h) h
 fits image i h e inside l =
-    by_fits e.act image i i.wanted e.cpu h refl inside (and_parts (may e.act i (cpu_number e.cpu) h) (may_now e.act i.finished (since_step is_fill (cpu_number e.cpu) h)) l).0
+    by_fits e.act image i i.wanted e.cpu h refl inside (and_parts (is_enabled e.act i (cpu_number e.cpu) h) (is_timely e.act i.finished (since_step is_fill (cpu_number e.cpu) h)) l).0
 
 -- a legal event is of a processor that there is, and its act may be made
-pub legal_parts : (ps : Processors) (h : List Record) (e : Event) → legal ps h e ≡ true → (ltb (cpu_number e.cpu) ps.count ≡ true) × (may_act e.act (ps.intent (cpu_number e.cpu) h) (cpu_number e.cpu) h ≡ true)
+pub legal_parts : (ps : Processors) (h : List Record) (e : Event) → legal ps h e ≡ true → (ltb (cpu_number e.cpu) ps.count ≡ true) × (is_legal_act e.act (ps.intent (cpu_number e.cpu) h) (cpu_number e.cpu) h ≡ true)
 unfolding legal
-legal_parts ps h e l = and_parts (ltb (cpu_number e.cpu) ps.count) (may_act e.act (ps.intent (cpu_number e.cpu) h) (cpu_number e.cpu) h) l
+legal_parts ps h e l = and_parts (ltb (cpu_number e.cpu) ps.count) (is_legal_act e.act (ps.intent (cpu_number e.cpu) h) (cpu_number e.cpu) h) l
 
 -- the records of a run fit
 pub run_fits : (image : ℕ → ℕ) (ps : Processors) (h : List Record) → AreInLine ps → IsRun image ps h → Fitting h

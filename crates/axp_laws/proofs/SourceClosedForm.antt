@@ -18,13 +18,13 @@ use Rattle.axp_access.specs.Kinds.{is_fetch, is_memory_write, is_write, is_condi
 use Rattle.axp_base.specs.Lines.{line_of}
 use Rattle.axp_model.specs.Turns.{turns, stamp}
 use Rattle.axp_model.specs.Accesses.{accesses, with_access, times}
-use Rattle.axp_access.specs.Numbering.{Item, cpu_of}
+use Rattle.axp_access.specs.Numbering.{NumberedAccess, cpu_of}
 use Rattle.axp_access.specs.Order.{Times, Spot, spot, key, key_before, before, precedes}
-use Rattle.axp_model.specs.Sources.{visible, latest, gives, source}
-use Rattle.axp_model.specs.Memory.{is_by, is_waiting, reached, memory_source, own_waits, newest_waiting}
+use Rattle.axp_model.specs.Sources.{is_visible, latest, can_give, source}
+use Rattle.axp_model.specs.Memory.{is_placed_by, is_waiting, has_reached, memory_source, own_waits, newest_waiting}
 use Rattle.axp_model.specs.Issue.{AllPairs}
 use Rattle.axp_model.specs.Processors.{IsInLine}
-use Rattle.axp_laws.proofs.RunFacts.{FitsOutcome, Fitting, KnownItem, Kept}
+use Rattle.axp_laws.proofs.RunFacts.{FitsOutcome, Fitting, KnownItem, RunFacts}
 use Rattle.axp_laws.proofs.OrderCounts.{turns_grow, stamp_grows}
 use Rattle.axp_laws.proofs.OrderKeys.{at_key}
 use Rattle.axp_laws.proofs.RunSteps.{kept}
@@ -48,7 +48,7 @@ lt_by s n rest less =
         same_eqb : (s n : ℕ) → s ≡ n → eqb s n ≡ true
         same_eqb s n e = rw e (grind arith)
 
-write_before : (s : Spot) (c u n d v : ℕ) → key_before (record { spot = s; other = false; cpu = c; number = u }) (at_key n true d v) ≡ is_by n s
+write_before : (s : Spot) (c u n d v : ℕ) → key_before (record { spot = s; other = false; cpu = c; number = u }) (at_key n true d v) ≡ is_placed_by n s
 unfolding key_before
 write_before s c u n d v = by_spot s.placed s.last s.place where
   by_spot : (placed last : Bool) (place : ℕ) → ((placed && true) && is_lt (ordering_then (bool_cmp last false) (ordering_then (nat_cmp place n) Less))) ≡ (placed && (not last && leb place n))
@@ -56,7 +56,7 @@ write_before s c u n d v = by_spot s.placed s.last s.place where
   by_spot true true place = refl
   by_spot true false place = lt_by place n Less refl
 
-before_by : (t : Times) (u v : Item) (n : ℕ) → is_memory_write u.access ≡ true → is_write v.access ≡ false → v.access.place ≡ At n → before t u v ≡ is_by n (spot t u.access.cpu.number u.access.place)
+before_by : (t : Times) (u v : NumberedAccess) (n : ℕ) → is_memory_write u.access ≡ true → is_write v.access ≡ false → v.access.place ≡ At n → before t u v ≡ is_placed_by n (spot t u.access.cpu.number u.access.place)
 before_by t u v n w reads vat =
     ap (λ o. key_before (record { spot = spot t u.access.cpu.number u.access.place; other = o; cpu = u.access.cpu.number; number = u.number }) (key t v)) (ap (λ b. not (b || is_signal u.access.kind)) w)
     ∙ ap (λ o. key_before (record { spot = spot t u.access.cpu.number u.access.place; other = false; cpu = u.access.cpu.number; number = u.number }) (record { spot = spot t v.access.cpu.number v.access.place; other = o; cpu = v.access.cpu.number; number = v.number })) (ap not reads)
@@ -73,27 +73,27 @@ or_false true = refl
 or_false false = refl
 
 -- to a fetch all and only those writes are visible that reached memory by its place
-fetch_gives : (t : Times) (n at : ℕ) (v u : Item) → is_fetch v.access.kind ≡ true → is_write v.access ≡ false → v.access.place ≡ At n → gives t at v u ≡ reached t n at u
+fetch_gives : (t : Times) (n at : ℕ) (v u : NumberedAccess) → is_fetch v.access.kind ≡ true → is_write v.access ≡ false → v.access.place ≡ At n → can_give t at v u ≡ has_reached t n at u
 fetch_gives t n at v u fetch reads vat =
-    and_same (is_memory_write u.access) (has_byte at u.access) (visible t u v) (is_by n (spot t u.access.cpu.number u.access.place))
+    and_same (is_memory_write u.access) (has_byte at u.access) (is_visible t u v) (is_placed_by n (spot t u.access.cpu.number u.access.place))
     (λ w _. ap (λ b. before t u v || (not b && precedes u v)) fetch ∙ or_false (before t u v) ∙ before_by t u v n w reads vat)
 
-pub latest_same : (t : Times) (p q : Item → Bool) (us : List Item) → AllByRecursion (λ u. q u ≡ p u) us → latest t q us ≡ latest t p us
+pub latest_same : (t : Times) (p q : NumberedAccess → Bool) (us : List NumberedAccess) → AllByRecursion (λ u. q u ≡ p u) us → latest t q us ≡ latest t p us
 latest_same t p q us tests = latest_now t t p q us tests (pairs_refl us) where
-  pairs_refl : (us : List Item) → AllPairs (λ y x. p y ≡ true → p x ≡ true → before t y x ≡ before t y x) us
+  pairs_refl : (us : List NumberedAccess) → AllPairs (λ y x. p y ≡ true → p x ≡ true → before t y x ≡ before t y x) us
   pairs_refl [] = tt
   pairs_refl (x ∷ us) = (each_all (λ y. p y ≡ true → p x ≡ true → before t y x ≡ before t y x) us (λ y _ _. refl), pairs_refl us)
 
 -- the source of a fetch
-pub fetch_source : (t : Times) (n at : ℕ) (v : Item) (us : List Item) → is_fetch v.access.kind ≡ true → is_write v.access ≡ false → v.access.place ≡ At n → source t at v us ≡ memory_source t n at us
-fetch_source t n at v us fetch reads vat = latest_same t (reached t n at) (gives t at v) us (each_all (λ u. gives t at v u ≡ reached t n at u) us (λ u. fetch_gives t n at v u fetch reads vat))
+pub fetch_source : (t : Times) (n at : ℕ) (v : NumberedAccess) (us : List NumberedAccess) → is_fetch v.access.kind ≡ true → is_write v.access ≡ false → v.access.place ≡ At n → source t at v us ≡ memory_source t n at us
+fetch_source t n at v us fetch reads vat = latest_same t (has_reached t n at) (can_give t at v) us (each_all (λ u. can_give t at v u ≡ has_reached t n at u) us (λ u. fetch_gives t n at v u fetch reads vat))
 
 -- a fetch after the first n turns
-abbrev some_fetch : ℕ → Item
+abbrev some_fetch : ℕ → NumberedAccess
 some_fetch n = record { number = 0; parts = 0; access = record { cpu = record { number = 0; below = refl }; kind = kind.Fetch; address = 0; size = 0; value = 0; yes = false; place = At n } }
 
 -- what memory is after turns that were made stays
-pub memory_step : (n at : ℕ) (r : Record) (h : List Record) → FitsOutcome r.event.cpu.number r.outcome h → Kept h → n ≤ turns h → memory_source (times (r ∷ h)) n at (accesses (r ∷ h)) ≡ memory_source (times h) n at (accesses h)
+pub memory_step : (n at : ℕ) (r : Record) (h : List Record) → FitsOutcome r.event.cpu.number r.outcome h → RunFacts h → n ≤ turns h → memory_source (times (r ∷ h)) n at (accesses (r ∷ h)) ≡ memory_source (times h) n at (accesses h)
 memory_step n at r h fit kept less =
     sym (fetch_source (times (r ∷ h)) n at (some_fetch n) (accesses (r ∷ h)) refl refl refl)
     ∙ source_stays at n (some_fetch n) r.event r.outcome h fit kept refl less (omega arith)
@@ -123,7 +123,7 @@ accesses_along [] h = omega arith
 accesses_along (r ∷ more) h = omega (arith, accesses_along more h, accesses_grow r (more ++ h))
 
 -- and so does the source of a read or fetch that was made
-pub source_stays_along : (b s : ℕ) (v : Item) (more h : List Record) → Fitting (more ++ h) → v.access.place ≡ At s → s ≤ turns h → v.number < length (accesses h) + 1 → source (times (more ++ h)) b v (accesses (more ++ h)) ≡ source (times h) b v (accesses h)
+pub source_stays_along : (b s : ℕ) (v : NumberedAccess) (more h : List Record) → Fitting (more ++ h) → v.access.place ≡ At s → s ≤ turns h → v.number < length (accesses h) + 1 → source (times (more ++ h)) b v (accesses (more ++ h)) ≡ source (times h) b v (accesses h)
 source_stays_along b s v [] h fit vat less first = refl
 source_stays_along b s v (r ∷ more) h fit vat less first =
     source_stays b s v r.event r.outcome (more ++ h) fit.0 (kept (more ++ h) fit.1) vat (omega (arith, less, turns_along more h)) (omega (arith, first, accesses_along more h))
@@ -162,15 +162,15 @@ byte_line at a inside e =
     let within = inside.within in
     omega arith
 
-is_by_from : (s : Spot) (n : ℕ) → s.placed ≡ true → s.last ≡ false → s.place ≤ n → is_by n s ≡ true
+is_by_from : (s : Spot) (n : ℕ) → s.placed ≡ true → s.last ≡ false → s.place ≤ n → is_placed_by n s ≡ true
 is_by_from s n placed last less = rw (placed, last, le-leb s.place n less) refl
 
 waiting_from : (s : Spot) → s.placed ≡ true → is_waiting s ≡ false → s.last ≡ false
 waiting_from s placed e = rw placed at e
 
 -- an own earlier write of the byte that does not wait reached memory by the stamp
-own_reached : (h : List Record) (p at n : ℕ) (u : Item) → KnownItem h u → Settled p (line_of at) (λ t k. t ≤ stamp p (line_of at) k) h u → stamp p (line_of at) h ≤ n → cpu_of u ≡ p
-    → is_memory_write u.access ≡ true → has_byte at u.access ≡ true → own_waits (times h) at p u ≡ false → is_by n (spot (times h) u.access.cpu.number u.access.place) ≡ true
+own_reached : (h : List Record) (p at n : ℕ) (u : NumberedAccess) → KnownItem h u → Settled p (line_of at) (λ t k. t ≤ stamp p (line_of at) k) h u → stamp p (line_of at) h ≤ n → cpu_of u ≡ p
+    → is_memory_write u.access ≡ true → has_byte at u.access ≡ true → own_waits (times h) at p u ≡ false → is_placed_by n (spot (times h) u.access.cpu.number u.access.place) ≡ true
 own_reached h p at n u known was less who w b none =
     let s : Spot = spot (times h) u.access.cpu.number u.access.place in
     let placed : s.placed ≡ true = mem_placed u.access.kind u.access.cpu.number (line_of u.access.address) u.parts u.access.yes u.access.place h w known.known in
@@ -183,11 +183,11 @@ own_reached h p at n u known was less who w b none =
 
 -- to a read that no own write of the byte waits for, all and only those writes are visible that reached
 -- memory by its place
-read_gives : (h : List Record) (p at n : ℕ) (v u : Item) → KnownItem h u → Settled p (line_of at) (λ t k. t ≤ stamp p (line_of at) k) h u → stamp p (line_of at) h ≤ n → cpu_of v ≡ p → is_write v.access ≡ false → v.access.place ≡ At n
-    → own_waits (times h) at p u ≡ false → gives (times h) at v u ≡ reached (times h) n at u
+read_gives : (h : List Record) (p at n : ℕ) (v u : NumberedAccess) → KnownItem h u → Settled p (line_of at) (λ t k. t ≤ stamp p (line_of at) k) h u → stamp p (line_of at) h ≤ n → cpu_of v ≡ p → is_write v.access ≡ false → v.access.place ≡ At n
+    → own_waits (times h) at p u ≡ false → can_give (times h) at v u ≡ has_reached (times h) n at u
 read_gives h p at n v u known was less who reads vat none =
-    and_same (is_memory_write u.access) (has_byte at u.access) (visible (times h) u v) (is_by n (spot (times h) u.access.cpu.number u.access.place))
-    (λ w b. ap (λ x. x || (not (is_fetch v.access.kind) && precedes u v)) (before_by (times h) u v n w reads vat) ∙ absorbed (is_by n (spot (times h) u.access.cpu.number u.access.place)) (not (is_fetch v.access.kind) && precedes u v)
+    and_same (is_memory_write u.access) (has_byte at u.access) (is_visible (times h) u v) (is_placed_by n (spot (times h) u.access.cpu.number u.access.place))
+    (λ w b. ap (λ x. x || (not (is_fetch v.access.kind) && precedes u v)) (before_by (times h) u v n w reads vat) ∙ absorbed (is_placed_by n (spot (times h) u.access.cpu.number u.access.place)) (not (is_fetch v.access.kind) && precedes u v)
     (λ e. let first = and_parts (eqb u.access.cpu.number v.access.cpu.number) (ltb u.number v.number) (and_parts (not (is_fetch v.access.kind)) (precedes u v) e).1 in
     own_reached h p at n u known was less (eqb-true u.access.cpu.number v.access.cpu.number first.0 ∙ who) w b none)) where
       absorbed : (a b : Bool) → (b ≡ true → a ≡ true) → (a || b) ≡ a
@@ -195,7 +195,7 @@ read_gives h p at n v u known was less who reads vat none =
       absorbed false true f = sym (f refl)
       absorbed false false f = refl
 
-pub find_none : (p : Item → Bool) (us : List Item) → find p us ≡ None → AllByRecursion (λ u. p u ≡ false) us
+pub find_none : (p : NumberedAccess → Bool) (us : List NumberedAccess) → find p us ≡ None → AllByRecursion (λ u. p u ≡ false) us
 find_none p [] e = tt
 find_none p (u ∷ us) e =
     ⊎_elim
@@ -203,7 +203,7 @@ find_none p (u ∷ us) e =
     (λ (f : p u ≡ false). (f, find_none p us (rw f at e)))
     (cases_Bool (p u))
 
-pub find_some : (p : Item → Bool) (Q : Item → Type 0) (us : List Item) (u : Item) → find p us ≡ Some u → AllByRecursion Q us → Q u × (p u ≡ true)
+pub find_some : (p : NumberedAccess → Bool) (Q : NumberedAccess → Type 0) (us : List NumberedAccess) (u : NumberedAccess) → find p us ≡ Some u → AllByRecursion Q us → Q u × (p u ≡ true)
 find_some p Q [] u e all = cc
 find_some p Q (x ∷ us) u e all =
     ⊎_elim
@@ -211,20 +211,20 @@ find_some p Q (x ∷ us) u e all =
     (λ (f : p x ≡ false). find_some p Q us u (rw f at e) all.1)
     (cases_Bool (p x))
 
-each_gives : (h : List Record) (p at n : ℕ) (v : Item) → stamp p (line_of at) h ≤ n → cpu_of v ≡ p → is_write v.access ≡ false → v.access.place ≡ At n → (us : List Item) → AllByRecursion (KnownItem h) us
-    → AllByRecursion (Settled p (line_of at) (λ t k. t ≤ stamp p (line_of at) k) h) us → AllByRecursion (λ u. own_waits (times h) at p u ≡ false) us → AllByRecursion (λ u. gives (times h) at v u ≡ reached (times h) n at u) us
+each_gives : (h : List Record) (p at n : ℕ) (v : NumberedAccess) → stamp p (line_of at) h ≤ n → cpu_of v ≡ p → is_write v.access ≡ false → v.access.place ≡ At n → (us : List NumberedAccess) → AllByRecursion (KnownItem h) us
+    → AllByRecursion (Settled p (line_of at) (λ t k. t ≤ stamp p (line_of at) k) h) us → AllByRecursion (λ u. own_waits (times h) at p u ≡ false) us → AllByRecursion (λ u. can_give (times h) at v u ≡ has_reached (times h) n at u) us
 each_gives h p at n v less who reads vat [] known was none = tt
 each_gives h p at n v less who reads vat (u ∷ us) known was none =
     (read_gives h p at n v u known.0 was.0 less who reads vat none.0, each_gives h p at n v less who reads vat us known.1 was.1 none.1)
 
 -- the source of a new read: what it forwards, else what memory has at its place
-pub read_source : (h : List Record) (p at n : ℕ) (v : Item) → Fitting h → is_fetch v.access.kind ≡ false → is_write v.access ≡ false → cpu_of v ≡ p → v.access.place ≡ At n → stamp p (line_of at) h ≤ n → length (accesses h) < v.number
-    → (o : Option Item) → newest_waiting p at h ≡ o → source (times h) at v (accesses h) ≡ option_or o (memory_source (times h) n at (accesses h))
+pub read_source : (h : List Record) (p at n : ℕ) (v : NumberedAccess) → Fitting h → is_fetch v.access.kind ≡ false → is_write v.access ≡ false → cpu_of v ≡ p → v.access.place ≡ At n → stamp p (line_of at) h ≤ n → length (accesses h) < v.number
+    → (o : Option NumberedAccess) → newest_waiting p at h ≡ o → source (times h) at v (accesses h) ≡ option_or o (memory_source (times h) n at (accesses h))
 read_source h p at n v fit no_fetch reads who vat less later (Some u) found =
     let k = kept h fit in
     let there = find_some (own_waits (times h) at p) (KnownItem h) (accesses h) u found k.items in
     own_is_source h at n v u k no_fetch vat later there.0 (rw who there.1) (rw who found)
 read_source h p at n v fit no_fetch reads who vat less later None found =
     let k = kept h fit in
-    latest_same (times h) (reached (times h) n at) (gives (times h) at v) (accesses h)
+    latest_same (times h) (has_reached (times h) n at) (can_give (times h) at v) (accesses h)
     (each_gives h p at n v less who reads vat (accesses h) k.items (settled p (line_of at) (λ t h. t ≤ stamp p (line_of at) h) (stamp_settles p (line_of at)) h fit) (find_none (own_waits (times h) at p) (accesses h) found))

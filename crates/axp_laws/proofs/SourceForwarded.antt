@@ -10,10 +10,10 @@ use Rattle.axp_access.specs.Kinds.{is_plain_write, is_conditional, is_memory_wri
 use Rattle.axp_base.specs.Lines.{line_of}
 use Rattle.axp_model.specs.Turns.{drained}
 use Rattle.axp_model.specs.Accesses.{times, accesses}
-use Rattle.axp_access.specs.Numbering.{Item}
+use Rattle.axp_access.specs.Numbering.{NumberedAccess}
 use Rattle.axp_access.specs.Order.{Times, spot, spot_at, key, before, precedes}
-use Rattle.axp_model.specs.Sources.{visible, later_of, latest, gives, source}
-use Rattle.axp_laws.proofs.RunFacts.{Known, KnownItem, PairOk, Kept}
+use Rattle.axp_model.specs.Sources.{is_visible, later_of, latest, can_give, source}
+use Rattle.axp_laws.proofs.RunFacts.{Known, KnownItem, PairOk, RunFacts}
 use Rattle.axp_model.specs.Issue.{AllPairs}
 use Rattle.std.specs.List.{AllByRecursion, find}
 use Rattle.axp_model.specs.Memory.{own_waits, is_waiting}
@@ -23,22 +23,22 @@ use Rattle.axp_laws.proofs.OrderDrains.{entry_write}
 use Rattle.axp_laws.proofs.RunSteps.{pairs_map}
 use Rattle.axp_laws.proofs.SourceStays.{hidden, u_before_last}
 
-pub newer_left : (turn : Times) (u : Item) (o : Option Item) → ((y : Item) → o ≡ Some y → (y ≡ u) ⊎ (before turn y u ≡ true)) → later_of turn u o ≡ Some u
+pub newer_left : (turn : Times) (u : NumberedAccess) (o : Option NumberedAccess) → ((y : NumberedAccess) → o ≡ Some y → (y ≡ u) ⊎ (before turn y u ≡ true)) → later_of turn u o ≡ Some u
 newer_left turn u None h = refl
 newer_left turn u (Some y) h = ⊎_elim (λ same. elim (before turn y u) as (λ b. cond b (Some u) (Some y) ≡ Some u) [ true ↦ refl | false ↦ ap (λ x. Some x) same ]) (λ less. rw less refl) (h y refl)
 
-newer_right : (turn : Times) (x u : Item) → before turn x u ≡ true → later_of turn x (Some u) ≡ Some u
+newer_right : (turn : Times) (x u : NumberedAccess) → before turn x u ≡ true → later_of turn x (Some u) ≡ Some u
 newer_right turn x u less = rw (before_asymmetric (key turn x) (key turn u) less) refl
 
-newer_either : (turn : Times) (x y : Item) (o : Option Item) → later_of turn x o ≡ Some y → (x ≡ y) ⊎ (o ≡ Some y)
+newer_either : (turn : Times) (x y : NumberedAccess) (o : Option NumberedAccess) → later_of turn x o ≡ Some y → (x ≡ y) ⊎ (o ≡ Some y)
 newer_either turn x y None e = inl (cc)
 newer_either turn x y (Some z) e = ⊎_elim (λ (t : before turn z x ≡ true). let s : Some x ≡ Some y = rw t at e in inl (cc)) (λ (f : before turn z x ≡ false). inr (rw f at e)) (cases_Bool (before turn z x))
 
 -- each that passes is before u
-abbrev pub Below : Times → (Item → Bool) → Item → Item → Type 0
+abbrev pub Below : Times → (NumberedAccess → Bool) → NumberedAccess → NumberedAccess → Type 0
 Below turn t u x = t x ≡ true → before turn x u ≡ true
 
-pub latest_below : (turn : Times) (t : Item → Bool) (u : Item) (us : List Item) → AllByRecursion (Below turn t u) us → (y : Item) → latest turn t us ≡ Some y → before turn y u ≡ true
+pub latest_below : (turn : Times) (t : NumberedAccess → Bool) (u : NumberedAccess) (us : List NumberedAccess) → AllByRecursion (Below turn t u) us → (y : NumberedAccess) → latest turn t us ≡ Some y → before turn y u ≡ true
 latest_below turn t u [] each y e = cc
 latest_below turn t u (x ∷ xs) each y e =
     ⊎_elim
@@ -46,12 +46,12 @@ latest_below turn t u (x ∷ xs) each y e =
     (λ (f : t x ≡ false). latest_below turn t u xs each.1 y (rw f at e))
     (cases_Bool (t x))
 
-each_at : (turn : Times) (t s : Item → Bool) (x : Item) (xs : List Item) → s x ≡ true → AllByRecursion (λ y. s x ≡ true → Below turn t x y) xs → AllByRecursion (Below turn t x) xs
+each_at : (turn : Times) (t s : NumberedAccess → Bool) (x : NumberedAccess) (xs : List NumberedAccess) → s x ≡ true → AllByRecursion (λ y. s x ≡ true → Below turn t x y) xs → AllByRecursion (Below turn t x) xs
 each_at turn t s x [] p each = tt
 each_at turn t s x (y ∷ xs) p each = (each.0 p, each_at turn t s x xs p each.1)
 
 -- where the newest that passes s is above all others that pass t, it is the latest
-pub first_is : (turn : Times) (t s : Item → Bool) (u : Item) (us : List Item) → AllByRecursion (λ x. s x ≡ true → t x ≡ true) us → AllByRecursion (λ x. s x ≡ false → Below turn t u x) us → AllPairs (λ y x. s x ≡ true → Below turn t x y) us → find s us ≡ Some u → latest turn t us ≡ Some u
+pub first_is : (turn : Times) (t s : NumberedAccess → Bool) (u : NumberedAccess) (us : List NumberedAccess) → AllByRecursion (λ x. s x ≡ true → t x ≡ true) us → AllByRecursion (λ x. s x ≡ false → Below turn t u x) us → AllPairs (λ y x. s x ≡ true → Below turn t x y) us → find s us ≡ Some u → latest turn t us ≡ Some u
 first_is turn t s u [] sub above pairs e = cc
 first_is turn t s u (x ∷ xs) sub above pairs e =
     ⊎_elim
@@ -78,11 +78,11 @@ waiting_entry turn q Absent e = absurd (false≢true e)
 waiting_entry turn q (Entry m) e = (m, refl, none_of (turn.drained q m) e)
 
 -- what gives v a byte is an own write that waits, or has a place
-gives_own : (h : List Record) (b s : ℕ) (v x : Item) → v.access.place ≡ At s → gives (times h) b v x ≡ true → own_waits (times h) b v.access.cpu.number x ≡ false → (spot (times h) x.access.cpu.number x.access.place).last ≡ true → ⊥
+gives_own : (h : List Record) (b s : ℕ) (v x : NumberedAccess) → v.access.place ≡ At s → can_give (times h) b v x ≡ true → own_waits (times h) b v.access.cpu.number x ≡ false → (spot (times h) x.access.cpu.number x.access.place).last ≡ true → ⊥
 gives_own h b s v x vat g no_ last =
     let w = waiting_entry (times h) x.access.cpu.number x.access.place last in
-    let p = and_parts (is_memory_write x.access) (has_byte b x.access && visible (times h) x v) g in
-    let q = and_parts (has_byte b x.access) (visible (times h) x v) p.1 in
+    let p = and_parts (is_memory_write x.access) (has_byte b x.access && is_visible (times h) x v) g in
+    let q = and_parts (has_byte b x.access) (is_visible (times h) x v) p.1 in
     ⊎_elim
     (λ seen. false≢true (sym (hidden h x v w.0 s w.1 w.2 vat) ∙ seen))
     (λ i.
@@ -114,7 +114,7 @@ mem_placed kind.Conditional p l g y Absent h e known = absurd known
 mem_placed _ p l g y at h e known = absurd (false≢true e)
 
 -- the parts of an own write that waits
-pub own_parts : (h : List Record) (b p : ℕ) (u : Item) → KnownItem h u → own_waits (times h) b p u ≡ true → (u.access.cpu.number ≡ p) × (is_memory_write u.access ≡ true) × (has_byte b u.access ≡ true) × (key (times h) u ≡ last_key false p u.number)
+pub own_parts : (h : List Record) (b p : ℕ) (u : NumberedAccess) → KnownItem h u → own_waits (times h) b p u ≡ true → (u.access.cpu.number ≡ p) × (is_memory_write u.access ≡ true) × (has_byte b u.access ≡ true) × (key (times h) u ≡ last_key false p u.number)
 own_parts h b p u ku e =
     let a = and_parts (eqb u.access.cpu.number p) (is_memory_write u.access && (has_byte b u.access && is_waiting (spot (times h) u.access.cpu.number u.access.place))) e in
     let m = and_parts (is_memory_write u.access) (has_byte b u.access && is_waiting (spot (times h) u.access.cpu.number u.access.place)) a.1 in
@@ -125,35 +125,35 @@ own_parts h b p u ku e =
     (same, m.0, c.0, rw (w.1, w.2, same, k) refl)
 
 -- what gives v a byte is before an own write that waits, unless it is one
-below_own : (h : List Record) (b s : ℕ) (v x u : Item) → v.access.place ≡ At s → KnownItem h x → KnownItem h u → own_waits (times h) b v.access.cpu.number u ≡ true → own_waits (times h) b v.access.cpu.number x ≡ false → gives (times h) b v x ≡ true → before (times h) x u ≡ true
+below_own : (h : List Record) (b s : ℕ) (v x u : NumberedAccess) → v.access.place ≡ At s → KnownItem h x → KnownItem h u → own_waits (times h) b v.access.cpu.number u ≡ true → own_waits (times h) b v.access.cpu.number x ≡ false → can_give (times h) b v x ≡ true → before (times h) x u ≡ true
 below_own h b s v x u vat kx ku own no_ g =
-    let placed : (spot (times h) x.access.cpu.number x.access.place).placed ≡ true = mem_placed x.access.kind x.access.cpu.number (line_of x.access.address) x.parts x.access.yes x.access.place h (and_parts (is_memory_write x.access) (has_byte b x.access && visible (times h) x v) g).0 kx.known in
+    let placed : (spot (times h) x.access.cpu.number x.access.place).placed ≡ true = mem_placed x.access.kind x.access.cpu.number (line_of x.access.address) x.parts x.access.yes x.access.place h (and_parts (is_memory_write x.access) (has_byte b x.access && is_visible (times h) x v) g).0 kx.known in
     let gone : (m : ℕ) → x.access.place ≡ Entry m → drained h x.access.cpu.number m ≡ None → ⊥ = λ m at none. gives_own h b s v x vat g no_ (rw (at, none) refl) in
     rw (own_parts h b v.access.cpu.number u ku own).3 (u_before_last x.access.cpu.number x.access.place h (mark x.access) false x.number v.access.cpu.number u.number placed gone)
 
-below_any : (h : List Record) (b s : ℕ) (v y x : Item) → v.access.place ≡ At s → KnownItem h y → KnownItem h x → y.number < x.number → own_waits (times h) b v.access.cpu.number x ≡ true → gives (times h) b v y ≡ true → before (times h) y x ≡ true
+below_any : (h : List Record) (b s : ℕ) (v y x : NumberedAccess) → v.access.place ≡ At s → KnownItem h y → KnownItem h x → y.number < x.number → own_waits (times h) b v.access.cpu.number x ≡ true → can_give (times h) b v y ≡ true → before (times h) y x ≡ true
 below_any h b s v y x vat ky kx first own g =
     ⊎_elim
     (λ (t : own_waits (times h) b v.access.cpu.number y ≡ true). rw ((own_parts h b v.access.cpu.number y ky t).3, (own_parts h b v.access.cpu.number x kx own).3) (last_last v.access.cpu.number y.number x.number false first))
     (λ (f : own_waits (times h) b v.access.cpu.number y ≡ false). below_own h b s v y x vat ky kx own f g)
     (cases_Bool (own_waits (times h) b v.access.cpu.number y))
 
-own_gives : (h : List Record) (b : ℕ) (v x : Item) → is_fetch v.access.kind ≡ false → KnownItem h x → x.number < v.number → own_waits (times h) b v.access.cpu.number x ≡ true → gives (times h) b v x ≡ true
+own_gives : (h : List Record) (b : ℕ) (v x : NumberedAccess) → is_fetch v.access.kind ≡ false → KnownItem h x → x.number < v.number → own_waits (times h) b v.access.cpu.number x ≡ true → can_give (times h) b v x ≡ true
 own_gives h b v x reads kx later own =
     let p = own_parts h b v.access.cpu.number x kx own in
     let plain : not (is_fetch v.access.kind) ≡ true = rw reads refl in
     let issued : (not (is_fetch v.access.kind) && precedes x v) ≡ true = and_from (not (is_fetch v.access.kind)) (precedes x v) plain (and_from (eqb x.access.cpu.number v.access.cpu.number) (ltb x.number v.number) (eq-eqb x.access.cpu.number v.access.cpu.number p.0) (lt-ltb x.number v.number later)) in
-    and_from (is_memory_write x.access) (has_byte b x.access && visible (times h) x v) p.1 (and_from (has_byte b x.access) (visible (times h) x v) p.2 (or_right (before (times h) x v) (not (is_fetch v.access.kind) && precedes x v) issued))
+    and_from (is_memory_write x.access) (has_byte b x.access && is_visible (times h) x v) p.1 (and_from (has_byte b x.access) (is_visible (times h) x v) p.2 (or_right (before (times h) x v) (not (is_fetch v.access.kind) && precedes x v) issued))
 
-each_known : (h : List Record) (Q : Item → Type 0) (us : List Item) → ((x : Item) → KnownItem h x → Q x) → AllByRecursion (KnownItem h) us → AllByRecursion Q us
+each_known : (h : List Record) (Q : NumberedAccess → Type 0) (us : List NumberedAccess) → ((x : NumberedAccess) → KnownItem h x → Q x) → AllByRecursion (KnownItem h) us → AllByRecursion Q us
 each_known h Q [] f k = tt
 each_known h Q (x ∷ us) f k = (f x k.0, each_known h Q us f k.1)
 
 -- the newest own write of the byte that waits is the source of a new read
-pub own_is_source : (h : List Record) (b s : ℕ) (v u : Item) → Kept h → is_fetch v.access.kind ≡ false → v.access.place ≡ At s → length (accesses h) < v.number → KnownItem h u → own_waits (times h) b v.access.cpu.number u ≡ true → find (own_waits (times h) b v.access.cpu.number) (accesses h) ≡ Some u → source (times h) b v (accesses h) ≡ Some u
+pub own_is_source : (h : List Record) (b s : ℕ) (v u : NumberedAccess) → RunFacts h → is_fetch v.access.kind ≡ false → v.access.place ≡ At s → length (accesses h) < v.number → KnownItem h u → own_waits (times h) b v.access.cpu.number u ≡ true → find (own_waits (times h) b v.access.cpu.number) (accesses h) ≡ Some u → source (times h) b v (accesses h) ≡ Some u
 own_is_source h b s v u kept reads vat later ku own found =
-    first_is (times h) (gives (times h) b v) (own_waits (times h) b v.access.cpu.number) u (accesses h)
-    (each_known h (λ x. own_waits (times h) b v.access.cpu.number x ≡ true → gives (times h) b v x ≡ true) (accesses h) (λ x kx. own_gives h b v x reads kx (omega (arith, kx.number))) kept.items)
-    (each_known h (λ x. own_waits (times h) b v.access.cpu.number x ≡ false → Below (times h) (gives (times h) b v) u x) (accesses h) (λ x kx no_ g. below_own h b s v x u vat kx ku own no_ g) kept.items)
-    (pairs_map (KnownItem h) (PairOk (times h)) (λ y x. own_waits (times h) b v.access.cpu.number x ≡ true → Below (times h) (gives (times h) b v) x y) (accesses h) (λ y x ky kx ok o g. below_any h b s v y x vat ky kx ok.first o g) kept.items kept.pairs)
+    first_is (times h) (can_give (times h) b v) (own_waits (times h) b v.access.cpu.number) u (accesses h)
+    (each_known h (λ x. own_waits (times h) b v.access.cpu.number x ≡ true → can_give (times h) b v x ≡ true) (accesses h) (λ x kx. own_gives h b v x reads kx (omega (arith, kx.number))) kept.items)
+    (each_known h (λ x. own_waits (times h) b v.access.cpu.number x ≡ false → Below (times h) (can_give (times h) b v) u x) (accesses h) (λ x kx no_ g. below_own h b s v x u vat kx ku own no_ g) kept.items)
+    (pairs_map (KnownItem h) (PairOk (times h)) (λ y x. own_waits (times h) b v.access.cpu.number x ≡ true → Below (times h) (can_give (times h) b v) x y) (accesses h) (λ y x ky kx ok o g. below_any h b s v y x vat ky kx ok.first o g) kept.items kept.pairs)
     found

@@ -15,7 +15,7 @@ use Rattle.axp_base.specs.Lines.{line_of}
 use Rattle.axp_model.specs.Turns.{turns, stamp, code_stamp, read_place, drained}
 use Rattle.axp_model.specs.Entries.{buffer, has_line}
 use Rattle.axp_model.specs.Accesses.{accesses, times}
-use Rattle.axp_access.specs.Numbering.{Item, next_item}
+use Rattle.axp_access.specs.Numbering.{NumberedAccess, next_access}
 use Rattle.axp_access.specs.Order.{Spot, spot}
 use Rattle.axp_model.specs.Sources.{source, takes_bytes, byte_of_source, source_byte}
 use Rattle.axp_model.specs.Memory.{own_waits, is_waiting, newest_waiting}
@@ -35,13 +35,13 @@ use Rattle.axp_laws.proofs.SourceBytes.{byte-number_at}
 use Rattle.axp_laws.proofs.SourceClosedForm.{source_stays_along, memory_stays, read_source, fetch_source, byte_line, find_some}
 
 -- a source's byte is a byte
-source_small : (image : ℕ → ℕ) → HasBytes image → (h : List Record) (v : Item) (at : ℕ) → source_byte image h v at < 256
+source_small : (image : ℕ → ℕ) → HasBytes image → (h : List Record) (v : NumberedAccess) (at : ℕ) → source_byte image h v at < 256
 source_small image small h v at = by_source (source (times h) at v (accesses h)) where
-  by_source : (o : Option Item) → byte_of_source image at o < 256
+  by_source : (o : Option NumberedAccess) → byte_of_source image at o < 256
   by_source None = small at
   by_source (Some u) = omega arith
 
-bytes_of_value : (image : ℕ → ℕ) (h : List Record) (v : Item) → HasBytes image → HasSources image h v → HasEachSource image h v
+bytes_of_value : (image : ℕ → ℕ) (h : List Record) (v : NumberedAccess) → HasBytes image → HasSources image h v → HasEachSource image h v
 bytes_of_value image h v small ok takes k less = rw (ok takes) (byte-number_at (source_byte image h v) v.access.address v.access.size k (source_small image small h v) less)
 
 pub run_bytes : (image : ℕ → ℕ) (ps : Processors) (h : List Record) → HasBytes image → AreInLine ps → IsRun image ps h → KeepsEachByte image h
@@ -60,7 +60,7 @@ no_write kind.Locked a is e = rw is refl
 no_write _ a is e = let never : false ≡ true = rw is at e in cc
 
 -- the entry in which an own write waits
-own_entry : (h : List Record) (at p : ℕ) (u : Item) → own_waits (times h) at p u ≡ true → (m : ℕ) × (u.access.place ≡ Entry m) × (drained h u.access.cpu.number m ≡ None)
+own_entry : (h : List Record) (at p : ℕ) (u : NumberedAccess) → own_waits (times h) at p u ≡ true → (m : ℕ) × (u.access.place ≡ Entry m) × (drained h u.access.cpu.number m ≡ None)
 own_entry h at p u e =
     let s : Spot = spot (times h) u.access.cpu.number u.access.place in
     let a = and_parts (eqb u.access.cpu.number p) (is_memory_write u.access && (has_byte at u.access && is_waiting s)) e in
@@ -76,24 +76,24 @@ made_fits more r h a k fit makes =
     (subst (λ p. FitsOutcome p (outcome.Access a) h) (sym shown.0) shown, both.1)
 
 -- the access is no source of its own
-not_own : (e : Event) (a : Access) (h : List Record) (at : ℕ) → takes_bytes (next_item (accesses h) a) ≡ true
-    → source (times (record { event = e; outcome = outcome.Access a } ∷ h)) at (next_item (accesses h) a) (next_item (accesses h) a ∷ accesses h) ≡ source (times h) at (next_item (accesses h) a) (accesses h)
+not_own : (e : Event) (a : Access) (h : List Record) (at : ℕ) → takes_bytes (next_access (accesses h) a) ≡ true
+    → source (times (record { event = e; outcome = outcome.Access a } ∷ h)) at (next_access (accesses h) a) (next_access (accesses h) a ∷ accesses h) ≡ source (times h) at (next_access (accesses h) a) (accesses h)
 not_own e a h at takes =
     let r : Record = record { event = e; outcome = outcome.Access a } in
-    source_more (times h) (times (r ∷ h)) at (next_item (accesses h) a) (next_item (accesses h) a) (accesses h) (turn_same r h (λ n. refl)) (not_itself (times (r ∷ h)) at (next_item (accesses h) a) takes)
+    source_more (times h) (times (r ∷ h)) at (next_access (accesses h) a) (next_access (accesses h) a) (accesses h) (turn_same r h (λ n. refl)) (not_itself (times (r ∷ h)) at (next_access (accesses h) a) takes)
 
-stays_after_access : (more : List Record) (e : Event) (a : Access) (h : List Record) (at n : ℕ) → Fitting (more ++ record { event = e; outcome = outcome.Access a } ∷ h) → a.place ≡ At n → n ≤ turns h → takes_bytes (next_item (accesses h) a) ≡ true
-    → source_in (more ++ record { event = e; outcome = outcome.Access a } ∷ h) h at a ≡ source (times h) at (next_item (accesses h) a) (accesses h)
+stays_after_access : (more : List Record) (e : Event) (a : Access) (h : List Record) (at n : ℕ) → Fitting (more ++ record { event = e; outcome = outcome.Access a } ∷ h) → a.place ≡ At n → n ≤ turns h → takes_bytes (next_access (accesses h) a) ≡ true
+    → source_in (more ++ record { event = e; outcome = outcome.Access a } ∷ h) h at a ≡ source (times h) at (next_access (accesses h) a) (accesses h)
 stays_after_access more e a h at n fit vat less takes =
     let r : Record = record { event = e; outcome = outcome.Access a } in
-    source_stays_along at n (next_item (accesses h) a) more (r ∷ h) fit vat (omega (arith, less, turns_grow r h)) (omega arith) ∙ not_own e a h at takes
+    source_stays_along at n (next_access (accesses h) a) more (r ∷ h) fit vat (omega (arith, less, turns_grow r h)) (omega arith) ∙ not_own e a h at takes
 
 -- later records leave the source of an access of a run
-stays_after : (more : List Record) (r : Record) (h : List Record) (a : Access) (at n : ℕ) → Fitting (more ++ r ∷ h) → r.outcome ≡ outcome.Access a → a.place ≡ At n → n ≤ turns h → takes_bytes (next_item (accesses h) a) ≡ true
-    → source_in (more ++ r ∷ h) h at a ≡ source (times h) at (next_item (accesses h) a) (accesses h)
+stays_after : (more : List Record) (r : Record) (h : List Record) (a : Access) (at n : ℕ) → Fitting (more ++ r ∷ h) → r.outcome ≡ outcome.Access a → a.place ≡ At n → n ≤ turns h → takes_bytes (next_access (accesses h) a) ≡ true
+    → source_in (more ++ r ∷ h) h at a ≡ source (times h) at (next_access (accesses h) a) (accesses h)
 stays_after more r h a at n fit is vat less takes =
     let same : record { event = r.event; outcome = outcome.Access a } ≡ r = ap (λ o. record { event = r.event; outcome = o }) (sym is) in
-    subst (λ s. source_in (more ++ s ∷ h) h at a ≡ source (times h) at (next_item (accesses h) a) (accesses h)) same
+    subst (λ s. source_in (more ++ s ∷ h) h at a ≡ source (times h) at (next_access (accesses h) a) (accesses h)) same
     (stays_after_access more r.event a h at n (subst (λ s. Fitting (more ++ s ∷ h)) (sym same) fit) vat less takes)
 
 read_after : (more : List Record) (r : Record) (h : List Record) (a : Access) (at : ℕ) → Fitting (more ++ r ∷ h) → Makes r kind.Read a → has_byte at a ≡ true
@@ -104,14 +104,14 @@ read_after more r h a at fit makes has =
     let line : line_of a.address ≡ line_of at = sym (byte_line at a both.0.1 has) in
     let vat : a.place ≡ At (read_place p (line_of at) h) = subst (λ l. a.place ≡ At (read_place p l h)) line (rw makes.1 at both.0.2).0 in
     stays_after more r h a at (read_place p (line_of at) h) fit makes.0 vat (read_place_most p (line_of at) h) (rw makes.1 refl)
-    ∙ read_source h p at (read_place p (line_of at) h) (next_item (accesses h) a) both.1 (rw makes.1 refl) (rw makes.1 refl) refl vat (stamp_below p (line_of at) h) (omega arith) (newest_waiting p at h) refl where
+    ∙ read_source h p at (read_place p (line_of at) h) (next_access (accesses h) a) both.1 (rw makes.1 refl) (rw makes.1 refl) refl vat (stamp_below p (line_of at) h) (omega arith) (newest_waiting p at h) refl where
       stamp_below : (p l : ℕ) (h : List Record) → stamp p l h ≤ read_place p l h
       stamp_below p l h = omega arith
 
 -- of a line that no own entry has, no own write waits
 pub none_waits : (h : List Record) (p at : ℕ) → Fitting h → has_line (line_of at) (buffer p h).waiting ≡ false → newest_waiting p at h ≡ None
 none_waits h p at fit none = by_found (newest_waiting p at h) refl where
-  by_found : (o : Option Item) → newest_waiting p at h ≡ o → o ≡ None
+  by_found : (o : Option NumberedAccess) → newest_waiting p at h ≡ o → o ≡ None
   by_found None found = refl
   by_found (Some u) found =
       let k = kept h fit in
@@ -132,7 +132,7 @@ locked_after more r h a at fit makes has =
     let line : line_of at ≡ line_of a.address = byte_line at a both.0.1 has in
     let none : newest_waiting p at h ≡ None = none_waits h p at both.1 (rw line fits.1) in
     stays_after more r h a at (turns h) fit makes.0 fits.0 (omega arith) (rw makes.1 refl)
-    ∙ read_source h p at (turns h) (next_item (accesses h) a) both.1 (rw makes.1 refl) (rw makes.1 refl) refl fits.0 (stamp_most p (line_of at) h) (omega arith) None none
+    ∙ read_source h p at (turns h) (next_access (accesses h) a) both.1 (rw makes.1 refl) (rw makes.1 refl) refl fits.0 (stamp_most p (line_of at) h) (omega arith) None none
 
 fetch_after : (more : List Record) (r : Record) (h : List Record) (a : Access) (at : ℕ) → Fitting (more ++ r ∷ h) → Makes r kind.Fetch a → has_byte at a ≡ true → source_in (more ++ r ∷ h) h at a ≡ memory_after h (code_stamp (cpu_number a.cpu) (line_of at) h) at
 fetch_after more r h a at fit makes has =
@@ -141,7 +141,7 @@ fetch_after more r h a at fit makes has =
     let line : line_of a.address ≡ line_of at = sym (byte_line at a both.0.1 has) in
     let vat : a.place ≡ At (code_stamp p (line_of at) h) = subst (λ l. a.place ≡ At (code_stamp p l h)) line (rw makes.1 at both.0.2).0 in
     stays_after more r h a at (code_stamp p (line_of at) h) fit makes.0 vat (code_stamp_most p (line_of at) h) (rw makes.1 refl)
-    ∙ fetch_source (times h) (code_stamp p (line_of at) h) at (next_item (accesses h) a) (accesses h) (rw makes.1 refl) (rw makes.1 refl) vat
+    ∙ fetch_source (times h) (code_stamp p (line_of at) h) at (next_access (accesses h) a) (accesses h) (rw makes.1 refl) (rw makes.1 refl) vat
 
 pub run_read : (image : ℕ → ℕ) (ps : Processors) (more : List Record) (r : Record) (h : List Record) (a : Access) (at : ℕ) → AreInLine ps → IsRun image ps (more ++ r ∷ h) → Makes r kind.Read a → has_byte at a ≡ true
     → source_in (more ++ r ∷ h) h at a ≡ option_or (newest_waiting (cpu_number a.cpu) at h) (memory_after h (read_place (cpu_number a.cpu) (line_of at) h) at)

@@ -21,13 +21,13 @@ use Rattle.axp_model.specs.Turns.{turns, drained}
 use Rattle.axp_model.specs.Entries.{Waiting, buffer, oldest, entry_for}
 use Rattle.axp_model.specs.Late.{late}
 use Rattle.axp_model.specs.Accesses.{times, accesses}
-use Rattle.axp_access.specs.Numbering.{next_item, Item, parts_in}
+use Rattle.axp_access.specs.Numbering.{next_access, NumberedAccess, write_barriers_in}
 use Rattle.axp_access.specs.Order.{Times, key, before, precedes}
-use Rattle.axp_model.specs.Sources.{visible, gives, source, takes_bytes, byte_of_source, source_byte}
+use Rattle.axp_model.specs.Sources.{is_visible, can_give, source, takes_bytes, byte_of_source, source_byte}
 use Rattle.axp_access.specs.declared.Intent.{Intent}
-use Rattle.axp_model.specs.Outcomes.{step_by, stepped, outcome_by, outcome_of, drained_as, taken, filled, IsRun}
+use Rattle.axp_model.specs.Outcomes.{step_outcome_by, step_outcome, outcome_by, outcome_of, drain_outcome, take_outcome, fill_outcome, IsRun}
 use Rattle.axp_model.specs.Processors.{Processors, AreInLine}
-use Rattle.axp_laws.proofs.RunFacts.{Fits, FitsOutcome, Fitting, AtMost, Known, KnownItem, Kept}
+use Rattle.axp_laws.proofs.RunFacts.{Fits, FitsOutcome, Fitting, AtMost, Known, KnownItem, RunFacts}
 use Rattle.axp_model.specs.Issue.{AllPairs}
 use Rattle.axp_model.specs.Storage.{HasSources, KeepsStorage}
 use Rattle.std.specs.List.{AllByRecursion}
@@ -41,32 +41,32 @@ use Rattle.axp_laws.proofs.SourceStays.{latest_now, hidden, source_drain, each_a
 
 -- a run's values
 abbrev IsValued : (ℕ → ℕ) → Outcome → List Record → Type 0
-IsValued image (outcome.Access a) h = HasSources image h (next_item (accesses h) a)
+IsValued image (outcome.Access a) h = HasSources image h (next_access (accesses h) a)
 IsValued image _ h = Unit {0}
 
 abbrev pub Valued : (ℕ → ℕ) → List Record → Type 0
 Valued image [] = Unit {0}
 Valued image (r ∷ h) = IsValued image r.outcome h × Valued image h
 
-step_valued : (k : Kind) (image : ℕ → ℕ) (armed : Bool) (c : Cpu) (a s v : ℕ) (h : List Record) → IsValued image (step_by k image armed c (record { kind = k; address = a; size = s; value = v }) h) h
+step_valued : (k : Kind) (image : ℕ → ℕ) (armed : Bool) (c : Cpu) (a s v : ℕ) (h : List Record) → IsValued image (step_outcome_by k image armed c (record { kind = k; address = a; size = s; value = v }) h) h
 step_valued kind.Fetch image armed c a s v h = λ e. refl
 step_valued kind.Read image armed c a s v h = λ e. refl
 step_valued kind.Locked image armed c a s v h = λ e. refl
 step_valued _ image armed c a s v h = λ e. absurd (false≢true e)
 
-drain_valued : (image : ℕ → ℕ) (h : List Record) (o : Option Waiting) → IsValued image (drained_as o h) h
+drain_valued : (image : ℕ → ℕ) (h : List Record) (o : Option Waiting) → IsValued image (drain_outcome o h) h
 drain_valued image h None = tt
 drain_valued image h (Some w) = tt
 
-take_valued : (image : ℕ → ℕ) (p : ℕ) (h : List Record) (q : List (Line × ℕ)) → IsValued image (taken p q h) h
+take_valued : (image : ℕ → ℕ) (p : ℕ) (h : List Record) (q : List (Line × ℕ)) → IsValued image (take_outcome p q h) h
 take_valued image p h [] = tt
 take_valued image p h ((line, turn) ∷ q) = tt
 
-fill_valued : (image : ℕ → ℕ) (o : Option Wanted) (h : List Record) → IsValued image (filled o h) h
+fill_valued : (image : ℕ → ℕ) (o : Option Wanted) (h : List Record) → IsValued image (fill_outcome o h) h
 fill_valued image None h = tt
 fill_valued image (Some a) h = tt
 
-want_valued : (image : ℕ → ℕ) (armed : Bool) (o : Option Wanted) (c : Cpu) (h : List Record) → IsValued image (stepped image armed c o h) h
+want_valued : (image : ℕ → ℕ) (armed : Bool) (o : Option Wanted) (c : Cpu) (h : List Record) → IsValued image (step_outcome image armed c o h) h
 want_valued image armed None c h = tt
 want_valued image armed (Some a) c h = step_valued a.kind image armed c a.address a.size a.value h
 
@@ -102,24 +102,24 @@ read_at_place kind.Read p l g at h e known = at_of (turns h) at (most_of kind.Re
 read_at_place kind.Locked p l g at h e known = at_of (turns h) at (most_of kind.Locked p l g at h refl known)
 read_at_place _ p l g at h e known = absurd (false≢true e)
 
-pub before_eq : (turn now : Times) (u v : Item) → ((p m : ℕ) → now.drained p m ≡ turn.drained p m) → before now u v ≡ before turn u v
+pub before_eq : (turn now : Times) (u v : NumberedAccess) → ((p m : ℕ) → now.drained p m ≡ turn.drained p m) → before now u v ≡ before turn u v
 before_eq turn now u v same = rw (spot_same turn now u.access.cpu.number u.access.place same, spot_same turn now v.access.cpu.number v.access.place same) refl
 
-pub gives_eq : (turn now : Times) (b : ℕ) (u v : Item) → before now u v ≡ before turn u v → gives now b v u ≡ gives turn b v u
+pub gives_eq : (turn now : Times) (b : ℕ) (u v : NumberedAccess) → before now u v ≡ before turn u v → can_give now b v u ≡ can_give turn b v u
 gives_eq turn now b u v same = ap (λ z. is_memory_write u.access && (has_byte b u.access && (z || (not (is_fetch v.access.kind) && precedes u v)))) same
 
-pairs_all : (P : Item → Item → Type 0) (us : List Item) → ((u v : Item) → P u v) → AllPairs P us
+pairs_all : (P : NumberedAccess → NumberedAccess → Type 0) (us : List NumberedAccess) → ((u v : NumberedAccess) → P u v) → AllPairs P us
 pairs_all P [] f = tt
 pairs_all P (x ∷ us) f = (each_all (λ u. P u x) us (λ u. f u x), pairs_all P us f)
 
-source_same : (turn now : Times) (b : ℕ) (v : Item) (us : List Item) → ((p m : ℕ) → now.drained p m ≡ turn.drained p m) → source now b v us ≡ source turn b v us
+source_same : (turn now : Times) (b : ℕ) (v : NumberedAccess) (us : List NumberedAccess) → ((p m : ℕ) → now.drained p m ≡ turn.drained p m) → source now b v us ≡ source turn b v us
 source_same turn now b v us same =
-    latest_now turn now (gives turn b v) (gives now b v) us
-    (each_all (λ u. gives now b v u ≡ gives turn b v u) us (λ u. gives_eq turn now b u v (before_eq turn now u v same)))
-    (pairs_all (λ y x. gives turn b v y ≡ true → gives turn b v x ≡ true → before now y x ≡ before turn y x) us (λ y x _ _. before_eq turn now y x same))
+    latest_now turn now (can_give turn b v) (can_give now b v) us
+    (each_all (λ u. can_give now b v u ≡ can_give turn b v u) us (λ u. gives_eq turn now b u v (before_eq turn now u v same)))
+    (pairs_all (λ y x. can_give turn b v y ≡ true → can_give turn b v x ≡ true → before now y x ≡ before turn y x) us (λ y x _ _. before_eq turn now y x same))
 
 -- a new access that gives v nothing
-pub source_more : (turn now : Times) (b : ℕ) (v w : Item) (us : List Item) → ((p m : ℕ) → now.drained p m ≡ turn.drained p m) → gives now b v w ≡ false → source now b v (w ∷ us) ≡ source turn b v us
+pub source_more : (turn now : Times) (b : ℕ) (v w : NumberedAccess) (us : List NumberedAccess) → ((p m : ℕ) → now.drained p m ≡ turn.drained p m) → can_give now b v w ≡ false → source now b v (w ∷ us) ≡ source turn b v us
 source_more turn now b v w us same none = rw none (source_same turn now b v us same)
 
 gives_none : (a b c d : Bool) → (a && (b && (false || (c && (d && false))))) ≡ false
@@ -130,32 +130,32 @@ gives_none true false c d = refl
 gives_none false b c d = refl
 
 -- what is neither before v nor earlier gives it nothing
-unseen : (turn : Times) (b : ℕ) (v w : Item) → before turn w v ≡ false → v.number < w.number → gives turn b v w ≡ false
+unseen : (turn : Times) (b : ℕ) (v w : NumberedAccess) → before turn w v ≡ false → v.number < w.number → can_give turn b v w ≡ false
 unseen turn b v w hid later =
     let late_ : ltb w.number v.number ≡ false = le-ltb w.number v.number (omega arith) in
     rw hid (rw late_ (gives_none (is_memory_write w.access) (has_byte b w.access) (not (is_fetch v.access.kind)) (eqb w.access.cpu.number v.access.cpu.number)))
 
 -- a new write gives an earlier read nothing
-pub new_unseen : (k : Kind) (h : List Record) (p b s nv nw g : ℕ) (c : Cpu) (a z x : ℕ) (y : Bool) (at : Place) (v : Item) → c.number ≡ p → Fits k p (line_of a) y at h → ((n : ℕ) → k ≡ kind.Write → at ≡ Entry n → drained h c.number n ≡ None) → v.access.place ≡ At s → s ≤ turns h → v.number < nw → gives (times h) b v (record { number = nw; parts = g; access = acc c k a z x y at }) ≡ false
+pub new_unseen : (k : Kind) (h : List Record) (p b s nv nw g : ℕ) (c : Cpu) (a z x : ℕ) (y : Bool) (at : Place) (v : NumberedAccess) → c.number ≡ p → Fits k p (line_of a) y at h → ((n : ℕ) → k ≡ kind.Write → at ≡ Entry n → drained h c.number n ≡ None) → v.access.place ≡ At s → s ≤ turns h → v.number < nw → can_give (times h) b v (record { number = nw; parts = g; access = acc c k a z x y at }) ≡ false
 new_unseen kind.Write h p b s nv nw g c a z x y at v same fit fresh vat less later =
-    let w : Item = record { number = nw; parts = g; access = acc c kind.Write a z x y at } in
+    let w : NumberedAccess = record { number = nw; parts = g; access = acc c kind.Write a z x y at } in
     unseen (times h) b v w (hidden h w v (entry_for (line_of a) (buffer p h)) s fit (fresh (entry_for (line_of a) (buffer p h)) refl fit) vat) later
 new_unseen kind.Conditional h p b s nv nw g c a z x true at v same fit fresh vat less later =
-    let w : Item = record { number = nw; parts = g; access = acc c kind.Conditional a z x true at } in
+    let w : NumberedAccess = record { number = nw; parts = g; access = acc c kind.Conditional a z x true at } in
     let after : before (times h) v w ≡ true = rw (vat, fit.0) (at_less s (turns h + 1) v.access.cpu.number c.number v.number nw (mark v.access) false (omega arith)) in
     unseen (times h) b v w (before_asymmetric (key (times h) v) (key (times h) w) after) later
 new_unseen kind.Conditional h p b s nv nw g c a z x false at v same fit fresh vat less later = refl
 new_unseen _ h p b s nv nw g c a z x y at v same fit fresh vat less later = refl
 
 -- a later record leaves a value where it leaves the sources
-ok_from : (image : ℕ → ℕ) (h k : List Record) (v : Item) → (takes_bytes v ≡ true → (b : ℕ) → source (times k) b v (accesses k) ≡ source (times h) b v (accesses h)) → HasSources image h v → HasSources image k v
+ok_from : (image : ℕ → ℕ) (h k : List Record) (v : NumberedAccess) → (takes_bytes v ≡ true → (b : ℕ) → source (times k) b v (accesses k) ≡ source (times h) b v (accesses h)) → HasSources image h v → HasSources image k v
 ok_from image h k v same ok e = ok e ∙ number_same (source_byte image h v) (source_byte image k v) v.access.address v.access.size (λ b. ap (byte_of_source image b) (sym (same e b)))
 
-each_two : (P Q R : Item → Type 0) (us : List Item) → ((u : Item) → P u → Q u → R u) → AllByRecursion P us → AllByRecursion Q us → AllByRecursion R us
+each_two : (P Q R : NumberedAccess → Type 0) (us : List NumberedAccess) → ((u : NumberedAccess) → P u → Q u → R u) → AllByRecursion P us → AllByRecursion Q us → AllByRecursion R us
 each_two P Q R [] f p q = tt
 each_two P Q R (u ∷ us) f p q = (f u p.0 q.0, each_two P Q R us f p.1 q.1)
 
-pub place_of : (h : List Record) (v : Item) → KnownItem h v → takes_bytes v ≡ true → (s : ℕ) × (v.access.place ≡ At s) × (s ≤ turns h)
+pub place_of : (h : List Record) (v : NumberedAccess) → KnownItem h v → takes_bytes v ≡ true → (s : ℕ) × (v.access.place ≡ At s) × (s ≤ turns h)
 place_of h v kv e = read_at_place v.access.kind v.access.cpu.number (line_of v.access.address) v.parts v.access.place h e kv.known
 
 -- a read or fetch is no source of its own
@@ -165,28 +165,28 @@ no_write kind.Read c a z x y at e = refl
 no_write kind.Locked c a z x y at e = refl
 no_write _ c a z x y at e = absurd (false≢true e)
 
-pub not_itself : (turn : Times) (b : ℕ) (v : Item) → takes_bytes v ≡ true → gives turn b v v ≡ false
-not_itself turn b v e = and_left (is_memory_write v.access) (has_byte b v.access && visible turn v v) (no_write v.access.kind v.access.cpu v.access.address v.access.size v.access.value v.access.yes v.access.place e)
+pub not_itself : (turn : Times) (b : ℕ) (v : NumberedAccess) → takes_bytes v ≡ true → can_give turn b v v ≡ false
+not_itself turn b v e = and_left (is_memory_write v.access) (has_byte b v.access && is_visible turn v v) (no_write v.access.kind v.access.cpu v.access.address v.access.size v.access.value v.access.yes v.access.place e)
 
 -- the source of a byte of a read or fetch that stands at or below the turn count stays under a record
-source_access : (b s : ℕ) (v : Item) (e : Event) (o : Outcome) (a : Access) (h : List Record) → access_in e.cpu o ≡ Some a → ((n : ℕ) → drains n o ≡ false) → a.cpu.number ≡ e.cpu.number
-    → Fits a.kind e.cpu.number (line_of a.address) a.yes a.place h → Kept h → v.access.place ≡ At s → s ≤ turns h → v.number < length (accesses h) + 1
+source_access : (b s : ℕ) (v : NumberedAccess) (e : Event) (o : Outcome) (a : Access) (h : List Record) → access_in e.cpu o ≡ Some a → ((n : ℕ) → drains n o ≡ false) → a.cpu.number ≡ e.cpu.number
+    → Fits a.kind e.cpu.number (line_of a.address) a.yes a.place h → RunFacts h → v.access.place ≡ At s → s ≤ turns h → v.number < length (accesses h) + 1
     → source (times (record { event = e; outcome = o } ∷ h)) b v (accesses (record { event = e; outcome = o } ∷ h)) ≡ source (times h) b v (accesses h)
 source_access b s v e o a h shown none same fit kept vat less first =
     let r : Record = record { event = e; outcome = o } in
     let turn = turn_same r h none in
-    let listed : accesses (r ∷ h) ≡ next_item (accesses h) a ∷ accesses h = rw shown refl in
-    let old : gives (times h) b v (next_item (accesses h) a) ≡ false = new_unseen a.kind h e.cpu.number b s 0 (length (accesses h) + 1) (parts_in a.cpu.number (accesses h)) a.cpu a.address a.size a.value a.yes a.place v same fit (λ n w at. fresh_at h e a same fit kept w n at) vat less first in
-    rw listed (source_more (times h) (times (r ∷ h)) b v (next_item (accesses h) a) (accesses h) turn (gives_eq (times h) (times (r ∷ h)) b (next_item (accesses h) a) v (before_eq (times h) (times (r ∷ h)) (next_item (accesses h) a) v turn) ∙ old))
+    let listed : accesses (r ∷ h) ≡ next_access (accesses h) a ∷ accesses h = rw shown refl in
+    let old : can_give (times h) b v (next_access (accesses h) a) ≡ false = new_unseen a.kind h e.cpu.number b s 0 (length (accesses h) + 1) (write_barriers_in a.cpu.number (accesses h)) a.cpu a.address a.size a.value a.yes a.place v same fit (λ n w at. fresh_at h e a same fit kept w n at) vat less first in
+    rw listed (source_more (times h) (times (r ∷ h)) b v (next_access (accesses h) a) (accesses h) turn (gives_eq (times h) (times (r ∷ h)) b (next_access (accesses h) a) v (before_eq (times h) (times (r ∷ h)) (next_access (accesses h) a) v turn) ∙ old))
 
-source_quiet : (b : ℕ) (v : Item) (e : Event) (o : Outcome) (h : List Record) → access_in e.cpu o ≡ None → ((n : ℕ) → drains n o ≡ false)
+source_quiet : (b : ℕ) (v : NumberedAccess) (e : Event) (o : Outcome) (h : List Record) → access_in e.cpu o ≡ None → ((n : ℕ) → drains n o ≡ false)
     → source (times (record { event = e; outcome = o } ∷ h)) b v (accesses (record { event = e; outcome = o } ∷ h)) ≡ source (times h) b v (accesses h)
 source_quiet b v e o h shown none =
     let r : Record = record { event = e; outcome = o } in
     let listed : accesses (r ∷ h) ≡ accesses h = rw shown refl in
     rw listed (source_same (times h) (times (r ∷ h)) b v (accesses h) (turn_same r h none))
 
-pub source_stays : (b s : ℕ) (v : Item) (e : Event) (o : Outcome) (h : List Record) → FitsOutcome e.cpu.number o h → Kept h → v.access.place ≡ At s → s ≤ turns h → v.number < length (accesses h) + 1
+pub source_stays : (b s : ℕ) (v : NumberedAccess) (e : Event) (o : Outcome) (h : List Record) → FitsOutcome e.cpu.number o h → RunFacts h → v.access.place ≡ At s → s ≤ turns h → v.number < length (accesses h) + 1
     → source (times (record { event = e; outcome = o } ∷ h)) b v (accesses (record { event = e; outcome = o } ∷ h)) ≡ source (times h) b v (accesses h)
 source_stays b s v e (outcome.Access a) h fit kept vat less first = source_access b s v e (outcome.Access a) a h refl (λ n. refl) fit.0 fit.2 kept vat less first
 source_stays b s v e (outcome.Polled x y t) h fit kept vat less first = source_access b s v e (outcome.Polled x y t) (poll_access e x t) h refl (λ n. refl) refl (ap (λ z. At z) fit.0) kept vat less first
@@ -198,20 +198,20 @@ source_stays b s v e (outcome.Taken x y z) h fit kept vat less first = source_qu
 source_stays b s v e outcome.Done h fit kept vat less first = source_quiet b v e outcome.Done h refl (λ n. refl)
 
 -- so its value stays
-old_storage : (image : ℕ → ℕ) (e : Event) (o : Outcome) (h : List Record) → FitsOutcome e.cpu.number o h → Kept h → KeepsStorage image h → AllByRecursion (HasSources image (record { event = e; outcome = o } ∷ h)) (accesses h)
+old_storage : (image : ℕ → ℕ) (e : Event) (o : Outcome) (h : List Record) → FitsOutcome e.cpu.number o h → RunFacts h → KeepsStorage image h → AllByRecursion (HasSources image (record { event = e; outcome = o } ∷ h)) (accesses h)
 old_storage image e o h fit kept was =
     each_two (KnownItem h) (HasSources image h) (HasSources image (record { event = e; outcome = o } ∷ h)) (accesses h) (λ v kv ok. ok_from image h (record { event = e; outcome = o } ∷ h) v (λ x b.
     let at = place_of h v kv x in
     source_stays b at.0 v e o h fit kept at.1 at.2 (omega (arith, kv.number))) ok) kept.items was
 
 -- and a new one has what it is given at its record
-new_storage : (image : ℕ → ℕ) (e : Event) (a : Access) (h : List Record) → HasSources image h (next_item (accesses h) a) → HasSources image (record { event = e; outcome = outcome.Access a } ∷ h) (next_item (accesses h) a)
+new_storage : (image : ℕ → ℕ) (e : Event) (a : Access) (h : List Record) → HasSources image h (next_access (accesses h) a) → HasSources image (record { event = e; outcome = outcome.Access a } ∷ h) (next_access (accesses h) a)
 new_storage image e a h own =
     let r : Record = record { event = e; outcome = outcome.Access a } in
-    let v : Item = next_item (accesses h) a in
+    let v : NumberedAccess = next_access (accesses h) a in
     ok_from image h (r ∷ h) v (λ x b. source_more (times h) (times (r ∷ h)) b v v (accesses h) (turn_same r h (λ n. refl)) (not_itself (times (r ∷ h)) b v x)) own
 
-storage_by : (image : ℕ → ℕ) (e : Event) (o : Outcome) (h : List Record) → FitsOutcome e.cpu.number o h → IsValued image o h → Kept h → KeepsStorage image h → KeepsStorage image (record { event = e; outcome = o } ∷ h)
+storage_by : (image : ℕ → ℕ) (e : Event) (o : Outcome) (h : List Record) → FitsOutcome e.cpu.number o h → IsValued image o h → RunFacts h → KeepsStorage image h → KeepsStorage image (record { event = e; outcome = o } ∷ h)
 storage_by image e (outcome.Access a) h fit value kept was = (new_storage image e a h value, old_storage image e (outcome.Access a) h fit kept was)
 storage_by image e outcome.NoAccess h fit value kept was = old_storage image e outcome.NoAccess h fit kept was
 storage_by image e (outcome.Filled b l t) h fit value kept was = old_storage image e (outcome.Filled b l t) h fit kept was

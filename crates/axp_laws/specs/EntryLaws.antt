@@ -8,12 +8,12 @@ use Rattle.axp_access.specs.declared.Access.{Access}
 use Rattle.axp_access.specs.declared.Event.{Event}
 use Rattle.axp_access.specs.declared.Outcome.TheVariants as outcome
 use Rattle.axp_access.specs.declared.Record.{Record}
-use Rattle.axp_model.specs.Records.{by, made, access_in}
+use Rattle.axp_model.specs.Records.{is_of, makes_access, access_in}
 use Rattle.axp_access.specs.Kinds.{is_plain_write, is_write, is_write_barrier}
 use Rattle.axp_model.specs.Turns.{turns, drained}
 use Rattle.axp_model.specs.Entries.{Waiting, buffer, oldest, least_age}
 use Rattle.axp_model.specs.Accesses.{accesses}
-use Rattle.axp_access.specs.Numbering.{Item, cpu_of}
+use Rattle.axp_access.specs.Numbering.{NumberedAccess, cpu_of}
 use Rattle.axp_access.specs.Order.{precedes}
 
 -- processor p's entry n was made, and no drain has named it
@@ -25,7 +25,7 @@ pub record IsUndrained (h : List Record) (p n : ℕ) : Type 0 where
 -- how many WMBs processor p has made
 abbrev pub write_barriers : ℕ → List Record → ℕ
 write_barriers p [] = 0
-write_barriers p (r ∷ h) = if by p r && made (λ a. is_write_barrier a.kind) r.outcome then write_barriers p h + 1 else write_barriers p h
+write_barriers p (r ∷ h) = if is_of p r && makes_access (λ a. is_write_barrier a.kind) r.outcome then write_barriers p h + 1 else write_barriers p h
 
 -- f, which stands behind e, has a greater number and no lesser age
 pub record IsBehind (f e : Waiting) : Type 0 where
@@ -46,8 +46,8 @@ pub record WasMade (h : List Record) (p : ℕ) (e : Waiting) : Type 0 where
   pub age : e.age ≡ write_barriers p earlier
 
 -- of the accesses of a history one between u and v is a WMB of the processor that made u
-pub record IsParted (h : List Record) (u v : Item) : Type 0 where
-  pub barrier : Item
+pub record IsParted (h : List Record) (u v : NumberedAccess) : Type 0 where
+  pub barrier : NumberedAccess
   pub known : Contains (accesses h) barrier
   pub wmb : is_write_barrier barrier.access.kind ≡ true
   pub own : cpu_of barrier ≡ cpu_of u
@@ -55,7 +55,7 @@ pub record IsParted (h : List Record) (u v : Item) : Type 0 where
   pub until : barrier.number < v.number
 
 -- both are writes, u precedes v in issue order, and a WMB of their processor is between them
-pub record ArePartedWrites (h : List Record) (u v : Item) : Type 0 where
+pub record ArePartedWrites (h : List Record) (u v : NumberedAccess) : Type 0 where
   pub first : precedes u v ≡ true
   pub earlier : is_write u.access ≡ true
   pub later : is_write v.access ≡ true

@@ -6,7 +6,7 @@ use Rattle.axp_base.specs.declared.lines.Bank.{Bank}
 use Rattle.axp_base.specs.declared.lines.Line.{Line}
 use Rattle.axp_base.specs.LatePairs.{AreAscending, has_later}
 use Rattle.axp_access.specs.declared.Record.{Record}
-use Rattle.axp_model.specs.Records.{by, turned, fences}
+use Rattle.axp_model.specs.Records.{is_of, line_of_turn, fences}
 use Rattle.axp_model.specs.Turns.{turns, stamp}
 use Rattle.axp_model.specs.Late.{late, held}
 use Rattle.axp_laws.specs.Counts.{last_other, others_since, takes_since}
@@ -18,7 +18,7 @@ IsReached p l h = held p l h ≡ true → stamp p l h < last_other p l h → has
 
 -- the newest record is an MB or IMB of processor p
 pub record HasJustFenced (p : ℕ) (r : Record) : Type 0 where
-  pub own : by p r ≡ true
+  pub own : is_of p r ≡ true
   pub fence : fences r.outcome ≡ true
 
 -- the late pairs are the turns of other processors since the last MB or IMB, without as many of the
@@ -35,8 +35,8 @@ pub record IsOthersTurn (p : ℕ) (line : Line) (turn : ℕ) (h : List Record) :
   pub making : Record
   pub before : List Record
   pub split : h ≡ since ++ making ∷ before
-  pub other : by p making ≡ false
-  pub on : turned making.outcome ≡ Some line
+  pub other : is_of p making ≡ false
+  pub on : line_of_turn making.outcome ≡ Some line
   pub count : turn ≡ turns before + 1
 
 -- the late pairs of data bank b are such turns on lines of the bank, none of them above the turn count,

@@ -5,7 +5,7 @@ ghost use Rattle.axp_model.specs.Causality.{IsChain, IsSourceOf, MayGoInto, valu
 ghost use Rattle.axp_model.specs.Processors.{AreInLine};
 ghost use Rattle.axp_model.specs.Processors.{Processors};
 ghost use Rattle.axp_model.specs.Outcomes.{IsRun};
-ghost use Rattle.axp_access.specs.Numbering.{Item};
+ghost use Rattle.axp_access.specs.Numbering.{NumberedAccess};
 
 /// In every run a memory write that gives a read or fetch a byte had its value before the read or
 /// fetch had its own; a read or fetch had its value before each memory write that its processor makes
@@ -13,8 +13,8 @@ ghost use Rattle.axp_access.specs.Numbering.{Item};
 /// leads from an access back to itself.
 pub fn no_causal_loop()
     ensures source { (image : ℕ → ℕ) (ps : Processors) (h : List Record) → AreInLine ps → IsRun image ps h
-        → (u v : Item) → IsSourceOf h u v → value_moment u < value_moment v }
-    ensures write { (u v : Item) → MayGoInto u v → value_moment u < value_moment v }
+        → (u v : NumberedAccess) → IsSourceOf h u v → value_moment u < value_moment v }
+    ensures write { (u v : NumberedAccess) → MayGoInto u v → value_moment u < value_moment v }
     ensures loops { (image : ℕ → ℕ) (ps : Processors) (h : List Record) → AreInLine ps → IsRun image ps h
-        → (u : Item) (via : List Item) → IsChain h u via u → ⊥ }
+        → (u : NumberedAccess) (via : List NumberedAccess) → IsChain h u via u → ⊥ }
 {}

@@ -11,7 +11,7 @@ ghost use Rattle.axp_model.specs.Issue.{AllPairs};
 ghost use Rattle.axp_model.specs.Processors.{AreInLine};
 ghost use Rattle.axp_model.specs.Processors.{Processors};
 ghost use Rattle.axp_model.specs.Outcomes.{IsRun};
-ghost use Rattle.axp_access.specs.Numbering.{Item, cpu_of, parts_in};
+ghost use Rattle.axp_access.specs.Numbering.{NumberedAccess, cpu_of, write_barriers_in};
 ghost use Rattle.axp_model.specs.Accesses.{accesses};
 ghost use Rattle.axp_access.specs.Kinds.{is_write_barrier};
 ghost use Rattle.axp_model.specs.Turns.{drained, turns};
@@ -33,7 +33,7 @@ pub fn entries_that_wait()
 pub fn ages_are_write_barriers()
     ensures age { (h : List Record) (p : ℕ) → (buffer p h).age ≡ write_barriers p h }
     ensures parts { (image : ℕ → ℕ) (ps : Processors) (h : List Record) → AreInLine ps → IsRun image ps h → (p : ℕ)
-        → parts_in p (accesses h) ≡ write_barriers p h }
+        → write_barriers_in p (accesses h) ≡ write_barriers p h }
     ensures entry { (image : ℕ → ℕ) (ps : Processors) (h : List Record) → AreInLine ps → IsRun image ps h → (p : ℕ) (e : Waiting)
         → Contains (buffer p h).waiting e → WasMade h p e }
 {}
@@ -42,9 +42,9 @@ pub fn ages_are_write_barriers()
 /// an access between the two is one. So a write barrier demands an order of two accesses exactly where
 /// both are writes of one processor, the first the earlier, and a WMB of the processor is between them.
 pub fn write_barrier_stands_between()
-    ensures parts { (h : List Record) (u v : Item) → Contains (accesses h) u → Contains (accesses h) v → cpu_of u ≡ cpu_of v → u.number < v.number
+    ensures parts { (h : List Record) (u v : NumberedAccess) → Contains (accesses h) u → Contains (accesses h) v → cpu_of u ≡ cpu_of v → u.number < v.number
         → (u.parts < v.parts) ↔ ((is_write_barrier u.access.kind ≡ true) ⊎ IsParted h u v) }
-    ensures demands { (h : List Record) (u v : Item) → Contains (accesses h) u → Contains (accesses h) v
+    ensures demands { (h : List Record) (u v : NumberedAccess) → Contains (accesses h) u → Contains (accesses h) v
         → (barrier_demands u v ≡ true) ↔ ArePartedWrites h u v }
 {}
 
@@ -52,7 +52,7 @@ pub fn write_barrier_stands_between()
 /// numbered from their count down to 1. Of a run those records show one which polls or takes a step that
 /// makes a wanted access.
 pub fn numbers_of_accesses()
-    ensures numbers { (h : List Record) (k : ℕ) (u : Item) → slice_get (accesses h) k ≡ Some u → u.number + k ≡ length (accesses h) }
+    ensures numbers { (h : List Record) (k : ℕ) (u : NumberedAccess) → slice_get (accesses h) k ≡ Some u → u.number + k ≡ length (accesses h) }
     ensures accesses { (h : List Record) → map (λ u. u.access) (accesses h) ≡ filter_map access_of h }
     ensures shown { (image : ℕ → ℕ) (ps : Processors) (r : Record) (h : List Record) → IsRun image ps (r ∷ h)
         → is_some (access_of r) ≡ (is_poll_act r.event.act || (is_step r.event.act && is_some (ps.intent (cpu_number r.event.cpu) h).wanted)) }

@@ -3,7 +3,7 @@ ghost use Rattle.std.specs.Prelude.{ℕ, List, true, false, ◌≡◌, ◌≤◌
 ghost use Rattle.std.specs.List.{AllByRecursion};
 ghost use Rattle.axp_access.specs.declared.Record.{Record};
 ghost use Rattle.axp_model.specs.Turns.{turns, stamp, barrier, code_barrier, code_stamp, read_place};
-ghost use Rattle.axp_access.specs.Numbering.{Item};
+ghost use Rattle.axp_access.specs.Numbering.{NumberedAccess};
 ghost use Rattle.axp_access.specs.Order.{Times};
 ghost use Rattle.axp_model.specs.Accesses.{times, accesses};
 ghost use Rattle.axp_access.specs.Order.{before};
@@ -17,11 +17,11 @@ ghost use Rattle.axp_laws.specs.OrderLaws.{StandsBy};
 /// BEFORE is a strict total order of the accesses that have a place; to one without a place it
 /// says nothing.
 pub fn before_is_a_strict_order()
-    ensures irreflexive { (t : Times) (u : Item) → before t u u ≡ false }
-    ensures asymmetric { (t : Times) (u v : Item) → before t u v ≡ true → before t v u ≡ false }
-    ensures transitive { (t : Times) (u v w : Item) → before t u v ≡ true → before t v w ≡ true → before t u w ≡ true }
-    ensures total { (t : Times) (u v : Item) → is_placed t u ≡ true → is_placed t v ≡ true → AreApart u v → AreComparable t u v }
-    ensures placed { (t : Times) (u v : Item) → before t u v ≡ true → (is_placed t u ≡ true) × (is_placed t v ≡ true) }
+    ensures irreflexive { (t : Times) (u : NumberedAccess) → before t u u ≡ false }
+    ensures asymmetric { (t : Times) (u v : NumberedAccess) → before t u v ≡ true → before t v u ≡ false }
+    ensures transitive { (t : Times) (u v w : NumberedAccess) → before t u v ≡ true → before t v w ≡ true → before t u w ≡ true }
+    ensures total { (t : Times) (u v : NumberedAccess) → is_placed t u ≡ true → is_placed t v ≡ true → AreApart u v → AreComparable t u v }
+    ensures placed { (t : Times) (u v : NumberedAccess) → before t u v ≡ true → (is_placed t u ≡ true) × (is_placed t v ≡ true) }
 {}
 
 /// What a run's records are after fewer of its events is a run too: a law of every run is one of

@@ -7,7 +7,7 @@ ghost use Rattle.axp_access.specs.Order.{before};
 ghost use Rattle.axp_model.specs.Processors.{AreInLine};
 ghost use Rattle.axp_model.specs.Processors.{Processors};
 ghost use Rattle.axp_model.specs.Outcomes.{IsRun};
-ghost use Rattle.axp_access.specs.Numbering.{Item};
+ghost use Rattle.axp_access.specs.Numbering.{NumberedAccess};
 ghost use Rattle.axp_model.specs.Accesses.{accesses, times};
 ghost use Rattle.axp_model.specs.Polls.{IsAwaited, poll_item, polled};
 ghost use Rattle.axp_laws.specs.PollLaws.{is_signal_or_poll};
@@ -22,7 +22,7 @@ pub fn poll_rule()
         → (pending ≡ true) ↔ IsAwaited (later ++ polled e pending entered turn ∷ h) (poll_item e pending turn h) }
     ensures access { (e : Event) (pending entered : Bool) (turn : ℕ) (h : List Record)
         → accesses (polled e pending entered turn ∷ h) ≡ poll_item e pending turn h ∷ accesses h }
-    ensures stays { (image : ℕ → ℕ) (ps : Processors) (later h : List Record) → AreInLine ps → IsRun image ps h → (u v : Item)
+    ensures stays { (image : ℕ → ℕ) (ps : Processors) (later h : List Record) → AreInLine ps → IsRun image ps h → (u v : NumberedAccess)
         → Contains (accesses h) u → is_signal_or_poll u ≡ true → Contains (accesses h) v → is_signal_or_poll v ≡ true
         → before (times (later ++ h)) u v ≡ before (times h) u v }
     ensures entered { (image : ℕ → ℕ) (ps : Processors) (e : Event) (pending entered : Bool) (turn : ℕ) (h : List Record)

@@ -33,15 +33,15 @@ abbrev pub stored_bytes : ℕ → ℕ → ℕ → List ℕ
 stored_bytes address size value = with_part (replicate LINE_BYTES 0) (address % LINE_BYTES) size value
 
 -- what a request writes where it is answered Stored
-abbrev pub would_write : Request → Option Written
-would_write (request.Drain line mask bytes) = Some (record { line = line; bits = mask_bits mask; bytes = bytes_of_line bytes })
-would_write (request.Conditional address size value armed) = Some (record { line = line_at address; bits = span_of address size; bytes = stored_bytes address size value })
-would_write _ = None
+abbrev pub write_asked : Request → Option Written
+write_asked (request.Drain line mask bytes) = Some (record { line = line; bits = mask_bits mask; bytes = bytes_of_line bytes })
+write_asked (request.Conditional address size value armed) = Some (record { line = line_at address; bits = span_of address size; bytes = stored_bytes address size value })
+write_asked _ = None
 
 -- what a call wrote
-abbrev pub wrote : Request → Reply → Option Written
-wrote q (reply.Stored turn bytes) = would_write q
-wrote q _ = None
+abbrev pub write_made : Request → Reply → Option Written
+write_made q (reply.Stored turn bytes) = write_asked q
+write_made q _ = None
 
 abbrev pub line_written : Option Written → Option Line
 line_written None = None
@@ -65,7 +65,7 @@ overwritten (Some w) memory at =
 -- memory after the turns of the calls, in order: first it is the image's
 abbrev pub memory : (ℕ → ℕ) → List BusCall → ℕ → ℕ
 memory image [] at = image at
-memory image (c ∷ cs) at = overwritten (wrote c.ask c.answer) (memory image cs) at
+memory image (c ∷ cs) at = overwritten (write_made c.ask c.answer) (memory image cs) at
 
 -- turns are the calls answered Stored or Signalled
 abbrev pub is_turn : Reply → Bool
@@ -90,7 +90,7 @@ late p b [] = []
 late p b (c ∷ cs) =
     if cpu_number c.cpu == p
     then late_by_own b c.ask c.answer (late p b cs)
-    else late_by_other b (line_written (wrote c.ask c.answer)) (turns cs + 1) (late p b cs)
+    else late_by_other b (line_written (write_made c.ask c.answer)) (turns cs + 1) (late p b cs)
 
 -- an own load-locked locks its block, an own store-conditional unlocks
 abbrev pub lock_by_own : Request → Option ℕ → Option ℕ
@@ -104,7 +104,7 @@ register p [] = None
 register p (c ∷ cs) =
     if cpu_number c.cpu == p
     then lock_by_own c.ask (register p cs)
-    else lock_by_other (line_written (wrote c.ask c.answer)) (register p cs)
+    else lock_by_other (line_written (write_made c.ask c.answer)) (register p cs)
 
 -- a signal to processor p
 abbrev pub signals : ℕ → Request → Bool
@@ -144,4 +144,4 @@ reaches_quadword q (Some w) =
 -- some turn did
 abbrev pub is_touched : ℕ → List BusCall → Bool
 is_touched q [] = false
-is_touched q (c ∷ cs) = reaches_quadword q (wrote c.ask c.answer) || is_touched q cs
+is_touched q (c ∷ cs) = reaches_quadword q (write_made c.ask c.answer) || is_touched q cs

@@ -14,11 +14,11 @@ use Rattle.axp_line.specs.declared.messages.Reply.TheVariants as reply
 use Rattle.axp_line.specs.declared.messages.Request.{Request}
 use Rattle.axp_line.specs.declared.messages.Request.TheVariants as request
 use Rattle.axp_base.specs.Blocks.{is_allowed}
-use Rattle.axp_line.specs.BusCalls.{BusCall, Written, would_write, overwritten, memory, turns, late, register, pending}
+use Rattle.axp_line.specs.BusCalls.{BusCall, Written, write_asked, overwritten, memory, turns, late, register, pending}
 
 -- what the bus is for one processor: memory, the turn count, what is late for each data bank, the locked
 -- block, and whether an interrupt is requested
-pub record Front : Type 0 where
+pub record PortState : Type 0 where
   pub memory : ℕ → ℕ
   pub turns : ℕ
   pub even : List (Line × ℕ)
@@ -26,8 +26,8 @@ pub record Front : Type 0 where
   pub block : Option ℕ
   pub pending : Bool
 
-abbrev pub front : (ℕ → ℕ) → List BusCall → ℕ → Front
-front image cs p = record { memory = memory image cs; turns = turns cs; even = late p Even cs; odd = late p Odd cs; block = register p cs; pending = pending p cs }
+abbrev pub port_state : (ℕ → ℕ) → List BusCall → ℕ → PortState
+port_state image cs p = record { memory = memory image cs; turns = turns cs; even = late p Even cs; odd = late p Odd cs; block = register p cs; pending = pending p cs }
 
 -- the bytes at so many addresses from one on
 unfoldable pub bytes_from : (ℕ → ℕ) → ℕ → ℕ → List ℕ
@@ -39,24 +39,24 @@ abbrev pub line_of_memory : (ℕ → ℕ) → Line → LineData
 line_of_memory memory line = data_of (bytes_from memory (line_number line * LINE_BYTES) LINE_BYTES)
 
 -- a line as it is: to a fill or a load-locked
-abbrev pub line_reply : Front → Line → Reply
+abbrev pub line_reply : PortState → Line → Reply
 line_reply f line = reply.Line f.turns (line_of_memory f.memory line)
 
 -- the next turn, with the line as it is after it
-abbrev pub stored_reply : Front → Option Written → Line → Reply
+abbrev pub stored_reply : PortState → Option Written → Line → Reply
 stored_reply f w line = reply.Stored (f.turns + 1) (line_of_memory (overwritten w f.memory) line)
 
 -- a store-conditional is stored where its processor's flag is set and its block is locked still
-abbrev pub tried : Bool → Front → Option Written → Line → Reply
-tried true f w line = stored_reply f w line
-tried false f w line = reply.Refused f.turns
+abbrev pub conditional_reply : Bool → PortState → Option Written → Line → Reply
+conditional_reply true f w line = stored_reply f w line
+conditional_reply false f w line = reply.Refused f.turns
 
 -- something late has a turn on the line at an address that is greater than a copy's stamp
-abbrev pub is_late : Front → ℕ → ℕ → Bool
+abbrev pub is_late : PortState → ℕ → ℕ → Bool
 is_late f address stamp = has_later (line_of address) stamp f.even || has_later (line_of address) stamp f.odd
 
 -- bit n is 1 exactly where that is so of the n-th of these copies
-abbrev pub gone : Front → List (ℕ × ℕ) → ℕ
+abbrev pub gone : PortState → List (ℕ × ℕ) → ℕ
 gone f [] = 0
 gone f ((address, stamp) ∷ held) = (if is_late f address stamp then 1 else 0) + 2 * gone f held
 
@@ -65,18 +65,18 @@ abbrev pub first_late : List (Line × ℕ) → Reply
 first_late [] = reply.Nothing
 first_late ((line, turn) ∷ pairs) = reply.Late line turn
 
-abbrev pub late_in : Front → Bank → List (Line × ℕ)
+abbrev pub late_in : PortState → Bank → List (Line × ℕ)
 late_in f Even = f.even
 late_in f Odd = f.odd
 late_in f Code = []
 
-unfoldable pub reply_by : Front → Request → Reply
+unfoldable pub reply_by : PortState → Request → Reply
 reply_by f (request.Fill line) = line_reply f line
 reply_by f (request.FillCode line) = line_reply f line
-reply_by f (request.Drain line mask bytes) = stored_reply f (would_write (request.Drain line mask bytes)) line
+reply_by f (request.Drain line mask bytes) = stored_reply f (write_asked (request.Drain line mask bytes)) line
 reply_by f (request.Locked address) = line_reply f (line_at address)
 reply_by f (request.Conditional address size value armed) =
-    tried (armed && is_allowed address f.block) f (would_write (request.Conditional address size value armed)) (line_at address)
+    conditional_reply (armed && is_allowed address f.block) f (write_asked (request.Conditional address size value armed)) (line_at address)
 reply_by f (request.Barrier held) = reply.Barrier f.turns (gone f held)
 reply_by f (request.CodeBarrier held) = reply.Barrier f.turns (gone f held)
 reply_by f (request.Take bank) = first_late (late_in f bank)
@@ -86,7 +86,7 @@ reply_by f (request.Console byte) = reply.Printed f.turns
 
 -- the bus reply to processor p's request
 abbrev pub bus_reply : (ℕ → ℕ) → List BusCall → ℕ → Request → Reply
-bus_reply image cs p q = reply_by (front image cs p) q
+bus_reply image cs p q = reply_by (port_state image cs p) q
 
 -- each call was answered so, after the calls before it
 abbrev pub AreReplied : (ℕ → ℕ) → List BusCall → Type 0

@@ -17,12 +17,12 @@ use Rattle.axp_access.specs.declared.Act.{Act}
 use Rattle.axp_access.specs.declared.Act.TheVariants as act
 use Rattle.axp_access.specs.declared.Intent.{Intent}
 use Rattle.axp_access.specs.declared.Wanted.{Wanted}
-use Rattle.axp_model.specs.Legal.{may_now}
+use Rattle.axp_model.specs.Legal.{is_timely}
 use Rattle.axp_base.specs.Lines.{line_of}
 use Rattle.axp_lsu.specs.declared.asks.Ask2.{Ask2}
 use Rattle.axp_lsu.specs.declared.asks.Ask2.TheVariants as ask
-use Rattle.axp_lsu.specs.Keeping.{Kept, data_copies}
-use Rattle.axp_lsu.specs.Asking.{ready, signal_to, access_ask, step_ask, may_bring, fill_for, fill_ask, drain_ask, take_ask, act_ask, ask_of}
+use Rattle.axp_lsu.specs.Keeping.{LocalMemory, data_copies}
+use Rattle.axp_lsu.specs.Asking.{is_ready, signal_to, access_ask, step_ask, may_bring, fill_for, fill_ask, drain_ask, take_ask, act_ask, ask_of}
 use Rattle.axp_lsu.specs.Within.{IsAskWithin, IsEntryWithin, IsInMemory, IsKeptWithin, IsWantedBy, IsWantedWithin}
 use Rattle.axp_lsu.proofs.Lines.{line_within}
 
@@ -47,7 +47,7 @@ signal_within : (size : ℕ) (o : Option Cpu) → IsAskWithin size (signal_to o)
 signal_within size None = tt
 signal_within size (Some target) = tt
 
-access_within : (size : ℕ) (k : Kind) (w : Wanted) (armed : Bool) (u : Kept) → IsWantedBy size k w → IsAskWithin size (access_ask k w armed u)
+access_within : (size : ℕ) (k : Kind) (w : Wanted) (armed : Bool) (u : LocalMemory) → IsWantedBy size k w → IsAskWithin size (access_ask k w armed u)
 access_within size kind.Fetch w armed u h = tt
 access_within size kind.Read w armed u h = tt
 access_within size kind.Write w armed u h = tt
@@ -60,11 +60,11 @@ access_within size kind.Signal w armed u h = signal_within size (cpu_of w.value)
 access_within size kind.Console w armed u h = tt
 access_within size kind.Poll w armed u h = tt
 
-step_within : (size : ℕ) (boundary : Bool) (o : Option Wanted) (armed : Bool) (u : Kept) → IsWantedWithin size o → Within size (step_ask boundary o armed u)
+step_within : (size : ℕ) (boundary : Bool) (o : Option Wanted) (armed : Bool) (u : LocalMemory) → IsWantedWithin size o → Within size (step_ask boundary o armed u)
 step_within size boundary None armed u h = if_asked size boundary (Some ask.Private) tt
-step_within size boundary (Some w) armed u h = if_asked size (ready w.kind (line_of w.address) u) (Some (access_ask w.kind w armed u)) (access_within size w.kind w armed u h)
+step_within size boundary (Some w) armed u h = if_asked size (is_ready w.kind (line_of w.address) u) (Some (access_ask w.kind w armed u)) (access_within size w.kind w armed u h)
 
-fill_for_within : (size : ℕ) (k : Kind) (w : Wanted) (u : Kept) → IsWantedBy size k w → Within size (fill_for k w u)
+fill_for_within : (size : ℕ) (k : Kind) (w : Wanted) (u : LocalMemory) → IsWantedBy size k w → Within size (fill_for k w u)
 fill_for_within size kind.Fetch w u h = if_asked size (may_bring (line_of w.address) u.code) _ (line_within size _ (line_address_within size w h))
 fill_for_within size kind.Read w u h = if_asked size (may_bring (line_of w.address) (data_copies (line_of w.address) u)) _ (line_within size _ (line_address_within size w h))
 fill_for_within size kind.Write w u h = tt
@@ -77,7 +77,7 @@ fill_for_within size kind.Signal w u h = tt
 fill_for_within size kind.Console w u h = tt
 fill_for_within size kind.Poll w u h = tt
 
-fill_within : (size : ℕ) (o : Option Wanted) (u : Kept) → IsWantedWithin size o → Within size (fill_ask o u)
+fill_within : (size : ℕ) (o : Option Wanted) (u : LocalMemory) → IsWantedWithin size o → Within size (fill_ask o u)
 fill_within size None u h = tt
 fill_within size (Some w) u h = fill_for_within size w.kind w u h
 
@@ -96,7 +96,7 @@ get_all P [] k h = tt
 get_all P (e ∷ es) zero h = h.0
 get_all P (e ∷ es) (suc k) h = get_all P es k h.1
 
-pub oldest_within : (size : ℕ) (u : Kept) (k : ℕ) → IsKeptWithin size u → IfSome (slice_get (oldest_group u.buffer.kept) k) (IsEntryWithin size)
+pub oldest_within : (size : ℕ) (u : LocalMemory) (k : ℕ) → IsKeptWithin size u → IfSome (slice_get (oldest_group u.buffer.kept) k) (IsEntryWithin size)
 oldest_within size u k h =
     get_all (IsEntryWithin size) (oldest_group u.buffer.kept) k (in_front_all (IsEntryWithin size) (first_group u.buffer.kept) u.buffer.kept h.entries)
 
@@ -109,7 +109,7 @@ take_within size Even = tt
 take_within size Odd = tt
 take_within size Code = tt
 
-act_within : (size : ℕ) (a : Act) (i : Intent) (u : Kept) → IsKeptWithin size u → IsWantedWithin size i.wanted → Within size (act_ask a i u)
+act_within : (size : ℕ) (a : Act) (i : Intent) (u : LocalMemory) → IsKeptWithin size u → IsWantedWithin size i.wanted → Within size (act_ask a i u)
 act_within size act.Step i u kept wanted = step_within size i.boundary i.wanted i.armed u wanted
 act_within size act.Fill i u kept wanted = fill_within size i.wanted u wanted
 act_within size (act.Drain k) i u kept wanted = drain_within size (slice_get (oldest_group u.buffer.kept) k) (oldest_within size u k kept)
@@ -118,6 +118,6 @@ act_within size (act.Drop b line) i u kept wanted = if_asked size _ (Some ask.Pr
 act_within size act.Poll i u kept wanted = if_asked size (i.boundary && not u.since.polled) (Some (ask.Bus (request.Poll i.low))) tt
 act_within size act.Tick i u kept wanted = if_asked size _ (Some ask.Private) tt
 
-pub asks_within : (size : ℕ) (a : Act) (i : Intent) (u : Kept) → IsKeptWithin size u → IsWantedWithin size i.wanted → Within size (ask_of a i u)
+pub asks_within : (size : ℕ) (a : Act) (i : Intent) (u : LocalMemory) → IsKeptWithin size u → IsWantedWithin size i.wanted → Within size (ask_of a i u)
 unfolding ask_of
-asks_within size a i u kept wanted = if_asked size (may_now a i.finished u.since.filled) (act_ask a i u) (act_within size a i u kept wanted)
+asks_within size a i u kept wanted = if_asked size (is_timely a i.finished u.since.filled) (act_ask a i u) (act_within size a i u kept wanted)

@@ -15,8 +15,8 @@ use Rattle.axp_wbuf.specs.Drains.{told, without}
 use Rattle.axp_wbuf.specs.Pending.{Buffer, Pending}
 use Rattle.axp_lsu.specs.declared.asks.Ask2.TheVariants as ask
 use Rattle.axp_lsu.specs.Asking.{drain_ask}
-use Rattle.axp_lsu.specs.Going.{drain_outcome, drained, rewritten, turn_in}
-use Rattle.axp_lsu.specs.Keeping.{Kept}
+use Rattle.axp_lsu.specs.Going.{drain_outcome, after_drain, after_stored, turn_in}
+use Rattle.axp_lsu.specs.Keeping.{LocalMemory}
 use Rattle.axp_lsu.proofs.Lines.{line_of_number, data_is}
 
 -- an entry whose parts are these
@@ -61,14 +61,14 @@ outcome_told (Some e) n l m d r h =
     let t : Tells e n l m d = told_parts (Some e) n l m d h in
     λ i. outcome.Drained (t.number i) (t.line i) (turn_in r)
 
-drained_told : (o : Option Pending) (n : ℕ) (l : Line) (m : Mask) (d : LineData) (r : Option Reply) (k : ℕ) (u : Kept) → told o ≡ Some (n, (line_number l, (mask_bits m, bytes_of_line d)))
-    → rewritten l r (record u { buffer = without k u.buffer }) ≡ drained k o r u
+drained_told : (o : Option Pending) (n : ℕ) (l : Line) (m : Mask) (d : LineData) (r : Option Reply) (k : ℕ) (u : LocalMemory) → told o ≡ Some (n, (line_number l, (mask_bits m, bytes_of_line d)))
+    → after_stored l r (record u { buffer = without k u.buffer }) ≡ after_drain k o r u
 drained_told None n l m d r k u h = absurd (told_parts None n l m d h)
 drained_told (Some e) n l m d r k u h =
     let t : Tells e n l m d = told_parts (Some e) n l m d h in
-    ap (λ line. rewritten line r (record u { buffer = without k u.buffer })) t.line
+    ap (λ line. after_stored line r (record u { buffer = without k u.buffer })) t.line
 
 -- the same with the buffer that the code has left
-pub drained_is : (o : Option Pending) (n : ℕ) (l : Line) (m : Mask) (d : LineData) (r : Option Reply) (k : ℕ) (u : Kept) (b : Buffer) → told o ≡ Some (n, (line_number l, (mask_bits m, bytes_of_line d))) → b ≡ without k u.buffer
-    → rewritten l r (record u { buffer = b }) ≡ drained k o r u
-drained_is o n l m d r k u b h left = ap (λ (b : Buffer). rewritten l r (record u { buffer = b })) left ∙ drained_told o n l m d r k u h
+pub drained_is : (o : Option Pending) (n : ℕ) (l : Line) (m : Mask) (d : LineData) (r : Option Reply) (k : ℕ) (u : LocalMemory) (b : Buffer) → told o ≡ Some (n, (line_number l, (mask_bits m, bytes_of_line d))) → b ≡ without k u.buffer
+    → after_stored l r (record u { buffer = b }) ≡ after_drain k o r u
+drained_is o n l m d r k u b h left = ap (λ (b : Buffer). after_stored l r (record u { buffer = b })) left ∙ drained_told o n l m d r k u h

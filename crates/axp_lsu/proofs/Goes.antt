@@ -24,9 +24,9 @@ use Rattle.axp_access.specs.declared.Wanted.{Wanted}
 use Rattle.axp_model.specs.Outcomes.{bank_for}
 use Rattle.axp_lsu.specs.declared.since.Since.{Since}
 use Rattle.axp_lsu.specs.Asking.{act_ask, ask_of, fill_ask, fill_for}
-use Rattle.axp_lsu.specs.Fitting.{Fits2, IsTurn}
-use Rattle.axp_lsu.specs.Going.{accessed, advanced, brought, delivered, drained, fenced, filled, kept_after, rewritten, stepped, turn_in}
-use Rattle.axp_lsu.specs.Keeping.{Kept, copies_of, data_copies, nothing, with_copies, with_drop}
+use Rattle.axp_lsu.specs.Fitting.{ReplyFits, IsTurn}
+use Rattle.axp_lsu.specs.Going.{after_access, advanced, after_line, after_late, after_drain, after_barrier, after_fill, after_act, after_stored, after_step, turn_in}
+use Rattle.axp_lsu.specs.Keeping.{LocalMemory, copies_of, data_copies, nothing, with_copies, with_drop}
 use Rattle.axp_lsu.specs.Within.{IsCopyWithin, IsEntryWithin, IsInMemory, IsKeptWithin, IsLineWithin, IsWantedBy, IsWantedWithin}
 use Rattle.axp_lsu.proofs.AskedWithin.{line_address_within, oldest_within}
 use Rattle.axp_lsu.proofs.Fits.{act_fits, fits_turn, none_fits}
@@ -103,12 +103,12 @@ all_removed P (e ∷ es) zero h = h.1
 all_removed P (e ∷ es) (suc k) h = (h.0, all_removed P es k h.1)
 
 -- parts of what is kept
-copies_within : (size : ℕ) (b : Bank) (u : Kept) → IsKeptWithin size u → AllByRecursion (IsCopyWithin size) (copies_of b u)
+copies_within : (size : ℕ) (b : Bank) (u : LocalMemory) → IsKeptWithin size u → AllByRecursion (IsCopyWithin size) (copies_of b u)
 copies_within size Even u h = h.even
 copies_within size Odd u h = h.odd
 copies_within size Code u h = h.code
 
-with_copies_within : (size : ℕ) (b : Bank) (cs : List LineCopy) (u : Kept) → AllByRecursion (IsCopyWithin size) cs → IsKeptWithin size u → IsKeptWithin size (with_copies b cs u)
+with_copies_within : (size : ℕ) (b : Bank) (cs : List LineCopy) (u : LocalMemory) → AllByRecursion (IsCopyWithin size) cs → IsKeptWithin size u → IsKeptWithin size (with_copies b cs u)
 with_copies_within size Even cs u all h = record { entries = h.entries; even = all; odd = h.odd; code = h.code; barrier = h.barrier }
 with_copies_within size Odd cs u all h = record { entries = h.entries; even = h.even; odd = all; code = h.code; barrier = h.barrier }
 with_copies_within size Code cs u all h = record { entries = h.entries; even = h.even; odd = h.odd; code = all; barrier = h.barrier }
@@ -116,18 +116,18 @@ with_copies_within size Code cs u all h = record { entries = h.entries; even = h
 copy_within : (size : ℕ) (line : Line) (turn : ℕ) (bytes : LineData) → IsLineWithin size line → IsTurn turn → IsCopyWithin size (copy_of line turn bytes)
 copy_within size line turn bytes below small = record { line = below; stamp = small }
 
-brought_within : (size : ℕ) (b : Bank) (line : Line) (r : Option Reply) (u : Kept) → IsLineWithin size line → IsTurn (turn_in r) → IsKeptWithin size u → IsKeptWithin size (brought b line r u)
+brought_within : (size : ℕ) (b : Bank) (line : Line) (r : Option Reply) (u : LocalMemory) → IsLineWithin size line → IsTurn (turn_in r) → IsKeptWithin size u → IsKeptWithin size (after_line b line r u)
 brought_within size b line (Some (reply.Line turn bytes)) u below small h =
     with_copies_within size b _ u (all_put (IsCopyWithin size) (copy_of line turn bytes) (copies_of b u) (copy_within size line turn bytes below small) (copies_within size b u h)) h
 brought_within size b line _ u below small h = h
 
-rewritten_within : (size : ℕ) (line : Line) (r : Option Reply) (u : Kept) → IsLineWithin size line → IsTurn (turn_in r) → IsKeptWithin size u → IsKeptWithin size (rewritten line r u)
+rewritten_within : (size : ℕ) (line : Line) (r : Option Reply) (u : LocalMemory) → IsLineWithin size line → IsTurn (turn_in r) → IsKeptWithin size u → IsKeptWithin size (after_stored line r u)
 rewritten_within size line (Some (reply.Stored turn bytes)) u below small h =
     let b = data_bank (line_number line) in
     with_copies_within size b _ u (all_refreshed (IsCopyWithin size) (copy_of line turn bytes) (copies_of b u) (copy_within size line turn bytes below small) (copies_within size b u h)) h
 rewritten_within size line _ u below small h = h
 
-fenced_within : (size : ℕ) (r : Option Reply) (u : Kept) → IsTurn (turn_in r) → IsKeptWithin size u → IsKeptWithin size (fenced r u)
+fenced_within : (size : ℕ) (r : Option Reply) (u : LocalMemory) → IsTurn (turn_in r) → IsKeptWithin size u → IsKeptWithin size (after_barrier r u)
 fenced_within size (Some (reply.Barrier turn gone)) u small h = record {
   entries = h.entries;
   even = all_spared (IsCopyWithin size) gone u.even h.even;
@@ -137,13 +137,13 @@ fenced_within size (Some (reply.Barrier turn gone)) u small h = record {
 }
 fenced_within size _ u small h = h
 
-delivered_within : (size : ℕ) (r : Option Reply) (u : Kept) → IsKeptWithin size u → IsKeptWithin size (delivered r u)
+delivered_within : (size : ℕ) (r : Option Reply) (u : LocalMemory) → IsKeptWithin size u → IsKeptWithin size (after_late r u)
 delivered_within size (Some (reply.Late line turn)) u h =
     let b = data_bank (line_number line) in
     with_copies_within size b _ u (all_invalidated (IsCopyWithin size) (line_number line) turn (copies_of b u) (copies_within size b u h)) h
 delivered_within size _ u h = h
 
-stored_within : (size : ℕ) (w : Wanted) (u : Kept) → IsInMemory size w → IsKeptWithin size u → IsKeptWithin size (record u { buffer = stored w.address w.size w.value u.buffer })
+stored_within : (size : ℕ) (w : Wanted) (u : LocalMemory) → IsInMemory size w → IsKeptWithin size u → IsKeptWithin size (record u { buffer = stored w.address w.size w.value u.buffer })
 stored_within size w u wanted h = record {
   entries = all_put_into (IsEntryWithin size) u.buffer.newest (line_of w.address) (with_store w.address w.size w.value) (made_by (u.buffer.made + 1) u.buffer.newest w.address w.size w.value) u.buffer.kept (line_address_within size w wanted) (λ e h. h) h.entries;
   even = h.even;
@@ -152,10 +152,10 @@ stored_within size w u wanted h = record {
   barrier = h.barrier;
 }
 
-without_code : (size : ℕ) (u : Kept) → IsKeptWithin size u → IsKeptWithin size (record u { code = [] })
+without_code : (size : ℕ) (u : LocalMemory) → IsKeptWithin size u → IsKeptWithin size (record u { code = [] })
 without_code size u h = record { entries = h.entries; even = h.even; odd = h.odd; code = tt; barrier = h.barrier }
 
-accessed_within : (size : ℕ) (k : Kind) (w : Wanted) (r : Option Reply) (u : Kept) → IsWantedBy size k w → IsTurn (turn_in r) → IsKeptWithin size u → IsKeptWithin size (accessed k w r u)
+accessed_within : (size : ℕ) (k : Kind) (w : Wanted) (r : Option Reply) (u : LocalMemory) → IsWantedBy size k w → IsTurn (turn_in r) → IsKeptWithin size u → IsKeptWithin size (after_access k w r u)
 accessed_within size kind.Fetch w r u wanted small h = h
 accessed_within size kind.Read w r u wanted small h = h
 accessed_within size kind.Write w r u wanted small h = stored_within size w u wanted h
@@ -166,38 +166,38 @@ accessed_within size kind.Conditional w r u wanted small h =
 accessed_within size kind.Barrier w r u wanted small h = fenced_within size r u small h
 accessed_within size kind.WriteBarrier w r u wanted small h =
     record { entries = h.entries; even = h.even; odd = h.odd; code = h.code; barrier = h.barrier }
-accessed_within size kind.CodeBarrier w r u wanted small h = without_code size (fenced r u) (fenced_within size r u small h)
+accessed_within size kind.CodeBarrier w r u wanted small h = without_code size (after_barrier r u) (fenced_within size r u small h)
 accessed_within size kind.Signal w r u wanted small h = h
 accessed_within size kind.Console w r u wanted small h = h
 accessed_within size kind.Poll w r u wanted small h = h
 
-stepped_within : (size : ℕ) (o : Option Wanted) (r : Option Reply) (u : Kept) → IsWantedWithin size o → IsTurn (turn_in r) → IsKeptWithin size u → IsKeptWithin size (stepped o r u)
+stepped_within : (size : ℕ) (o : Option Wanted) (r : Option Reply) (u : LocalMemory) → IsWantedWithin size o → IsTurn (turn_in r) → IsKeptWithin size u → IsKeptWithin size (after_step o r u)
 stepped_within size None r u wanted small h = h
 stepped_within size (Some w) r u wanted small h = accessed_within size w.kind w r u wanted small h
 
-filled_by_kind : (size : ℕ) (k : Kind) (w : Wanted) (r : Option Reply) (u : Kept) → IsWantedBy size k w → Fits2 (fill_for k w u) r → IsTurn (turn_in r) → IsKeptWithin size u → IsKeptWithin size (brought (bank_for k (line_of w.address)) (line_at w.address) r u)
+filled_by_kind : (size : ℕ) (k : Kind) (w : Wanted) (r : Option Reply) (u : LocalMemory) → IsWantedBy size k w → ReplyFits (fill_for k w u) r → IsTurn (turn_in r) → IsKeptWithin size u → IsKeptWithin size (after_line (bank_for k (line_of w.address)) (line_at w.address) r u)
 filled_by_kind size kind.Fetch w r u wanted fits small h = brought_within size Code (line_at w.address) r u (line_within size (line_of w.address) (line_address_within size w wanted)) small h
 filled_by_kind size kind.Read w r u wanted fits small h =
     brought_within size (data_bank (line_of w.address)) (line_at w.address) r u (line_within size (line_of w.address) (line_address_within size w wanted)) small h
 filled_by_kind size _ w r u wanted fits small h = absurd (none_fits r fits)
 
-filled_within : (size : ℕ) (o : Option Wanted) (r : Option Reply) (u : Kept) → IsWantedWithin size o → Fits2 (fill_ask o u) r → IsTurn (turn_in r) → IsKeptWithin size u → IsKeptWithin size (filled o r u)
+filled_within : (size : ℕ) (o : Option Wanted) (r : Option Reply) (u : LocalMemory) → IsWantedWithin size o → ReplyFits (fill_ask o u) r → IsTurn (turn_in r) → IsKeptWithin size u → IsKeptWithin size (after_fill o r u)
 filled_within size None r u wanted fits small h = h
 filled_within size (Some w) r u wanted fits small h = filled_by_kind size w.kind w r u wanted fits small h
 
-drained_within : (size k : ℕ) (o : Option Pending) (r : Option Reply) (u : Kept) → IfSome o (IsEntryWithin size) → IsTurn (turn_in r) → IsKeptWithin size u → IsKeptWithin size (drained k o r u)
+drained_within : (size k : ℕ) (o : Option Pending) (r : Option Reply) (u : LocalMemory) → IfSome o (IsEntryWithin size) → IsTurn (turn_in r) → IsKeptWithin size u → IsKeptWithin size (after_drain k o r u)
 drained_within size k None r u entry small h = h
 drained_within size k (Some e) r u entry small h =
     rewritten_within size (line_numbered e.line) r (record u { buffer = without k u.buffer }) (line_within size e.line entry) small
     (record { entries = all_removed (IsEntryWithin size) u.buffer.kept k h.entries; even = h.even; odd = h.odd; code = h.code; barrier = h.barrier })
 
-since_within : (size : ℕ) (s : Since) (u : Kept) → IsKeptWithin size u → IsKeptWithin size (record u { since = s })
+since_within : (size : ℕ) (s : Since) (u : LocalMemory) → IsKeptWithin size u → IsKeptWithin size (record u { since = s })
 since_within size s u h = record { entries = h.entries; even = h.even; odd = h.odd; code = h.code; barrier = h.barrier }
 
-after_within : (size : ℕ) (a : Act) (i : Intent) (r : Option Reply) (u : Kept) → Fits2 (act_ask a i u) r → IsWantedWithin size i.wanted → IsTurn (turn_in r) → IsKeptWithin size u → IsKeptWithin size (kept_after a i r u)
-after_within size act.Step i r u fits wanted small h = since_within size nothing (stepped i.wanted r u) (stepped_within size i.wanted r u wanted small h)
+after_within : (size : ℕ) (a : Act) (i : Intent) (r : Option Reply) (u : LocalMemory) → ReplyFits (act_ask a i u) r → IsWantedWithin size i.wanted → IsTurn (turn_in r) → IsKeptWithin size u → IsKeptWithin size (after_act a i r u)
+after_within size act.Step i r u fits wanted small h = since_within size nothing (after_step i.wanted r u) (stepped_within size i.wanted r u wanted small h)
 after_within size act.Fill i r u fits wanted small h =
-    since_within size (record u.since { filled = true }) (filled i.wanted r u) (filled_within size i.wanted r u wanted fits small h)
+    since_within size (record u.since { filled = true }) (after_fill i.wanted r u) (filled_within size i.wanted r u wanted fits small h)
 after_within size (act.Drain k) i r u fits wanted small h = drained_within size k (slice_get (oldest_group u.buffer.kept) k) r u (oldest_within size u k h) small h
 after_within size (act.Take b) i r u fits wanted small h = delivered_within size r u h
 after_within size (act.Drop b line) i r u fits wanted small h =
@@ -206,30 +206,30 @@ after_within size (act.Drop b line) i r u fits wanted small h =
 after_within size act.Poll i r u fits wanted small h = since_within size (record u.since { polled = true }) u h
 after_within size act.Tick i r u fits wanted small h = since_within size (record u.since { ticked = true }) u h
 
-pub advanced_within : (size : ℕ) (a : Act) (i : Intent) (r : Option Reply) (u : Kept) → Fits2 (ask_of a i u) r → IsWantedWithin size i.wanted → IsKeptWithin size u → IsKeptWithin size (advanced a i r u)
+pub advanced_within : (size : ℕ) (a : Act) (i : Intent) (r : Option Reply) (u : LocalMemory) → ReplyFits (ask_of a i u) r → IsWantedWithin size i.wanted → IsKeptWithin size u → IsKeptWithin size (advanced a i r u)
 unfolding advanced
 advanced_within size a i r u fits wanted h = after_within size a i r u (act_fits a i u r fits) wanted (fits_turn (ask_of a i u) r fits) h
 
 -- copies come and go beside the buffer
-with_copies_made : (b : Bank) (cs : List LineCopy) (u : Kept) → (with_copies b cs u).buffer ≡ u.buffer
+with_copies_made : (b : Bank) (cs : List LineCopy) (u : LocalMemory) → (with_copies b cs u).buffer ≡ u.buffer
 with_copies_made Even cs u = refl
 with_copies_made Odd cs u = refl
 with_copies_made Code cs u = refl
 
-brought_made : (b : Bank) (line : Line) (r : Option Reply) (u : Kept) → (brought b line r u).buffer ≡ u.buffer
+brought_made : (b : Bank) (line : Line) (r : Option Reply) (u : LocalMemory) → (after_line b line r u).buffer ≡ u.buffer
 brought_made b line (Some (reply.Line turn bytes)) u = with_copies_made b (put (copy_of line turn bytes) (copies_of b u)) u
 brought_made b line _ u = refl
 
-rewritten_made : (line : Line) (r : Option Reply) (u : Kept) → (rewritten line r u).buffer ≡ u.buffer
+rewritten_made : (line : Line) (r : Option Reply) (u : LocalMemory) → (after_stored line r u).buffer ≡ u.buffer
 rewritten_made line (Some (reply.Stored turn bytes)) u =
     with_copies_made (data_bank (line_number line)) (refreshed (copy_of line turn bytes) (data_copies (line_number line) u)) u
 rewritten_made line _ u = refl
 
-fenced_made : (r : Option Reply) (u : Kept) → (fenced r u).buffer ≡ u.buffer
+fenced_made : (r : Option Reply) (u : LocalMemory) → (after_barrier r u).buffer ≡ u.buffer
 fenced_made (Some (reply.Barrier turn gone)) u = refl
 fenced_made _ u = refl
 
-delivered_made : (r : Option Reply) (u : Kept) → (delivered r u).buffer ≡ u.buffer
+delivered_made : (r : Option Reply) (u : LocalMemory) → (after_late r u).buffer ≡ u.buffer
 delivered_made (Some (reply.Late line turn)) u =
     with_copies_made (data_bank (line_number line)) (invalidated (line_number line) turn (data_copies (line_number line) u)) u
 delivered_made _ u = refl
@@ -242,7 +242,7 @@ few_more false n = omega arith
 same_few : (b c : Buffer) → b ≡ c → b.made ≤ c.made + 1
 same_few b c e = let made : b.made ≡ c.made = ap (λ (b : Buffer). b.made) e in omega arith
 
-accessed_few : (k : Kind) (w : Wanted) (r : Option Reply) (u : Kept) → (accessed k w r u).buffer.made ≤ u.buffer.made + 1
+accessed_few : (k : Kind) (w : Wanted) (r : Option Reply) (u : LocalMemory) → (after_access k w r u).buffer.made ≤ u.buffer.made + 1
 accessed_few kind.Write w r u = few_more (merges (line_of w.address) u.buffer) u.buffer.made
 accessed_few kind.Locked w r u = same_few _ u.buffer (brought_made (data_bank (line_of w.address)) (line_at w.address) r u)
 accessed_few kind.Conditional w r u = same_few _ u.buffer (rewritten_made (line_at w.address) r u)
@@ -250,19 +250,19 @@ accessed_few kind.Barrier w r u = same_few _ u.buffer (fenced_made r u)
 accessed_few kind.CodeBarrier w r u = same_few _ u.buffer (fenced_made r u)
 accessed_few _ w r u = omega arith
 
-stepped_few : (o : Option Wanted) (r : Option Reply) (u : Kept) → (stepped o r u).buffer.made ≤ u.buffer.made + 1
+stepped_few : (o : Option Wanted) (r : Option Reply) (u : LocalMemory) → (after_step o r u).buffer.made ≤ u.buffer.made + 1
 stepped_few None r u = omega arith
 stepped_few (Some w) r u = accessed_few w.kind w r u
 
-filled_few : (o : Option Wanted) (r : Option Reply) (u : Kept) → (filled o r u).buffer.made ≤ u.buffer.made + 1
+filled_few : (o : Option Wanted) (r : Option Reply) (u : LocalMemory) → (after_fill o r u).buffer.made ≤ u.buffer.made + 1
 filled_few None r u = omega arith
 filled_few (Some w) r u = same_few _ u.buffer (brought_made (bank_for w.kind (line_of w.address)) (line_at w.address) r u)
 
-drained_few : (k : ℕ) (o : Option Pending) (r : Option Reply) (u : Kept) → (drained k o r u).buffer.made ≤ u.buffer.made + 1
+drained_few : (k : ℕ) (o : Option Pending) (r : Option Reply) (u : LocalMemory) → (after_drain k o r u).buffer.made ≤ u.buffer.made + 1
 drained_few k None r u = omega arith
 drained_few k (Some e) r u = same_few _ (without k u.buffer) (rewritten_made (line_numbered e.line) r (record u { buffer = without k u.buffer }))
 
-after_few : (a : Act) (i : Intent) (r : Option Reply) (u : Kept) → (kept_after a i r u).buffer.made ≤ u.buffer.made + 1
+after_few : (a : Act) (i : Intent) (r : Option Reply) (u : LocalMemory) → (after_act a i r u).buffer.made ≤ u.buffer.made + 1
 after_few act.Step i r u = stepped_few i.wanted r u
 after_few act.Fill i r u = filled_few i.wanted r u
 after_few (act.Drain k) i r u = drained_few k (slice_get (oldest_group u.buffer.kept) k) r u
@@ -271,6 +271,6 @@ after_few (act.Drop b line) i r u = same_few _ u.buffer (with_copies_made b (dro
 after_few act.Poll i r u = omega arith
 after_few act.Tick i r u = omega arith
 
-pub advanced_few : (a : Act) (i : Intent) (r : Option Reply) (u : Kept) → (advanced a i r u).buffer.made ≤ u.buffer.made + 1
+pub advanced_few : (a : Act) (i : Intent) (r : Option Reply) (u : LocalMemory) → (advanced a i r u).buffer.made ≤ u.buffer.made + 1
 unfolding advanced
 advanced_few a i r u = after_few a i r u

@@ -12,7 +12,7 @@ use Rattle.axp_access.specs.declared.Outcome.TheVariants as outcome
 use Rattle.axp_access.specs.declared.Wanted.{Wanted}
 use Rattle.axp_lsu.specs.declared.asks.Ask2.{Ask2}
 use Rattle.axp_lsu.specs.declared.asks.Ask2.TheVariants as ask
-use Rattle.axp_lsu.specs.Keeping.{Kept}
+use Rattle.axp_lsu.specs.Keeping.{LocalMemory}
 use Rattle.axp_lsu.specs.Within.{IsKeptWithin, IsWantedWithin}
 
 -- the number of a turn
@@ -37,13 +37,13 @@ FitsRequest (request.Console byte) (reply.Printed turn) = IsTurn turn
 FitsRequest _ _ = ⊥
 
 -- an act is allowed, and the answer is of the kind that it asked for
-abbrev pub Fits2 : Option Ask2 → Option Reply → Type 0
-Fits2 (Some ask.Private) None = Unit {0}
-Fits2 (Some (ask.Bus q)) (Some r) = FitsRequest q r
-Fits2 _ _ = ⊥
+abbrev pub ReplyFits : Option Ask2 → Option Reply → Type 0
+ReplyFits (Some ask.Private) None = Unit {0}
+ReplyFits (Some (ask.Bus q)) (Some r) = FitsRequest q r
+ReplyFits _ _ = ⊥
 
 -- what is kept lies in some memory whose addresses are numbers of 32 bits
-pub record IsWithinSome (u : Kept) : Type 0 where
+pub record IsWithinSome (u : LocalMemory) : Type 0 where
   pub size : ℕ
   pub most : size ≤ 2 ^ 32
   pub within : IsKeptWithin size u

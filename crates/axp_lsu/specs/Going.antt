@@ -24,7 +24,7 @@ use Rattle.axp_access.specs.declared.Place.{Place}
 use Rattle.axp_access.specs.declared.Place.TheVariants.{At, Entry, Absent}
 use Rattle.axp_access.specs.declared.Wanted.{Wanted}
 use Rattle.axp_model.specs.Outcomes.{bank_for}
-use Rattle.axp_lsu.specs.Keeping.{Kept, nothing, copies_of, with_copies, data_copies, with_drop}
+use Rattle.axp_lsu.specs.Keeping.{LocalMemory, nothing, copies_of, with_copies, data_copies, with_drop}
 
 -- the data and the stamp of a line's copy; a line that is not held has none
 abbrev pub stamp_or_none : Option ℕ → ℕ
@@ -37,10 +37,10 @@ part_of (Some (stamp, d)) change offset size = part (change (bytes_of_line d)) o
 
 -- what a fetch finds in the code bank, and a plain read in its data bank, with its own buffered writes
 -- over it
-abbrev pub fetched_value : Wanted → Kept → ℕ
+abbrev pub fetched_value : Wanted → LocalMemory → ℕ
 fetched_value w u = part_of (get_of (line_of w.address) u.code) (λ bytes. bytes) (w.address % LINE_BYTES) w.size
 
-abbrev pub read_value : Wanted → Kept → ℕ
+abbrev pub read_value : Wanted → LocalMemory → ℕ
 read_value w u = part_of (get_of (line_of w.address) (data_copies (line_of w.address) u)) (overlaid (line_of w.address) u.buffer.kept) (w.address % LINE_BYTES) w.size
 
 -- what a load-locked finds in memory, and a store-conditional's success as a number
@@ -53,14 +53,14 @@ is_stored (Some (reply.Stored turn bytes)) = true
 is_stored _ = false
 
 -- the value that an access gives to its processor's instruction: 0 where it gives none
-abbrev pub value_by : Kind → Wanted → Kept → Option Reply → ℕ
+abbrev pub value_by : Kind → Wanted → LocalMemory → Option Reply → ℕ
 value_by kind.Fetch w u r = fetched_value w u
 value_by kind.Read w u r = read_value w u
 value_by kind.Locked w u r = locked_value w r
 value_by kind.Conditional w u r = if is_stored r then 1 else 0
 value_by _ w u r = 0
 
-unfoldable pub value_of : Wanted → Kept → Option Reply → ℕ
+unfoldable pub value_of : Wanted → LocalMemory → Option Reply → ℕ
 value_of w u r = value_by w.kind w u r
 
 -- the turn that an answer names
@@ -76,7 +76,7 @@ turn_in (Some (reply.Printed turn)) = turn
 turn_in _ = 0
 
 -- where an access stands
-abbrev pub place_by : Kind → ℕ → Kept → Option Reply → Place
+abbrev pub place_by : Kind → ℕ → LocalMemory → Option Reply → Place
 place_by kind.Fetch l u r = At (stamp_or_none (stamp_of l u.code))
 place_by kind.Read l u r = At (max (stamp_or_none (stamp_of l (data_copies l u))) u.barrier)
 place_by kind.Write l u r = Entry (store_number l u.buffer)
@@ -84,7 +84,7 @@ place_by kind.WriteBarrier l u r = Absent
 place_by _ l u r = At (turn_in r)
 
 -- what is shown as an access's value: what it found, or what was wanted of it
-abbrev pub shown_by : Kind → Wanted → Kept → Option Reply → ℕ
+abbrev pub shown_by : Kind → Wanted → LocalMemory → Option Reply → ℕ
 shown_by kind.Fetch w u r = fetched_value w u
 shown_by kind.Read w u r = read_value w u
 shown_by kind.Locked w u r = locked_value w r
@@ -95,7 +95,7 @@ abbrev pub success_by : Kind → Option Reply → Bool
 success_by kind.Conditional r = is_stored r
 success_by _ r = false
 
-abbrev pub step_outcome : Cpu → Option Wanted → Kept → Option Reply → Outcome
+abbrev pub step_outcome : Cpu → Option Wanted → LocalMemory → Option Reply → Outcome
 step_outcome cpu None u r = outcome.NoAccess
 step_outcome cpu (Some w) u r = outcome.Access (record {
   cpu = cpu;
@@ -115,7 +115,7 @@ abbrev pub drain_outcome : Option Pending → Option Reply → Outcome
 drain_outcome None r = outcome.NoAccess
 drain_outcome (Some e) r = outcome.Drained e.number (line_numbered e.line) (turn_in r)
 
-abbrev pub take_outcome : Kept → Option Reply → Outcome
+abbrev pub take_outcome : LocalMemory → Option Reply → Outcome
 take_outcome u (Some (reply.Late line turn)) = outcome.Taken line turn (has_older (line_number line) turn (data_copies (line_number line) u))
 take_outcome u _ = outcome.NoAccess
 
@@ -123,7 +123,7 @@ abbrev pub poll_outcome : Bool → Option Reply → Outcome
 poll_outcome low (Some (reply.Polled pending turn)) = outcome.Polled pending (pending && low) turn
 poll_outcome low _ = outcome.NoAccess
 
-abbrev pub outcome_by : Act → Cpu → Intent → Kept → Option Reply → Outcome
+abbrev pub outcome_by : Act → Cpu → Intent → LocalMemory → Option Reply → Outcome
 outcome_by act.Step cpu i u r = step_outcome cpu i.wanted u r
 outcome_by act.Fill cpu i u r = fill_outcome i.wanted r
 outcome_by (act.Drain k) cpu i u r = drain_outcome (slice_get (oldest_group u.buffer.kept) k) r
@@ -132,58 +132,58 @@ outcome_by (act.Drop b line) cpu i u r = outcome.Done
 outcome_by act.Poll cpu i u r = poll_outcome i.low r
 outcome_by act.Tick cpu i u r = outcome.Done
 
-unfoldable pub outcome_of : Act → Cpu → Intent → Kept → Option Reply → Outcome
+unfoldable pub outcome_of : Act → Cpu → Intent → LocalMemory → Option Reply → Outcome
 outcome_of a cpu i u r = outcome_by a cpu i u r
 
 -- a line comes from the bus: its copy is put into a bank, or refreshed where it is held
-abbrev pub brought : Bank → Line → Option Reply → Kept → Kept
-brought b line (Some (reply.Line turn bytes)) u = with_copies b (put (copy_of line turn bytes) (copies_of b u)) u
-brought b line _ u = u
+abbrev pub after_line : Bank → Line → Option Reply → LocalMemory → LocalMemory
+after_line b line (Some (reply.Line turn bytes)) u = with_copies b (put (copy_of line turn bytes) (copies_of b u)) u
+after_line b line _ u = u
 
-abbrev pub rewritten : Line → Option Reply → Kept → Kept
-rewritten line (Some (reply.Stored turn bytes)) u = with_copies (data_bank (line_number line)) (refreshed (copy_of line turn bytes) (data_copies (line_number line) u)) u
-rewritten line _ u = u
+abbrev pub after_stored : Line → Option Reply → LocalMemory → LocalMemory
+after_stored line (Some (reply.Stored turn bytes)) u = with_copies (data_bank (line_number line)) (refreshed (copy_of line turn bytes) (data_copies (line_number line) u)) u
+after_stored line _ u = u
 
 -- a barrier delivers all that was late: the bits are of bank d0's copies, and then of d1's
-abbrev pub fenced : Option Reply → Kept → Kept
-fenced (Some (reply.Barrier turn gone)) u = record u { even = spared gone u.even; odd = spared (gone / 2 ^ length u.even) u.odd; barrier = turn }
-fenced _ u = u
+abbrev pub after_barrier : Option Reply → LocalMemory → LocalMemory
+after_barrier (Some (reply.Barrier turn gone)) u = record u { even = spared gone u.even; odd = spared (gone / 2 ^ length u.even) u.odd; barrier = turn }
+after_barrier _ u = u
 
 -- a delivered pair removes an older copy
-abbrev pub delivered : Option Reply → Kept → Kept
-delivered (Some (reply.Late line turn)) u = with_copies (data_bank (line_number line)) (invalidated (line_number line) turn (data_copies (line_number line) u)) u
-delivered _ u = u
+abbrev pub after_late : Option Reply → LocalMemory → LocalMemory
+after_late (Some (reply.Late line turn)) u = with_copies (data_bank (line_number line)) (invalidated (line_number line) turn (data_copies (line_number line) u)) u
+after_late _ u = u
 
 -- what an access leaves
-abbrev pub accessed : Kind → Wanted → Option Reply → Kept → Kept
-accessed kind.Write w r u = record u { buffer = stored w.address w.size w.value u.buffer }
-accessed kind.WriteBarrier w r u = record u { buffer = closed u.buffer }
-accessed kind.Locked w r u = brought (data_bank (line_of w.address)) (line_at w.address) r u
-accessed kind.Conditional w r u = rewritten (line_at w.address) r u
-accessed kind.Barrier w r u = fenced r u
-accessed kind.CodeBarrier w r u = record (fenced r u) { code = [] }
-accessed _ w r u = u
+abbrev pub after_access : Kind → Wanted → Option Reply → LocalMemory → LocalMemory
+after_access kind.Write w r u = record u { buffer = stored w.address w.size w.value u.buffer }
+after_access kind.WriteBarrier w r u = record u { buffer = closed u.buffer }
+after_access kind.Locked w r u = after_line (data_bank (line_of w.address)) (line_at w.address) r u
+after_access kind.Conditional w r u = after_stored (line_at w.address) r u
+after_access kind.Barrier w r u = after_barrier r u
+after_access kind.CodeBarrier w r u = record (after_barrier r u) { code = [] }
+after_access _ w r u = u
 
-abbrev pub stepped : Option Wanted → Option Reply → Kept → Kept
-stepped None r u = u
-stepped (Some w) r u = accessed w.kind w r u
+abbrev pub after_step : Option Wanted → Option Reply → LocalMemory → LocalMemory
+after_step None r u = u
+after_step (Some w) r u = after_access w.kind w r u
 
-abbrev pub filled : Option Wanted → Option Reply → Kept → Kept
-filled None r u = u
-filled (Some w) r u = brought (bank_for w.kind (line_of w.address)) (line_at w.address) r u
+abbrev pub after_fill : Option Wanted → Option Reply → LocalMemory → LocalMemory
+after_fill None r u = u
+after_fill (Some w) r u = after_line (bank_for w.kind (line_of w.address)) (line_at w.address) r u
 
-abbrev pub drained : ℕ → Option Pending → Option Reply → Kept → Kept
-drained k None r u = u
-drained k (Some e) r u = rewritten (line_numbered e.line) r (record u { buffer = without k u.buffer })
+abbrev pub after_drain : ℕ → Option Pending → Option Reply → LocalMemory → LocalMemory
+after_drain k None r u = u
+after_drain k (Some e) r u = after_stored (line_numbered e.line) r (record u { buffer = without k u.buffer })
 
-abbrev pub kept_after : Act → Intent → Option Reply → Kept → Kept
-kept_after act.Step i r u = record (stepped i.wanted r u) { since = nothing }
-kept_after act.Fill i r u = record (filled i.wanted r u) { since = record u.since { filled = true } }
-kept_after (act.Drain k) i r u = drained k (slice_get (oldest_group u.buffer.kept) k) r u
-kept_after (act.Take b) i r u = delivered r u
-kept_after (act.Drop b line) i r u = record (with_copies b (dropped (line_number line) (copies_of b u)) u) { since = with_drop b u.since }
-kept_after act.Poll i r u = record u { since = record u.since { polled = true } }
-kept_after act.Tick i r u = record u { since = record u.since { ticked = true } }
+abbrev pub after_act : Act → Intent → Option Reply → LocalMemory → LocalMemory
+after_act act.Step i r u = record (after_step i.wanted r u) { since = nothing }
+after_act act.Fill i r u = record (after_fill i.wanted r u) { since = record u.since { filled = true } }
+after_act (act.Drain k) i r u = after_drain k (slice_get (oldest_group u.buffer.kept) k) r u
+after_act (act.Take b) i r u = after_late r u
+after_act (act.Drop b line) i r u = record (with_copies b (dropped (line_number line) (copies_of b u)) u) { since = with_drop b u.since }
+after_act act.Poll i r u = record u { since = record u.since { polled = true } }
+after_act act.Tick i r u = record u { since = record u.since { ticked = true } }
 
-unfoldable pub advanced : Act → Intent → Option Reply → Kept → Kept
-advanced a i r u = kept_after a i r u
+unfoldable pub advanced : Act → Intent → Option Reply → LocalMemory → LocalMemory
+advanced a i r u = after_act a i r u

@@ -10,7 +10,7 @@ use Rattle.axp_bank.specs.declared.copies.LineCopy.{LineCopy}
 use Rattle.axp_wbuf.specs.Pending.{Buffer, no_entries}
 use Rattle.axp_lsu.specs.declared.since.Since.{Since}
 
-pub record Kept : Type 0 where
+pub record LocalMemory : Type 0 where
   pub buffer : Buffer
   -- the copies of the data banks and of the code bank
   pub even : List LineCopy
@@ -26,23 +26,23 @@ abbrev pub nothing : Since
 nothing = record { filled = false; dropped_even = false; dropped_odd = false; dropped_code = false; polled = false; ticked = false }
 
 -- at the start
-abbrev pub none_kept : Kept
-none_kept = record { buffer = no_entries; even = []; odd = []; code = []; barrier = 0; since = nothing }
+abbrev pub empty_memory : LocalMemory
+empty_memory = record { buffer = no_entries; even = []; odd = []; code = []; barrier = 0; since = nothing }
 
 -- a bank's copies
-abbrev pub copies_of : Bank → Kept → List LineCopy
+abbrev pub copies_of : Bank → LocalMemory → List LineCopy
 copies_of Even u = u.even
 copies_of Odd u = u.odd
 copies_of Code u = u.code
 
 -- what is kept, with other copies in a bank
-abbrev pub with_copies : Bank → List LineCopy → Kept → Kept
+abbrev pub with_copies : Bank → List LineCopy → LocalMemory → LocalMemory
 with_copies Even cs u = record u { even = cs }
 with_copies Odd cs u = record u { odd = cs }
 with_copies Code cs u = record u { code = cs }
 
 -- the copies of the data bank that a line belongs to
-abbrev pub data_copies : ℕ → Kept → List LineCopy
+abbrev pub data_copies : ℕ → LocalMemory → List LineCopy
 data_copies l u = copies_of (data_bank l) u
 
 -- lines with stamps, by their addresses
@@ -50,7 +50,7 @@ abbrev pub addressed : List (Line × ℕ) → List (ℕ × ℕ)
 addressed ls = map (λ l. (line_number l.0 * LINE_BYTES, l.1)) ls
 
 -- the data lines held, by their addresses, each with its copy's stamp
-abbrev pub held_pairs : Kept → List (ℕ × ℕ)
+abbrev pub held_pairs : LocalMemory → List (ℕ × ℕ)
 held_pairs u = map (λ c. (line_of c * LINE_BYTES, c.stamp)) (u.even ++ u.odd)
 
 -- a Drop from this bank since the last Step

@@ -16,7 +16,7 @@ use Rattle.axp_wbuf.specs.Pending.{Pending}
 use Rattle.axp_access.specs.declared.Wanted.{Wanted}
 use Rattle.axp_lsu.specs.declared.asks.Ask2.{Ask2}
 use Rattle.axp_lsu.specs.declared.asks.Ask2.TheVariants as ask
-use Rattle.axp_lsu.specs.Keeping.{Kept}
+use Rattle.axp_lsu.specs.Keeping.{LocalMemory}
 
 abbrev pub IsLineWithin : ℕ → Line → Type 0
 IsLineWithin size line = line_number line * LINE_BYTES < size
@@ -34,7 +34,7 @@ pub record IsSmall (l : Line × ℕ) : Type 0 where
   pub stamp : l.1 < 2 ^ 32
 
 -- each part of what is kept
-pub record IsKeptWithin (size : ℕ) (u : Kept) : Type 0 where
+pub record IsKeptWithin (size : ℕ) (u : LocalMemory) : Type 0 where
   pub entries : AllByRecursion (IsEntryWithin size) u.buffer.kept
   pub even : AllByRecursion (IsCopyWithin size) u.even
   pub odd : AllByRecursion (IsCopyWithin size) u.odd

@@ -3,7 +3,7 @@ ghost use Rattle.std.specs.Prelude.{ℕ, ◌≡◌, ◌^◌, ◌<◌, ◌≤◌,
 ghost use Rattle.axp_line.specs.declared.contents.LineData.{LineData};
 ghost use Rattle.axp_line.specs.declared.messages.Reply.TheVariants as reply;
 ghost use Rattle.axp_lsu.specs.Asking.{ask_of};
-ghost use Rattle.axp_lsu.specs.Fitting.{Fits2, FitsRequest, IsWantedInSome, IsWithinSome};
+ghost use Rattle.axp_lsu.specs.Fitting.{ReplyFits, FitsRequest, IsWantedInSome, IsWithinSome};
 ghost use Rattle.axp_lsu.specs.Within.{IsInMemory, IsKeptWithin, IsWantedBy, IsWantedWithin};
 
 use super::*;
@@ -35,10 +35,10 @@ struct Rig {
 
 impl Model for Rig {
     ghost use Rattle.std.specs.Prelude.{◌^◌, ◌≤◌};
-    ghost use Rattle.axp_lsu.specs.Keeping.{Kept};
+    ghost use Rattle.axp_lsu.specs.Keeping.{LocalMemory};
     ghost use Rattle.axp_lsu.specs.Within.{IsKeptWithin};
 
-    ghost Value = { Kept };
+    ghost Value = { LocalMemory };
 
     ghost view = { λ r. r.lsu };
 
@@ -114,13 +114,13 @@ fn is_small(turn: u64) -> bool
 /// The act is legal, and the answer fits what it asks.
 fn fits(lsu: &Lsu, act: Act, intent: &Intent, reply: Option<Reply>) -> bool
     requires { IsWithinSome lsu.now }
-    ensures { IsTrue result → Fits2 (ask_of act intent.now lsu.now) reply }
+    ensures { IsTrue result → ReplyFits (ask_of act intent.now lsu.now) reply }
 {
     answers(&lsu.ask(act, intent), reply)
 }
 
 fn answers(ask: &Option<Ask2>, reply: Option<Reply>) -> bool
-    ensures { IsTrue result → Fits2 ask.now reply }
+    ensures { IsTrue result → ReplyFits ask.now reply }
 {
     match ask {
         None => false,

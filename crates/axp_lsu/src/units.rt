@@ -4,7 +4,7 @@ ghost use Rattle.axp_base.specs.declared.lines.Bank.TheVariants.{Even, Odd};
 ghost use Rattle.axp_base.specs.declared.lines.TheConstants.{LINE_BYTES};
 ghost use Rattle.axp_bank.specs.Copies.{is_held};
 ghost use Rattle.axp_base.specs.Lines.{line_at};
-ghost use Rattle.axp_lsu.specs.Keeping.{none_kept, copies_of, data_copies};
+ghost use Rattle.axp_lsu.specs.Keeping.{empty_memory, copies_of, data_copies};
 
 mod asking;
 mod going;
@@ -30,19 +30,19 @@ pub struct Lsu {
 }
 
 impl Model for Lsu {
-    ghost use Rattle.axp_lsu.specs.Keeping.{Kept};
+    ghost use Rattle.axp_lsu.specs.Keeping.{LocalMemory};
 
-    ghost Value = { Kept };
+    ghost Value = { LocalMemory };
 
-    ghost use Rattle.axp_lsu.specs.Views.{kept_of};
+    ghost use Rattle.axp_lsu.specs.Views.{local_memory_of};
 
-    ghost view = { kept_of };
+    ghost view = { local_memory_of };
 }
 
 impl Lsu {
     /// A unit that keeps nothing.
     pub fn empty() -> Lsu
-        ensures { result ≡ none_kept }
+        ensures { result ≡ empty_memory }
     {
         Lsu {
             buffer: Wbuf::empty(),

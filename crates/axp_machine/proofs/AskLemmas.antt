@@ -10,7 +10,7 @@ use Rattle.axp_base.specs.declared.lines.Bank.{Bank}
 use Rattle.axp_base.specs.declared.lines.Bank.TheVariants.{Even, Odd, Code}
 use Rattle.axp_base.specs.declared.lines.Line.{Line}
 use Rattle.axp_bus.specs.Buses.{MayAsk, State}
-use Rattle.axp_cpu.specs.Actors.{Actor, about, request_of}
+use Rattle.axp_cpu.specs.Actors.{Actor, actor_intent, request_of}
 use Rattle.axp_cpu.specs.Seats.{Seat, wanted}
 use Rattle.axp_cpu.specs.Soundness.{IsSoundAs}
 use Rattle.axp_cpu.specs.ActorStands.{IsAt}
@@ -21,15 +21,15 @@ use Rattle.axp_cpu.proofs.ActorLemmas.{was_asked, wanted_sound}
 use Rattle.axp_line.specs.declared.messages.Reply.TheVariants as reply
 use Rattle.axp_line.specs.declared.messages.Request.{Request}
 use Rattle.axp_line.specs.declared.messages.Request.TheVariants as request
-use Rattle.axp_lsu.specs.Asking.{access_ask, act_ask, ask_of, drain_ask, fill_ask, fill_for, ready, step_ask, take_ask}
+use Rattle.axp_lsu.specs.Asking.{access_ask, act_ask, ask_of, drain_ask, fill_ask, fill_for, is_ready, step_ask, take_ask}
 use Rattle.axp_lsu.specs.Fitting.{FitsRequest}
-use Rattle.axp_lsu.specs.Keeping.{Kept}
+use Rattle.axp_lsu.specs.Keeping.{LocalMemory}
 use Rattle.axp_lsu.specs.Within.{IsAskWithin, IsRequestWithin}
 use Rattle.axp_lsu.specs.declared.asks.Ask2.{Ask2}
 use Rattle.axp_lsu.specs.declared.asks.Ask2.TheVariants as ask
 use Rattle.axp_line.specs.BusCalls.{Written}
-use Rattle.axp_line.specs.BusReply.{Front, first_late, late_in, reply_by, tried}
-use Rattle.axp_model.specs.Legal.{may_now}
+use Rattle.axp_line.specs.BusReply.{PortState, first_late, late_in, reply_by, conditional_reply}
+use Rattle.axp_model.specs.Legal.{is_timely}
 use Rattle.axp_wbuf.specs.Drains.{oldest_group}
 use Rattle.axp_wbuf.specs.Pending.{Pending}
 use Rattle.axp_base.specs.Lines.{line_at, line_of}
@@ -53,7 +53,7 @@ if_some : (b : Bool) (q : Ask2) → is_signal q ≡ false → HasNoSignal (cond 
 if_some true q is = is
 if_some false q is = tt
 
-access_no_signal : (k : Kind) (size : ℕ) (w : Wanted) (armed : Bool) (u : Kept) → IsSoundAs size k w → is_signal (access_ask k w armed u) ≡ false
+access_no_signal : (k : Kind) (size : ℕ) (w : Wanted) (armed : Bool) (u : LocalMemory) → IsSoundAs size k w → is_signal (access_ask k w armed u) ≡ false
 access_no_signal kind.Signal size w armed u sound = absurd sound
 access_no_signal _ size w armed u sound = refl
 
@@ -61,16 +61,16 @@ abbrev pub IsWantedSound : ℕ → Option Wanted → Type 0
 IsWantedSound size None = Unit {0}
 IsWantedSound size (Some w) = IsSoundAs size w.kind w
 
-step_no_signal : (o : Option Wanted) (size : ℕ) (boundary armed : Bool) (u : Kept) → IsWantedSound size o → HasNoSignal (step_ask boundary o armed u)
+step_no_signal : (o : Option Wanted) (size : ℕ) (boundary armed : Bool) (u : LocalMemory) → IsWantedSound size o → HasNoSignal (step_ask boundary o armed u)
 step_no_signal None size boundary armed u sound = if_some boundary ask.Private refl
-step_no_signal (Some w) size boundary armed u sound = if_some (ready w.kind (line_of w.address) u) (access_ask w.kind w armed u) (access_no_signal w.kind size w armed u sound)
+step_no_signal (Some w) size boundary armed u sound = if_some (is_ready w.kind (line_of w.address) u) (access_ask w.kind w armed u) (access_no_signal w.kind size w armed u sound)
 
-fill_for_no_signal : (k : Kind) (w : Wanted) (u : Kept) → HasNoSignal (fill_for k w u)
+fill_for_no_signal : (k : Kind) (w : Wanted) (u : LocalMemory) → HasNoSignal (fill_for k w u)
 fill_for_no_signal kind.Fetch w u = if_some _ (ask.Bus (request.FillCode (line_at w.address))) refl
 fill_for_no_signal kind.Read w u = if_some _ (ask.Bus (request.Fill (line_at w.address))) refl
 fill_for_no_signal _ w u = tt
 
-fill_no_signal : (o : Option Wanted) (u : Kept) → HasNoSignal (fill_ask o u)
+fill_no_signal : (o : Option Wanted) (u : LocalMemory) → HasNoSignal (fill_ask o u)
 fill_no_signal None u = tt
 fill_no_signal (Some w) u = fill_for_no_signal w.kind w u
 
@@ -83,7 +83,7 @@ take_no_signal Even = refl
 take_no_signal Odd = refl
 take_no_signal Code = tt
 
-act_no_signal : (a : Act) (size : ℕ) (i : Intent) (u : Kept) → IsWantedSound size i.wanted → HasNoSignal (act_ask a i u)
+act_no_signal : (a : Act) (size : ℕ) (i : Intent) (u : LocalMemory) → IsWantedSound size i.wanted → HasNoSignal (act_ask a i u)
 act_no_signal act.Step size i u sound = step_no_signal i.wanted size i.boundary i.armed u sound
 act_no_signal act.Fill size i u sound = fill_no_signal i.wanted u
 act_no_signal (act.Drain k) size i u sound = drain_no_signal (slice_get (oldest_group u.buffer.kept) k)
@@ -96,9 +96,9 @@ now_no_signal : (now : Bool) (o : Option Ask2) → HasNoSignal o → HasNoSignal
 now_no_signal true o has = has
 now_no_signal false o has = tt
 
-ask_no_signal : (a : Act) (size : ℕ) (i : Intent) (u : Kept) → IsWantedSound size i.wanted → HasNoSignal (ask_of a i u)
+ask_no_signal : (a : Act) (size : ℕ) (i : Intent) (u : LocalMemory) → IsWantedSound size i.wanted → HasNoSignal (ask_of a i u)
 unfolding ask_of
-ask_no_signal a size i u sound = now_no_signal (may_now a i.finished u.since.filled) (act_ask a i u) (act_no_signal a size i u sound)
+ask_no_signal a size i u sound = now_no_signal (is_timely a i.finished u.since.filled) (act_ask a i u) (act_no_signal a size i u sound)
 
 -- the wanted access of a seat is one of the table
 wanted_by_sound : (q : Sequencer) (s : Seat) (o : Option Wanted) → Stands q s → wanted s ≡ o → IsWantedSound s.size o
@@ -125,9 +125,9 @@ ask_may (ask.Bus q) size cpus inside unasked = request_may q size cpus inside un
 
 pub asked_may : (p : Processor) (a : Actor) (e : Act) (q : Ask2) (cpus : ℕ) → IsAt p a → request_of a e ≡ Ok q → IsAskWithin a.seat.size q → MayBoth a.seat.size cpus q
 asked_may p a e q cpus at is inside =
-    let sound : IsWantedSound a.seat.size (about a).wanted = wanted_by_sound p.sequencer a.seat (about a).wanted at.seat refl in
-    let asked : ask_of e (about a) a.kept ≡ Some q = (was_asked a e q is).0 in
-    let unasked : is_signal q ≡ false = subst (λ (o : Option Ask2). HasNoSignal o) asked (ask_no_signal e a.seat.size (about a) a.kept sound) in
+    let sound : IsWantedSound a.seat.size (actor_intent a).wanted = wanted_by_sound p.sequencer a.seat (actor_intent a).wanted at.seat refl in
+    let asked : ask_of e (actor_intent a) a.kept ≡ Some q = (was_asked a e q is).0 in
+    let unasked : is_signal q ≡ false = subst (λ (o : Option Ask2). HasNoSignal o) asked (ask_no_signal e a.seat.size (actor_intent a) a.kept sound) in
     ask_may q a.seat.size cpus inside unasked
 
 -- the size and processors that the bus has
@@ -136,7 +136,7 @@ may_ask_for ask.Private b size is may = tt
 may_ask_for (ask.Bus q) b size is may = subst (λ n. MayAsk n (length b.lanes) q) is may
 
 -- the bus's answers fit
-tried_fits : (stored : Bool) (f : Front) (w : Option Written) (line : Line) (address size value : ℕ) (armed : Bool) → f.turns + 1 < 2 ^ 32 → FitsRequest (request.Conditional address size value armed) (tried stored f w line)
+tried_fits : (stored : Bool) (f : PortState) (w : Option Written) (line : Line) (address size value : ℕ) (armed : Bool) → f.turns + 1 < 2 ^ 32 → FitsRequest (request.Conditional address size value armed) (conditional_reply stored f w line)
 tried_fits true f w line address size value armed few = few
 tried_fits false f w line address size value armed few = omega (arith, few)
 
@@ -145,11 +145,11 @@ first_fits bank [] turns few inside before something = absurd (something refl)
 first_fits bank ((line, turn) ∷ pairs) turns few inside before something = (inside.0, let first = before.0 in omega (arith, few, first))
 
 -- what is late is in its bank, from turns that were made
-pub record IsLateWell (f : Front) (bank : Bank) : Type 0 where
+pub record IsLateWell (f : PortState) (bank : Bank) : Type 0 where
   pub inside : AllByRecursion (InBank bank) (late_in f bank)
   pub before : AreBefore (f.turns + 1) (late_in f bank)
 
-pub reply_fits : (q : Request) (f : Front) → f.turns + 1 < 2 ^ 32 → ((bank : Bank) → IsLateWell f bank) → (reply_by f q ≡ reply.Nothing → ⊥) → FitsRequest q (reply_by f q)
+pub reply_fits : (q : Request) (f : PortState) → f.turns + 1 < 2 ^ 32 → ((bank : Bank) → IsLateWell f bank) → (reply_by f q ≡ reply.Nothing → ⊥) → FitsRequest q (reply_by f q)
 unfolding reply_by
 reply_fits (request.Fill line) f few late something = omega (arith, few)
 reply_fits (request.FillCode line) f few late something = omega (arith, few)

@@ -19,18 +19,18 @@ use Rattle.axp_lsu.specs.Within.{IsLineWithin, IsRequestWithin}
 use Rattle.axp_lsu.specs.declared.asks.Ask2.{Ask2}
 use Rattle.axp_lsu.specs.declared.asks.Ask2.TheVariants as ask
 use Rattle.axp_lsu.proofs.Lines.{line_within}
-use Rattle.axp_line.specs.BusCalls.{BusCall, Written, late, late_by_own, line_written, register, turns, would_write, wrote}
-use Rattle.axp_line.specs.BusReply.{Front, first_late, front, tried, reply_by}
+use Rattle.axp_line.specs.BusCalls.{BusCall, Written, late, late_by_own, line_written, register, turns, write_asked, write_made}
+use Rattle.axp_line.specs.BusReply.{PortState, first_late, port_state, conditional_reply, reply_by}
 use Rattle.axp_world.specs.Worlds.{reply_for}
 use Rattle.axp_machine.specs.Ties.{AreAskedWithin}
 
 -- what a call writes
-would_within : (size : ℕ) (q : Request) → IsRequestWithin size q → IfSome (line_written (would_write q)) (IsLineWithin size)
+would_within : (size : ℕ) (q : Request) → IsRequestWithin size q → IfSome (line_written (write_asked q)) (IsLineWithin size)
 would_within size (request.Drain line mask bytes) asked = asked
 would_within size (request.Conditional address width value armed) asked = let below = asked.2 in line_within size (address / LINE_BYTES) (omega (arith, below))
 would_within size _ asked = tt
 
-written_within : (size : ℕ) (q : Request) (a : Reply) → IsRequestWithin size q → IfSome (line_written (wrote q a)) (IsLineWithin size)
+written_within : (size : ℕ) (q : Request) (a : Reply) → IsRequestWithin size q → IfSome (line_written (write_made q a)) (IsLineWithin size)
 written_within size q (reply.Stored turn bytes) asked = would_within size q asked
 written_within size q _ asked = tt
 
@@ -62,9 +62,9 @@ late_within : (size p : ℕ) (b : Bank) (cs : List BusCall) → AreAskedWithin s
 late_within size p b [] asked = tt
 late_within size p b (c ∷ cs) asked =
     let before = late_within size p b cs asked.1 in
-    cond_both (eqb (cpu_number c.cpu) p) (late_by_own b c.ask c.answer (late p b cs)) (late_by_other b (line_written (wrote c.ask c.answer)) (turns cs + 1) (late p b cs)) (λ z. AllByRecursion (IsPairWithin size) z)
+    cond_both (eqb (cpu_number c.cpu) p) (late_by_own b c.ask c.answer (late p b cs)) (late_by_other b (line_written (write_made c.ask c.answer)) (turns cs + 1) (late p b cs)) (λ z. AllByRecursion (IsPairWithin size) z)
     (λ _. own_within size b c.ask c.answer (late p b cs) before)
-    (λ _. other_within size b (line_written (wrote c.ask c.answer)) (turns cs + 1) (late p b cs) (written_within size c.ask c.answer asked.0) before)
+    (λ _. other_within size b (line_written (write_made c.ask c.answer)) (turns cs + 1) (late p b cs) (written_within size c.ask c.answer asked.0) before)
 
 -- what is told of it
 abbrev pub IsToldWithin : ℕ → Option Reply → Type 0
@@ -75,7 +75,7 @@ first_within : (size : ℕ) (pairs : List (Line × ℕ)) → AllByRecursion (IsP
 first_within size [] all = tt
 first_within size (pair ∷ pairs) all = all.0
 
-tried_within : (size : ℕ) (stored : Bool) (f : Front) (w : Option Written) (line : Line) → IsToldWithin size (Some (tried stored f w line))
+tried_within : (size : ℕ) (stored : Bool) (f : PortState) (w : Option Written) (line : Line) → IsToldWithin size (Some (conditional_reply stored f w line))
 tried_within size true f w line = tt
 tried_within size false f w line = tt
 
@@ -86,5 +86,5 @@ told_within size image cs p (ask.Bus (request.Take Even)) asked = first_within s
 told_within size image cs p (ask.Bus (request.Take Odd)) asked = first_within size (late p Odd cs) (late_within size p Odd cs asked)
 told_within size image cs p (ask.Bus (request.Take Code)) asked = tt
 told_within size image cs p (ask.Bus (request.Conditional address width value armed)) asked =
-    tried_within size (armed && is_allowed address (register p cs)) (front image cs p) (would_write (request.Conditional address width value armed)) (line_at address)
+    tried_within size (armed && is_allowed address (register p cs)) (port_state image cs p) (write_asked (request.Conditional address width value armed)) (line_at address)
 told_within size image cs p (ask.Bus _) asked = tt

@@ -20,7 +20,7 @@ use Rattle.axp_base.specs.declared.processors.Cpu.{Cpu}
 use Rattle.axp_base.specs.declared.processors.TheConstants.{MAX_BUDGET, MAX_CPUS}
 use Rattle.axp_bus.specs.BusStands as bus
 use Rattle.axp_bus.proofs.ReplyLemmas.{late_tidy}
-use Rattle.axp_cpu.specs.Actors.{Actor, about, advanced, outcome_of}
+use Rattle.axp_cpu.specs.Actors.{Actor, actor_intent, advanced, outcome_of}
 use Rattle.axp_cpu.specs.ActorStands.{IsAnswered, IsAt}
 use Rattle.axp_cpu.specs.declared.processors.Processor.{Processor}
 use Rattle.axp_cpu.proofs.ActorLemmas.{was_asked}
@@ -28,12 +28,12 @@ use Rattle.axp_image.specs.Contents.{Contents}
 use Rattle.axp_line.specs.declared.messages.Reply.{Reply}
 use Rattle.axp_line.specs.declared.messages.Reply.TheVariants as reply
 use Rattle.axp_lsu.specs.Asking.{ask_of}
-use Rattle.axp_lsu.specs.Fitting.{Fits2, ShowsFitting}
+use Rattle.axp_lsu.specs.Fitting.{ReplyFits, ShowsFitting}
 use Rattle.axp_lsu.specs.Within.{IsAskWithin}
 use Rattle.axp_lsu.specs.declared.asks.Ask2.{Ask2}
 use Rattle.axp_lsu.specs.declared.asks.Ask2.TheVariants as ask
 use Rattle.axp_line.specs.BusCalls.{BusCall}
-use Rattle.axp_line.specs.BusReply.{front}
+use Rattle.axp_line.specs.BusReply.{port_state}
 use Rattle.axp_laws.proofs.RunRecords.{InBank, late_in}
 use Rattle.axp_wbuf.specs.Pending.{IsTidy}
 use Rattle.axp_world.specs.declared.lengths.TheConstants.{EVENTS_PER_STEP}
@@ -115,7 +115,7 @@ pub can_answer : (a : Inside) (e : Event) (q : Ask2) → Ties a → IsGranted (s
 can_answer a e q ties is inside = by_found a e q (slice_get a.processors.items (cpu_number e.cpu)) refl ties is inside
 
 -- its answer fits
-late_well : (a : Inside) (p : ℕ) → Ties a → (bank : Bank) → IsLateWell (front (image_bytes a.image) (world_of (seen a)).calls p) bank
+late_well : (a : Inside) (p : ℕ) → Ties a → (bank : Bank) → IsLateWell (port_state (image_bytes a.image) (world_of (seen a)).calls p) bank
 late_well a p ties Even =
     let is = joined a.image (length a.processors.items) a.budget (history a) ties.valid ties.run in
     record { inside = subst (λ pairs. AllByRecursion (InBank Even) pairs) (sym (is.bus.pairs p Even)) (late_in p Even (history a)); before = (late_tidy p Even (world_of (seen a)).calls).made }
@@ -124,13 +124,13 @@ late_well a p ties Odd =
     record { inside = subst (λ pairs. AllByRecursion (InBank Odd) pairs) (sym (is.bus.pairs p Odd)) (late_in p Odd (history a)); before = (late_tidy p Odd (world_of (seen a)).calls).made }
 late_well a p ties Code = record { inside = tt; before = tt }
 
-by_ask : (a : Inside) (p : ℕ) (q : Ask2) → Ties a → a.bus.turns + 1 < 2 ^ 32 → (reply_for (image_bytes a.image) (world_of (seen a)).calls p (Ok q) ≡ Some reply.Nothing → ⊥) → Fits2 (Some q) (reply_for (image_bytes a.image) (world_of (seen a)).calls p (Ok q))
+by_ask : (a : Inside) (p : ℕ) (q : Ask2) → Ties a → a.bus.turns + 1 < 2 ^ 32 → (reply_for (image_bytes a.image) (world_of (seen a)).calls p (Ok q) ≡ Some reply.Nothing → ⊥) → ReplyFits (Some q) (reply_for (image_bytes a.image) (world_of (seen a)).calls p (Ok q))
 by_ask a p ask.Private ties few something = tt
 by_ask a p (ask.Bus q) ties few something =
-    reply_fits q (front (image_bytes a.image) (world_of (seen a)).calls p) (subst (λ n. n + 1 < 2 ^ 32) ties.bus.turns few) (late_well a p ties) (λ none. something (ap (λ (r : Reply). Some r) none))
+    reply_fits q (port_state (image_bytes a.image) (world_of (seen a)).calls p) (subst (λ n. n + 1 < 2 ^ 32) ties.bus.turns few) (late_well a p ties) (λ none. something (ap (λ (r : Reply). Some r) none))
 
-answer_fits : (a : Inside) (e : Event) (q : Ask2) (r : Option Reply) → Ties a → IsGranted (seen a) e q → r ≡ reply_for (image_bytes a.image) (world_of (seen a)).calls (cpu_number e.cpu) (Ok q) → Fits2 (Some q) r
-answer_fits a e q r ties is answer = subst (λ (x : Option Reply). Fits2 (Some q) x) (sym answer) (by_ask a (cpu_number e.cpu) q ties (has_room a e q ties is).few is.something)
+answer_fits : (a : Inside) (e : Event) (q : Ask2) (r : Option Reply) → Ties a → IsGranted (seen a) e q → r ≡ reply_for (image_bytes a.image) (world_of (seen a)).calls (cpu_number e.cpu) (Ok q) → ReplyFits (Some q) r
+answer_fits a e q r ties is answer = subst (λ (x : Option Reply). ReplyFits (Some q) x) (sym answer) (by_ask a (cpu_number e.cpu) q ties (has_room a e q ties is).few is.something)
 
 pub is_answered : (a : Inside) (e : Event) (q : Ask2) (p : Processor) (r : Option Reply) → Ties a → IsGranted (seen a) e q → IsAt p (actor_of (seen a) (cpu_number e.cpu)) → r ≡ reply_for (image_bytes a.image) (world_of (seen a)).calls (cpu_number e.cpu) (Ok q) → IsAnswered p e.act r
 is_answered a e q p r ties is at answer = record {
@@ -150,9 +150,9 @@ is_spelled a e q p r o ties is at answer gives fits =
     let calls : List BusCall = (world_of (seen a)).calls in
     let told : IsToldWithin x.seat.size r = rw (size, answer) (told_within a.image.size (image_bytes a.image) calls (cpu_number e.cpu) q ties.asked) in
     let tidy : IsTidy x.kept.buffer = ((joined a.image (length a.processors.items) a.budget (history a) ties.valid ties.run).buffers (cpu_number e.cpu)).alike.tidy in
-    let asked : ask_of e.act (about x) x.kept ≡ Some q = (was_asked x e.act q is.asked).0 in
+    let asked : ask_of e.act (actor_intent x) x.kept ≡ Some q = (was_asked x e.act q is.asked).0 in
     subst (λ (z : Outcome). Spells e z) (sym gives)
-    (spells p x e r at (actor_cpu a.image (length a.processors.items) a.budget (history a) e.cpu) tidy (subst (λ (z : Option Ask2). Fits2 z r) (sym asked) (answer_fits a e q r ties is answer)) told (subst (λ (z : Outcome). ShowsFitting z) gives fits))
+    (spells p x e r at (actor_cpu a.image (length a.processors.items) a.budget (history a) e.cpu) tidy (subst (λ (z : Option Ask2). ReplyFits z r) (sym asked) (answer_fits a e q r ties is answer)) told (subst (λ (z : Outcome). ShowsFitting z) gives fits))
 
 -- what a list has after one of its elements was set
 slice_get-set_here : {A : Type 0} (xs : List A) (c : ℕ) (new y : A) → slice_get (set xs c new) c ≡ Some y → new ≡ y

@@ -8,10 +8,10 @@ use Rattle.axp_access.specs.declared.Record.{Record}
 use Rattle.axp_access.specs.declared.Wanted.{Wanted}
 use Rattle.axp_base.specs.Cpus.{cpu_number}
 use Rattle.axp_base.specs.declared.processors.Cpu.{Cpu}
-use Rattle.axp_cpu.specs.Actors.{Actor, about, advanced, moved_by, seat_after}
+use Rattle.axp_cpu.specs.Actors.{Actor, actor_intent, advanced, moved_by, seat_after}
 use Rattle.axp_cpu.specs.Plans.{Plan, End, Want, Unbuilt, along}
 use Rattle.axp_cpu.specs.Rows.{group}
-use Rattle.axp_cpu.specs.Seats.{Seat, moved}
+use Rattle.axp_cpu.specs.Seats.{Seat, seat_at_plan}
 use Rattle.axp_cpu.specs.declared.refusals.Refusal.{Refusal}
 use Rattle.axp_image.specs.Contents.{Contents}
 use Rattle.axp_line.specs.declared.messages.Reply.{Reply}
@@ -27,7 +27,7 @@ use Rattle.axp_world.specs.Worlds.{World, after_event, asked, calls_for, image_b
 use Rattle.axp_world.proofs.PlayedRecords.{actor_other, actor_own}
 
 -- a processor's memory has the image's size
-size-moved : (s : Seat) (vs : List ℕ) (p : Plan) → (moved s vs p).size ≡ s.size
+size-moved : (s : Seat) (vs : List ℕ) (p : Plan) → (seat_at_plan s vs p).size ≡ s.size
 size-moved s vs (End t) = refl
 size-moved s vs (Want w k) = refl
 size-moved s vs Unbuilt = refl
@@ -37,7 +37,7 @@ size_by None r a = refl
 size_by (Some w) r a = size-moved a.seat (a.seat.values ++ value_of w a.kept r ∷ []) (along (a.seat.values ++ value_of w a.kept r ∷ []) (group a.seat.size a.seat.start))
 
 size_after : (e : Act) (r : Option Reply) (a : Actor) → (seat_after e r a).size ≡ a.seat.size
-size_after act.Step r a = size_by (about a).wanted r a
+size_after act.Step r a = size_by (actor_intent a).wanted r a
 size_after act.Fill r a = refl
 size_after (act.Drain k) r a = refl
 size_after (act.Take b) r a = refl

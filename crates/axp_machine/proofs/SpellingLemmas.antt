@@ -21,7 +21,7 @@ use Rattle.axp_base.specs.declared.lines.Line.{Line}
 use Rattle.axp_base.specs.declared.lines.TheConstants.{LINE_BYTES}
 use Rattle.axp_base.specs.declared.processors.Cpu.{Cpu}
 use Rattle.axp_base.specs.declared.processors.TheConstants.{MAX_BUDGET, MAX_CPUS}
-use Rattle.axp_cpu.specs.Actors.{Actor, about, outcome_of}
+use Rattle.axp_cpu.specs.Actors.{Actor, actor_intent, outcome_of}
 use Rattle.axp_cpu.specs.ActorStands.{IsAt}
 use Rattle.axp_cpu.specs.Seats.{Seat, is_finished, wanted}
 use Rattle.axp_cpu.specs.Soundness as sound
@@ -33,10 +33,10 @@ use Rattle.axp_line.specs.declared.messages.Reply.{Reply}
 use Rattle.axp_line.specs.declared.messages.Reply.TheVariants as reply
 use Rattle.axp_line.specs.declared.messages.Request.TheVariants as request
 use Rattle.axp_lsu.specs.Asking.{act_ask, ask_of, drain_ask, fill_ask, fill_for, take_ask}
-use Rattle.axp_lsu.specs.Fitting.{Fits2, FitsSize, IsTurn, ShowsFitting}
+use Rattle.axp_lsu.specs.Fitting.{ReplyFits, FitsSize, IsTurn, ShowsFitting}
 use Rattle.axp_lsu.specs.Going as going
 use Rattle.axp_lsu.specs.Going.{drain_outcome, fill_outcome, outcome_by, place_by, poll_outcome, shown_by, stamp_or_none, step_outcome, success_by, take_outcome, turn_in}
-use Rattle.axp_lsu.specs.Keeping.{Kept, copies_of, data_copies, has_dropped}
+use Rattle.axp_lsu.specs.Keeping.{LocalMemory, copies_of, data_copies, has_dropped}
 use Rattle.axp_lsu.specs.Within.{IsConditional, IsCopyWithin, IsEntryWithin, IsInMemory, IsKeptWithin, IsLineWithin}
 use Rattle.axp_lsu.specs.declared.asks.Ask2.TheVariants as ask
 use Rattle.axp_lsu.proofs.AskedWithin.{line_address_within, oldest_within}
@@ -127,7 +127,7 @@ unfolding is_held
 held_within size n [] all held = cc
 held_within size n (c ∷ cs) all held = held_by size n c (is_of n c) (list_any (is_of n) cs) refl held all.0 (λ rest. held_within size n cs all.1 rest)
 
-copies_within : (size : ℕ) (b : Bank) (u : Kept) → IsKeptWithin size u → AllByRecursion (IsCopyWithin size) (copies_of b u)
+copies_within : (size : ℕ) (b : Bank) (u : LocalMemory) → IsKeptWithin size u → AllByRecursion (IsCopyWithin size) (copies_of b u)
 copies_within size Even u kept = kept.even
 copies_within size Odd u kept = kept.odd
 copies_within size Code u kept = kept.code
@@ -142,7 +142,7 @@ number_fits made newest group line (e ∷ es) order =
     (λ _. number_fits made newest group line es order.1.1)
 
 -- what is known of a processor that acts
-record Knows (size : ℕ) (u : Kept) (r : Option Reply) : Type 0 where
+record Knows (size : ℕ) (u : LocalMemory) (r : Option Reply) : Type 0 where
   most : size ≤ MAX_MEMORY
   kept : IsKeptWithin size u
   tidy : IsTidy u.buffer
@@ -150,7 +150,7 @@ record Knows (size : ℕ) (u : Kept) (r : Option Reply) : Type 0 where
   told : IsToldWithin size r
 
 -- a Step
-access_printed : (size : ℕ) (k : Kind) (cpu : Cpu) (w : Wanted) (u : Kept) (r : Option Reply) → Knows size u r → u.buffer.made < MAX_BUDGET → IsTurn (turn_in r) → IsWantedAs size k w → FitsSize k w.size (shown_by k w u r)
+access_printed : (size : ℕ) (k : Kind) (cpu : Cpu) (w : Wanted) (u : LocalMemory) (r : Option Reply) → Knows size u r → u.buffer.made < MAX_BUDGET → IsTurn (turn_in r) → IsWantedAs size k w → FitsSize k w.size (shown_by k w u r)
     → IsSpelledAs k (access_of cpu k w (shown_by k w u r) (success_by k r) (place_by k (line_of w.address) u r))
 access_printed size kind.Fetch cpu w u r knows few turn wants fits =
     (fetch_printed size cpu kind.Fetch w _ false _ knows.most wants fits, (refl, stamp_fits size (line_of w.address) u.code knows.kept.code))
@@ -171,26 +171,26 @@ access_printed size kind.Console cpu w u r knows few turn wants fits = (record {
 access_printed size kind.Poll cpu w u r knows few turn wants fits = absurd wants
 
 -- a wanted access is one of the instruction table's, and there is a step left for it
-abbrev IsWantedWell : ℕ → Kept → Option Wanted → Type 0
+abbrev IsWantedWell : ℕ → LocalMemory → Option Wanted → Type 0
 IsWantedWell size u None = Unit {0}
 IsWantedWell size u (Some w) = IsWantedAs size w.kind w × (u.buffer.made < MAX_BUDGET)
 
-step_printed : (size : ℕ) (o : Option Wanted) (cpu : Cpu) (e : Event) (u : Kept) (r : Option Reply) → cpu ≡ e.cpu → Knows size u r → IsTurn (turn_in r) → IsWantedWell size u o → ShowsFitting (step_outcome cpu o u r) → IsOutcomeOf act.Step e (step_outcome cpu o u r)
+step_printed : (size : ℕ) (o : Option Wanted) (cpu : Cpu) (e : Event) (u : LocalMemory) (r : Option Reply) → cpu ≡ e.cpu → Knows size u r → IsTurn (turn_in r) → IsWantedWell size u o → ShowsFitting (step_outcome cpu o u r) → IsOutcomeOf act.Step e (step_outcome cpu o u r)
 step_printed size None cpu e u r own knows turn wants fits = tt
 step_printed size (Some w) cpu e u r own knows turn wants fits = (own, access_printed size w.kind cpu w u r knows wants.1 turn wants.0 fits)
 
 -- a Fill
-fill_line : (size : ℕ) (k : Kind) (w : Wanted) (u : Kept) (r : Option Reply) → size ≤ MAX_MEMORY → IsWantedAs size k w → Fits2 (fill_for k w u) r → IsLine (line_at w.address)
+fill_line : (size : ℕ) (k : Kind) (w : Wanted) (u : LocalMemory) (r : Option Reply) → size ≤ MAX_MEMORY → IsWantedAs size k w → ReplyFits (fill_for k w u) r → IsLine (line_at w.address)
 fill_line size kind.Fetch w u r most wants fits = line_printed size (line_at w.address) most (line_within size (line_of w.address) (line_address_within size w wants.inside))
 fill_line size kind.Read w u r most wants fits = line_printed size (line_at w.address) most (line_within size (line_of w.address) (line_address_within size w wants))
 fill_line size _ w u r most wants fits = absurd (none_fits r fits)
 
-fill_printed : (size : ℕ) (o : Option Wanted) (e : Event) (u : Kept) (r : Option Reply) → size ≤ MAX_MEMORY → IsTurn (turn_in r) → IsWantedWell size u o → Fits2 (fill_ask o u) r → IsOutcomeOf act.Fill e (fill_outcome o r)
+fill_printed : (size : ℕ) (o : Option Wanted) (e : Event) (u : LocalMemory) (r : Option Reply) → size ≤ MAX_MEMORY → IsTurn (turn_in r) → IsWantedWell size u o → ReplyFits (fill_ask o u) r → IsOutcomeOf act.Fill e (fill_outcome o r)
 fill_printed size None e u r most turn wants fits = absurd (none_fits r fits)
 fill_printed size (Some w) e u r most turn wants fits = (fill_line size w.kind w u r most wants.0 fits, turn)
 
 -- a Drain
-drain_printed : (size k : ℕ) (o : Option Pending) (e : Event) (u : Kept) (r : Option Reply) → Knows size u r → IsTurn (turn_in r) → IfSome o (IsEntryWithin size) → slice_get u.buffer.kept k ≡ o → Fits2 (drain_ask o) r → IsOutcomeOf (act.Drain k) e (drain_outcome o r)
+drain_printed : (size k : ℕ) (o : Option Pending) (e : Event) (u : LocalMemory) (r : Option Reply) → Knows size u r → IsTurn (turn_in r) → IfSome o (IsEntryWithin size) → slice_get u.buffer.kept k ≡ o → ReplyFits (drain_ask o) r → IsOutcomeOf (act.Drain k) e (drain_outcome o r)
 drain_printed size k None e u r knows turn within at fits = absurd (none_fits r fits)
 drain_printed size k (Some p) e u r knows turn within at fits =
     let is : IsMade u.buffer.made u.buffer.newest p = made_at u.buffer.made u.buffer.newest u.buffer.kept k p knows.tidy.order at in
@@ -200,22 +200,22 @@ drain_printed size k (Some p) e u r knows turn within at fits =
     (record { least = omega (arith, begun); most = omega (arith, number, few) }, (line_printed size (line_numbered p.line) knows.most (line_within size p.line within), turn))
 
 -- a Take
-taken_printed : (size : ℕ) (b : Bank) (e : Event) (u : Kept) (r : Option Reply) → Knows size u r → Fits2 (Some (ask.Bus (request.Take b))) r → IsOutcomeOf (act.Take b) e (take_outcome u r)
+taken_printed : (size : ℕ) (b : Bank) (e : Event) (u : LocalMemory) (r : Option Reply) → Knows size u r → ReplyFits (Some (ask.Bus (request.Take b))) r → IsOutcomeOf (act.Take b) e (take_outcome u r)
 taken_printed size b e u (Some (reply.Late line turn)) knows fits = (line_printed size line knows.most knows.told, fits.1)
 taken_printed size b e u _ knows fits = absurd fits
 
-take_printed : (size : ℕ) (b : Bank) (e : Event) (u : Kept) (r : Option Reply) → Knows size u r → Fits2 (take_ask b) r → IsOutcomeOf (act.Take b) e (take_outcome u r)
+take_printed : (size : ℕ) (b : Bank) (e : Event) (u : LocalMemory) (r : Option Reply) → Knows size u r → ReplyFits (take_ask b) r → IsOutcomeOf (act.Take b) e (take_outcome u r)
 take_printed size Even e u r knows fits = taken_printed size Even e u r knows fits
 take_printed size Odd e u r knows fits = taken_printed size Odd e u r knows fits
 take_printed size Code e u r knows fits = absurd (none_fits r fits)
 
 -- a Poll
-poll_printed : (low : Bool) (e : Event) (r : Option Reply) → Fits2 (Some (ask.Bus (request.Poll low))) r → IsOutcomeOf act.Poll e (poll_outcome low r)
+poll_printed : (low : Bool) (e : Event) (r : Option Reply) → ReplyFits (Some (ask.Bus (request.Poll low))) r → IsOutcomeOf act.Poll e (poll_outcome low r)
 poll_printed low e (Some (reply.Polled pending turn)) fits = fits
 poll_printed low e _ fits = absurd fits
 
 -- what each act gives
-outcome_printed : (size : ℕ) (a : Act) (cpu : Cpu) (e : Event) (i : Intent) (u : Kept) (r : Option Reply) → cpu ≡ e.cpu → Knows size u r → IsTurn (turn_in r) → IsWantedWell size u i.wanted → Fits2 (act_ask a i u) r → ShowsFitting (outcome_by a cpu i u r)
+outcome_printed : (size : ℕ) (a : Act) (cpu : Cpu) (e : Event) (i : Intent) (u : LocalMemory) (r : Option Reply) → cpu ≡ e.cpu → Knows size u r → IsTurn (turn_in r) → IsWantedWell size u i.wanted → ReplyFits (act_ask a i u) r → ShowsFitting (outcome_by a cpu i u r)
     → IsOutcomeOf a e (outcome_by a cpu i u r)
 outcome_printed size act.Step cpu e i u r own knows turn wants fits shows = step_printed size i.wanted cpu e u r own knows turn wants shows
 outcome_printed size act.Fill cpu e i u r own knows turn wants fits shows = fill_printed size i.wanted e u r knows.most turn wants fits
@@ -228,11 +228,11 @@ outcome_printed size act.Poll cpu e i u r own knows turn wants fits shows = poll
 outcome_printed size act.Tick cpu e i u r own knows turn wants fits shows = tt
 
 -- and the act
-is_asked : (b : Bool) (r : Option Reply) → Fits2 (cond b (Some ask.Private) None) r → b ≡ true
+is_asked : (b : Bool) (r : Option Reply) → ReplyFits (cond b (Some ask.Private) None) r → b ≡ true
 is_asked true r fits = refl
 is_asked false r fits = absurd (none_fits r fits)
 
-act_printed : (size : ℕ) (a : Act) (i : Intent) (u : Kept) (r : Option Reply) → Knows size u r → Fits2 (act_ask a i u) r → IsNamed a
+act_printed : (size : ℕ) (a : Act) (i : Intent) (u : LocalMemory) (r : Option Reply) → Knows size u r → ReplyFits (act_ask a i u) r → IsNamed a
 act_printed size act.Step i u r knows fits = tt
 act_printed size act.Fill i u r knows fits = tt
 act_printed size (act.Drain k) i u r knows fits =
@@ -259,15 +259,15 @@ wanted_well p a (Some w) at is =
     (sound_wants a.seat.size w.kind w (wanted_sound p.sequencer a.seat w at.seat is), omega (arith, left, made, budget))
 
 -- one line of a trace spells an event and what its processor gives for it
-pub spells : (p : Processor) (a : Actor) (e : Event) (r : Option Reply) → IsAt p a → a.cpu ≡ e.cpu → IsTidy a.kept.buffer → Fits2 (ask_of e.act (about a) a.kept) r → IsToldWithin a.seat.size r → ShowsFitting (outcome_of a e.act r) → Spells e (outcome_of a e.act r)
+pub spells : (p : Processor) (a : Actor) (e : Event) (r : Option Reply) → IsAt p a → a.cpu ≡ e.cpu → IsTidy a.kept.buffer → ReplyFits (ask_of e.act (actor_intent a) a.kept) r → IsToldWithin a.seat.size r → ShowsFitting (outcome_of a e.act r) → Spells e (outcome_of a e.act r)
 unfolding outcome_of going.outcome_of
 spells p a e r at own tidy fits told shows =
     let made = at.made in
     let steps = at.steps in
     let budget = at.budget in
     let knows : Knows a.seat.size a.kept r = record { most = at.seat.most; kept = at.within; tidy = tidy; few = omega (arith, made, steps, budget); told = told } in
-    let asked = act_fits e.act (about a) a.kept r fits in
-    let turn = fits_turn (ask_of e.act (about a) a.kept) r fits in (
-      act_printed a.seat.size e.act (about a) a.kept r knows asked,
-      outcome_printed a.seat.size e.act a.cpu e (about a) a.kept r own knows turn (wanted_well p a (about a).wanted at refl) asked shows,
+    let asked = act_fits e.act (actor_intent a) a.kept r fits in
+    let turn = fits_turn (ask_of e.act (actor_intent a) a.kept) r fits in (
+      act_printed a.seat.size e.act (actor_intent a) a.kept r knows asked,
+      outcome_printed a.seat.size e.act a.cpu e (actor_intent a) a.kept r own knows turn (wanted_well p a (actor_intent a).wanted at refl) asked shows,
     )

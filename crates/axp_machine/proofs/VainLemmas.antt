@@ -15,13 +15,13 @@ use Rattle.axp_lsu.specs.declared.asks.Ask2.{Ask2}
 use Rattle.axp_lsu.specs.declared.asks.Ask2.TheVariants as ask
 use Rattle.axp_line.specs.BusCalls as calls
 use Rattle.axp_line.specs.BusCalls.{BusCall, Written}
-use Rattle.axp_line.specs.BusReply.{Front, first_late, reply_by, tried}
+use Rattle.axp_line.specs.BusReply.{PortState, first_late, reply_by, conditional_reply}
 use Rattle.axp_base.specs.Lists.{is_empty}
 use Rattle.axp_base.specs.Lines.{line_at}
 use Rattle.axp_world.specs.Worlds.{reply_for}
-use Rattle.axp_machine.specs.Playing.{IsVain, bank_taken, is_nothing}
+use Rattle.axp_machine.specs.Playing.{IsTakenInVain, bank_taken, is_nothing}
 
-tried_something : (success : Bool) (f : Front) (w : Option Written) (line : Line) → is_nothing (Some (tried success f w line)) ≡ false
+tried_something : (success : Bool) (f : PortState) (w : Option Written) (line : Line) → is_nothing (Some (conditional_reply success f w line)) ≡ false
 tried_something true f w line = refl
 tried_something false f w line = refl
 
@@ -30,7 +30,7 @@ unfolding reply_by
 told ask.Private image cs p is = refl
 told (ask.Bus (request.Take b)) image cs p is = cc
 told (ask.Bus (request.Conditional a s v armed)) image cs p is =
-    tried_something (armed && is_allowed a (calls.register p cs)) _ (calls.would_write (request.Conditional a s v armed)) (line_at a)
+    tried_something (armed && is_allowed a (calls.register p cs)) _ (calls.write_asked (request.Conditional a s v armed)) (line_at a)
 told (ask.Bus (request.Fill line)) image cs p is = refl
 told (ask.Bus (request.FillCode line)) image cs p is = refl
 told (ask.Bus (request.Drain line mask bytes)) image cs p is = refl
@@ -42,7 +42,7 @@ told (ask.Bus (request.Signal target)) image cs p is = refl
 told (ask.Bus (request.Console byte)) image cs p is = refl
 
 -- no take is in vain but one where nothing is late
-pub no_take : (b : State) (cpu : Cpu) (q : Ask2) → None ≡ bank_taken q → IsVain b cpu q false
+pub no_take : (b : State) (cpu : Cpu) (q : Ask2) → None ≡ bank_taken q → IsTakenInVain b cpu q false
 no_take b cpu q is image cs stands = sym (told q image cs (cpu_number cpu) (sym is))
 
 first_nothing : (pairs : List (Line × ℕ)) → is_nothing (Some (first_late pairs)) ≡ is_empty pairs
@@ -65,6 +65,6 @@ by_bank (ask.Bus (request.Take b)) bank image cs p is = let same : bank ≡ b = 
 by_bank (ask.Bus _) bank image cs p is = cc
 
 pub late_take : (b : State) (cpu : Cpu) (q : Ask2) (bank : Bank) (late : Bool) → Some bank ≡ bank_taken q
-    → ((image : ℕ → ℕ) (cs : List BusCall) → Stands b image cs → late ≡ not (is_empty (calls.late (cpu_number cpu) bank cs))) → IsVain b cpu q (not late)
+    → ((image : ℕ → ℕ) (cs : List BusCall) → Stands b image cs → late ≡ not (is_empty (calls.late (cpu_number cpu) bank cs))) → IsTakenInVain b cpu q (not late)
 late_take b cpu q bank late is tells image cs stands =
     ap not (tells image cs stands) ∙ not_not (is_empty (calls.late (cpu_number cpu) bank cs)) ∙ sym (by_bank q bank image cs (cpu_number cpu) is)

@@ -7,7 +7,7 @@ use Rattle.axp_model.specs.Issue.{AllPairs, KeepsOrder}
 use Rattle.axp_model.specs.Location.{IsLocated}
 use Rattle.axp_model.specs.Outcomes as model
 use Rattle.axp_model.specs.Accesses.{accesses, times}
-use Rattle.axp_access.specs.Numbering.{Item}
+use Rattle.axp_access.specs.Numbering.{NumberedAccess}
 use Rattle.axp_model.specs.Polls.{KeepsPolls}
 use Rattle.axp_model.specs.Storage.{KeepsEachByte, KeepsStorage}
 use Rattle.axp_world.specs.Worlds.{image_bytes}
@@ -26,6 +26,6 @@ pub record KeepsConstraints (m : Seen) : Type 0 where
   -- the constraint on load-locked and store-conditional
   pub locking : KeepsLocking m.records
   -- no value has itself as a cause
-  pub no_loop : (u : Item) (via : List Item) → IsChain m.records u via u → ⊥
+  pub no_loop : (u : NumberedAccess) (via : List NumberedAccess) → IsChain m.records u via u → ⊥
   -- interrupts between processors: what each Poll shows, and when it enters
   pub polls : KeepsPolls (processors_of m) m.records

@@ -45,8 +45,8 @@ abbrev pub bank_taken : Ask2 → Option Bank
 bank_taken (ask.Bus (request.Take bank)) = Some bank
 bank_taken _ = None
 
-abbrev pub IsVain : State → Cpu → Ask2 → Bool → Type 0
-IsVain b cpu q result = (image : ℕ → ℕ) (cs : List BusCall) → Stands b image cs → result ≡ is_nothing (reply_for image cs (cpu_number cpu) (Ok q))
+abbrev pub IsTakenInVain : State → Cpu → Ask2 → Bool → Type 0
+IsTakenInVain b cpu q result = (image : ℕ → ℕ) (cs : List BusCall) → Stands b image cs → result ≡ is_nothing (reply_for image cs (cpu_number cpu) (Ok q))
 
 -- the bus may be asked this by this processor, and has room for the turn
 abbrev pub MayAskFor : State → Ask2 → Type 0

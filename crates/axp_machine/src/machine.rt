@@ -6,7 +6,7 @@ ghost use Rattle.axp_line.specs.BusCalls.{BusCall};
 ghost use Rattle.axp_world.specs.Worlds.{calls_for, reply_for};
 ghost use Rattle.axp_cpu.specs.Actors.{Actor};
 ghost use Rattle.axp_cpu.specs.ActorStands.{IsAt};
-ghost use Rattle.axp_machine.specs.Playing.{IsVain, MayAnswer, bank_taken, is_done};
+ghost use Rattle.axp_machine.specs.Playing.{IsTakenInVain, MayAnswer, bank_taken, is_done};
 ghost use Rattle.axp_machine.specs.Starts.{StartsAll};
 
 use axp_access::{Act, Event, Outcome, Record};
@@ -254,7 +254,7 @@ fn is_done(processor: &Processor) -> bool
 /// Whether it is a take where nothing is late.
 fn is_vain(ask: &Ask2, bus: &Bus, cpu: Cpu) -> bool
     requires { cpu_number cpu < length bus.now.lanes }
-    ensures { IsVain bus.now cpu ask.now result }
+    ensures { IsTakenInVain bus.now cpu ask.now result }
 {
     match bank_taken(ask) {
         Some(bank) => !bus.late(cpu, bank),

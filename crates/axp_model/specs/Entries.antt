@@ -5,7 +5,7 @@ use Rattle.axp_base.specs.declared.lines.Line.{Line}
 use Rattle.axp_access.specs.declared.Outcome.{Outcome}
 use Rattle.axp_access.specs.declared.Outcome.TheVariants as outcome
 use Rattle.axp_access.specs.declared.Record.{Record}
-use Rattle.axp_model.specs.Records.{by, made}
+use Rattle.axp_model.specs.Records.{is_of, makes_access}
 use Rattle.axp_access.specs.Kinds.{is_plain_write, is_write_barrier}
 use Rattle.axp_base.specs.Lines.{line_of, line_at, is_line}
 
@@ -24,9 +24,9 @@ pub record Buffer : Type 0 where
 
 -- the number of the entry that a write of the line joins: one of the same line, with no WMB since it
 -- was made
-abbrev pub joins : ℕ → ℕ → List Waiting → Option ℕ
-joins l age [] = None
-joins l age (e ∷ es) = if is_line l e.line && (e.age == age) then Some e.number else joins l age es
+abbrev pub entry_joined : ℕ → ℕ → List Waiting → Option ℕ
+entry_joined l age [] = None
+entry_joined l age (e ∷ es) = if is_line l e.line && (e.age == age) then Some e.number else entry_joined l age es
 
 -- the entry that a plain write of the line goes into
 abbrev pub entry_or : Option ℕ → ℕ → ℕ
@@ -34,36 +34,36 @@ entry_or (Some m) n = m
 entry_or None n = n
 
 abbrev pub entry_for : ℕ → Buffer → ℕ
-entry_for l b = entry_or (joins l b.age b.waiting) (b.made + 1)
+entry_for l b = entry_or (entry_joined l b.age b.waiting) (b.made + 1)
 
 -- the entries after a write that joins one, or makes the next
-abbrev pub joined : Option ℕ → Waiting → List Waiting → List Waiting
-joined (Some m) e es = es
-joined None e es = es ++ e ∷ []
+abbrev pub entries_after_write : Option ℕ → Waiting → List Waiting → List Waiting
+entries_after_write (Some m) e es = es
+entries_after_write None e es = es ++ e ∷ []
 
 abbrev pub one_if_none : Option ℕ → ℕ
 one_if_none None = 1
 one_if_none (Some m) = 0
 
-abbrev pub without : ℕ → List Waiting → List Waiting
-without n [] = []
-without n (e ∷ es) = if e.number == n then without n es else e ∷ without n es
+abbrev pub without_entry : ℕ → List Waiting → List Waiting
+without_entry n [] = []
+without_entry n (e ∷ es) = if e.number == n then without_entry n es else e ∷ without_entry n es
 
 -- what an outcome of the processor leaves waiting
 abbrev pub waiting_after : Outcome → Buffer → List Waiting
 waiting_after (outcome.Access a) b =
     if is_plain_write a.kind
-    then joined (joins (line_of a.address) b.age b.waiting) (record { number = b.made + 1; line = line_at a.address; age = b.age }) b.waiting
+    then entries_after_write (entry_joined (line_of a.address) b.age b.waiting) (record { number = b.made + 1; line = line_at a.address; age = b.age }) b.waiting
     else b.waiting
-waiting_after (outcome.Drained entry line turn) b = without entry b.waiting
+waiting_after (outcome.Drained entry line turn) b = without_entry entry b.waiting
 waiting_after _ b = b.waiting
 
 abbrev pub made_after : Outcome → Buffer → ℕ
-made_after (outcome.Access a) b = if is_plain_write a.kind then b.made + one_if_none (joins (line_of a.address) b.age b.waiting) else b.made
+made_after (outcome.Access a) b = if is_plain_write a.kind then b.made + one_if_none (entry_joined (line_of a.address) b.age b.waiting) else b.made
 made_after _ b = b.made
 
 abbrev pub age_after : Outcome → Buffer → ℕ
-age_after o b = if made (λ a. is_write_barrier a.kind) o then b.age + 1 else b.age
+age_after o b = if makes_access (λ a. is_write_barrier a.kind) o then b.age + 1 else b.age
 
 abbrev pub buffer_after : Outcome → Buffer → Buffer
 buffer_after o b = record { made = made_after o b; age = age_after o b; waiting = waiting_after o b }
@@ -71,7 +71,7 @@ buffer_after o b = record { made = made_after o b; age = age_after o b; waiting 
 -- processor p's entries
 abbrev pub buffer : ℕ → List Record → Buffer
 buffer p [] = record { made = 0; age = 0; waiting = [] }
-buffer p (r ∷ h) = if by p r then buffer_after r.outcome (buffer p h) else buffer p h
+buffer p (r ∷ h) = if is_of p r then buffer_after r.outcome (buffer p h) else buffer p h
 
 -- the oldest group: the entries of the least age, by number
 abbrev pub of_age : ℕ → List Waiting → List Waiting

@@ -17,7 +17,7 @@ use Rattle.axp_access.specs.declared.Place.{Place}
 use Rattle.axp_access.specs.declared.Place.TheVariants.{At, Entry, Absent}
 use Rattle.axp_access.specs.declared.Record.{Record}
 use Rattle.axp_access.specs.declared.Wanted.{Wanted}
-use Rattle.axp_model.specs.Records.{by, made}
+use Rattle.axp_model.specs.Records.{is_of, makes_access}
 use Rattle.axp_access.specs.Kinds.{is_locked, is_conditional}
 use Rattle.axp_base.specs.Lines.{line_at}
 use Rattle.axp_model.specs.Legal.{legal}
@@ -167,15 +167,15 @@ alone first = both first []
 -- how many Steps processor p made
 abbrev pub steps : ℕ → List Record → ℕ
 steps p [] = 0
-steps p (r ∷ h) = if by p r && is_step r.event.act then steps p h + 1 else steps p h
+steps p (r ∷ h) = if is_of p r && is_step r.event.act then steps p h + 1 else steps p h
 
 -- its lock flag, which an LDx_L sets and an STx_C clears
 abbrev pub flag_after : Outcome → Bool → Bool
-flag_after o flag = made (λ a. is_locked a.kind) o || (flag && not (made (λ a. is_conditional a.kind) o))
+flag_after o flag = makes_access (λ a. is_locked a.kind) o || (flag && not (makes_access (λ a. is_conditional a.kind) o))
 
 abbrev pub lock_flag : ℕ → List Record → Bool
 lock_flag p [] = false
-lock_flag p (r ∷ h) = if by p r then flag_after r.outcome (lock_flag p h) else lock_flag p h
+lock_flag p (r ∷ h) = if is_of p r then flag_after r.outcome (lock_flag p h) else lock_flag p h
 
 -- what a processor is about to do: the next access of its list
 abbrev pub intent : Programs → ℕ → List Record → Intent

@@ -14,8 +14,8 @@ use Rattle.axp_access.specs.declared.Intent.{Intent}
 use Rattle.axp_model.specs.Processors.{Processors}
 use Rattle.axp_access.specs.declared.Record.{Record}
 use Rattle.axp_access.specs.declared.Wanted.{Wanted}
-use Rattle.axp_model.specs.Records.{by}
-use Rattle.axp_model.specs.Entries.{Buffer, buffer, joins, oldest, has_closed, has_line}
+use Rattle.axp_model.specs.Records.{is_of}
+use Rattle.axp_model.specs.Entries.{Buffer, buffer, entry_joined, oldest, has_closed, has_line}
 use Rattle.axp_model.specs.Late.{late, held, code_held, copies, code_copies}
 use Rattle.axp_access.specs.Acts.{is_step, is_fill, is_poll_act, is_tick, is_drop_of}
 use Rattle.axp_base.specs.Lists.{is_empty}
@@ -23,7 +23,7 @@ use Rattle.axp_base.specs.Lists.{is_empty}
 -- since processor p's last Step, or the start, it made an act that passes a test
 abbrev pub since_step : (Act → Bool) → ℕ → List Record → Bool
 since_step test p [] = false
-since_step test p (r ∷ h) = if by p r then (if is_step r.event.act then false else test r.event.act || since_step test p h) else since_step test p h
+since_step test p (r ∷ h) = if is_of p r then (if is_step r.event.act then false else test r.event.act || since_step test p h) else since_step test p h
 
 -- a data bank, the code bank, can take a copy of a line that it doesn't hold
 abbrev pub has_room : ℕ → ℕ → List Record → Bool
@@ -34,36 +34,36 @@ code_has_room p h = nat_lt (length (code_copies p h)) BANK_COPIES
 
 -- a write of the line joins an entry, or there is room for another
 abbrev pub takes_write : ℕ → Buffer → Bool
-takes_write l b = is_some (joins l b.age b.waiting) || nat_lt (length b.waiting) WBUF_ENTRIES
+takes_write l b = is_some (entry_joined l b.age b.waiting) || nat_lt (length b.waiting) WBUF_ENTRIES
 
 -- the condition of a Step that makes an access of this kind to this line
-abbrev pub ready : Kind → ℕ → ℕ → List Record → Bool
-ready kind.Fetch l p h = code_held p l h
-ready kind.Read l p h = held p l h
-ready kind.Write l p h = takes_write l (buffer p h)
-ready kind.Locked l p h = not (has_line l (buffer p h).waiting) && (held p l h || has_room l p h)
-ready kind.Conditional l p h = not (has_line l (buffer p h).waiting) && not (has_closed (buffer p h).age (buffer p h).waiting)
-ready kind.Barrier l p h = is_empty (buffer p h).waiting
-ready kind.WriteBarrier l p h = true
-ready kind.CodeBarrier l p h = is_empty (buffer p h).waiting
-ready kind.Signal l p h = not (has_closed (buffer p h).age (buffer p h).waiting)
-ready kind.Console l p h = true
-ready kind.Poll l p h = false
+abbrev pub is_ready : Kind → ℕ → ℕ → List Record → Bool
+is_ready kind.Fetch l p h = code_held p l h
+is_ready kind.Read l p h = held p l h
+is_ready kind.Write l p h = takes_write l (buffer p h)
+is_ready kind.Locked l p h = not (has_line l (buffer p h).waiting) && (held p l h || has_room l p h)
+is_ready kind.Conditional l p h = not (has_line l (buffer p h).waiting) && not (has_closed (buffer p h).age (buffer p h).waiting)
+is_ready kind.Barrier l p h = is_empty (buffer p h).waiting
+is_ready kind.WriteBarrier l p h = true
+is_ready kind.CodeBarrier l p h = is_empty (buffer p h).waiting
+is_ready kind.Signal l p h = not (has_closed (buffer p h).age (buffer p h).waiting)
+is_ready kind.Console l p h = true
+is_ready kind.Poll l p h = false
 
 -- a Step makes the wanted access, or none at a boundary that wants none
-abbrev pub may_step : Bool → Option Wanted → ℕ → List Record → Bool
-may_step boundary None p h = boundary
-may_step boundary (Some w) p h = ready w.kind (line_of w.address) p h
+abbrev pub is_step_enabled : Bool → Option Wanted → ℕ → List Record → Bool
+is_step_enabled boundary None p h = boundary
+is_step_enabled boundary (Some w) p h = is_ready w.kind (line_of w.address) p h
 
 -- a Fill brings in the line of a wanted fetch or plain read
-abbrev pub may_fill_for : Kind → ℕ → ℕ → List Record → Bool
-may_fill_for kind.Fetch l p h = not (code_held p l h) && code_has_room p h
-may_fill_for kind.Read l p h = not (held p l h) && has_room l p h
-may_fill_for _ l p h = false
+abbrev pub is_fill_enabled_for : Kind → ℕ → ℕ → List Record → Bool
+is_fill_enabled_for kind.Fetch l p h = not (code_held p l h) && code_has_room p h
+is_fill_enabled_for kind.Read l p h = not (held p l h) && has_room l p h
+is_fill_enabled_for _ l p h = false
 
-abbrev pub may_fill : Option Wanted → ℕ → List Record → Bool
-may_fill None p h = false
-may_fill (Some w) p h = may_fill_for w.kind (line_of w.address) p h
+abbrev pub is_fill_enabled : Option Wanted → ℕ → List Record → Bool
+is_fill_enabled None p h = false
+is_fill_enabled (Some w) p h = is_fill_enabled_for w.kind (line_of w.address) p h
 
 -- the bank holds the line
 abbrev pub holds_in : Bank → ℕ → ℕ → List Record → Bool
@@ -71,27 +71,27 @@ holds_in Code l p h = code_held p l h
 holds_in b l p h = in_bank b l && held p l h
 
 -- the condition of each act beside that the processor is not finished and has not just filled
-abbrev pub may : Act → Intent → ℕ → List Record → Bool
-may act.Step i p h = may_step i.boundary i.wanted p h
-may act.Fill i p h = may_fill i.wanted p h
-may (act.Drain k) i p h = nat_lt k (length (oldest (buffer p h).waiting))
-may (act.Take b) i p h = not (is_empty (late p b h))
-may (act.Drop b line) i p h = holds_in b (line_number line) p h && not (since_step (is_drop_of b) p h)
-may act.Poll i p h = i.boundary && not (since_step is_poll_act p h)
-may act.Tick i p h = i.boundary && (i.low && not (since_step is_tick p h))
+abbrev pub is_enabled : Act → Intent → ℕ → List Record → Bool
+is_enabled act.Step i p h = is_step_enabled i.boundary i.wanted p h
+is_enabled act.Fill i p h = is_fill_enabled i.wanted p h
+is_enabled (act.Drain k) i p h = nat_lt k (length (oldest (buffer p h).waiting))
+is_enabled (act.Take b) i p h = not (is_empty (late p b h))
+is_enabled (act.Drop b line) i p h = holds_in b (line_number line) p h && not (since_step (is_drop_of b) p h)
+is_enabled act.Poll i p h = i.boundary && not (since_step is_poll_act p h)
+is_enabled act.Tick i p h = i.boundary && (i.low && not (since_step is_tick p h))
 
 -- a finished processor may drain alone; after a Fill only the Step is left
-abbrev pub may_now : Act → Bool → Bool → Bool
-may_now act.Step finished filled = not finished
-may_now (act.Drain k) finished filled = finished || not filled
-may_now _ finished filled = not finished && not filled
+abbrev pub is_timely : Act → Bool → Bool → Bool
+is_timely act.Step finished filled = not finished
+is_timely (act.Drain k) finished filled = finished || not filled
+is_timely _ finished filled = not finished && not filled
 
-abbrev pub may_act : Act → Intent → ℕ → List Record → Bool
-may_act a i p h = may a i p h && may_now a i.finished (since_step is_fill p h)
+abbrev pub is_legal_act : Act → Intent → ℕ → List Record → Bool
+is_legal_act a i p h = is_enabled a i p h && is_timely a i.finished (since_step is_fill p h)
 
 -- an event of one of the processors is legal after a history
 unfoldable pub legal : Processors → List Record → Event → Bool
-legal ps h e = nat_lt (cpu_number e.cpu) ps.count && may_act e.act (ps.intent (cpu_number e.cpu) h) (cpu_number e.cpu) h
+legal ps h e = nat_lt (cpu_number e.cpu) ps.count && is_legal_act e.act (ps.intent (cpu_number e.cpu) h) (cpu_number e.cpu) h
 
 -- processor p is finished, and no entry of its write buffer waits
 abbrev pub is_done : Processors → List Record → ℕ → Bool

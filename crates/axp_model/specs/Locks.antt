@@ -4,7 +4,7 @@ use Rattle.axp_base.specs.Blocks.{block_of, is_allowed, lock_by_other}
 use Rattle.axp_access.specs.declared.Outcome.{Outcome}
 use Rattle.axp_access.specs.declared.Outcome.TheVariants as outcome
 use Rattle.axp_access.specs.declared.Record.{Record}
-use Rattle.axp_model.specs.Records.{by, turned, signals, enters}
+use Rattle.axp_model.specs.Records.{is_of, line_of_turn, signals, enters}
 use Rattle.axp_access.specs.Kinds.{is_locked, is_conditional}
 
 -- an LDx_L locks its block, an STx_C of the processor unlocks
@@ -15,13 +15,13 @@ lock_by_own _ block = block
 -- the block of memory that processor p has locked
 abbrev pub lock : ℕ → List Record → Option ℕ
 lock p [] = None
-lock p (r ∷ h) = if by p r then lock_by_own r.outcome (lock p h) else lock_by_other (turned r.outcome) (lock p h)
+lock p (r ∷ h) = if is_of p r then lock_by_own r.outcome (lock p h) else lock_by_other (line_of_turn r.outcome) (lock p h)
 
 -- an STx_C to an address succeeds: the processor's own lock flag is set, and its block is locked still
-abbrev pub undisturbed : Bool → ℕ → ℕ → List Record → Bool
-undisturbed armed p address h = armed && is_allowed address (lock p h)
+abbrev pub is_undisturbed : Bool → ℕ → ℕ → List Record → Bool
+is_undisturbed armed p address h = armed && is_allowed address (lock p h)
 
 -- a signal to processor p waits: one came since its last Poll that entered
-abbrev pub signalled : ℕ → List Record → Bool
-signalled p [] = false
-signalled p (r ∷ h) = if signals p r.outcome then true else if by p r && enters r.outcome then false else signalled p h
+abbrev pub is_signalled : ℕ → List Record → Bool
+is_signalled p [] = false
+is_signalled p (r ∷ h) = if signals p r.outcome then true else if is_of p r && enters r.outcome then false else is_signalled p h

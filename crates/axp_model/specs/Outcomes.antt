@@ -20,50 +20,50 @@ use Rattle.axp_access.specs.declared.Wanted.{Wanted}
 use Rattle.axp_model.specs.Turns.{turns, stamp, code_stamp, read_place}
 use Rattle.axp_model.specs.Entries.{Waiting, buffer, oldest, entry_for}
 use Rattle.axp_model.specs.Accesses.{accesses}
-use Rattle.axp_access.specs.Numbering.{next_item}
+use Rattle.axp_access.specs.Numbering.{next_access}
 use Rattle.axp_model.specs.Sources.{source_value}
-use Rattle.axp_model.specs.Locks.{undisturbed, signalled}
+use Rattle.axp_model.specs.Locks.{is_undisturbed, is_signalled}
 use Rattle.axp_model.specs.Late.{late, held}
 use Rattle.axp_access.specs.declared.Intent.{Intent}
 use Rattle.axp_model.specs.Legal.{legal}
 use Rattle.axp_model.specs.Processors.{Processors}
 
 -- the wanted access, with this value, success and place
-abbrev pub made_with : Cpu → Wanted → ℕ → Bool → Place → Outcome
-made_with cpu w value success place = outcome.Access (record { cpu = cpu; kind = w.kind; address = w.address; size = w.size; value = value; yes = success; place = place })
+abbrev pub access_outcome : Cpu → Wanted → ℕ → Bool → Place → Outcome
+access_outcome cpu w value success place = outcome.Access (record { cpu = cpu; kind = w.kind; address = w.address; size = w.size; value = value; yes = success; place = place })
 
 -- a read or fetch at a place gives the bytes of its sources
-abbrev pub read_at : (ℕ → ℕ) → Cpu → Wanted → ℕ → List Record → Outcome
-read_at image cpu w turn h =
-    made_with cpu w
-    (source_value image h (next_item (accesses h) (record { cpu = cpu; kind = w.kind; address = w.address; size = w.size; value = 0; yes = false; place = At turn })))
+abbrev pub read_outcome : (ℕ → ℕ) → Cpu → Wanted → ℕ → List Record → Outcome
+read_outcome image cpu w turn h =
+    access_outcome cpu w
+    (source_value image h (next_access (accesses h) (record { cpu = cpu; kind = w.kind; address = w.address; size = w.size; value = 0; yes = false; place = At turn })))
     false (At turn)
 
 -- an access that stores or moves nothing is made at a place with the wanted value
-abbrev pub done_at : Cpu → Wanted → Place → Outcome
-done_at cpu w place = made_with cpu w w.value false place
+abbrev pub plain_outcome : Cpu → Wanted → Place → Outcome
+plain_outcome cpu w place = access_outcome cpu w w.value false place
 
 -- an STx_C that succeeds is the next turn; one that fails stands at the turn count
-abbrev pub tried : Cpu → Wanted → Bool → ℕ → Outcome
-tried cpu w success count = made_with cpu w w.value success (At (if success then count + 1 else count))
+abbrev pub conditional_outcome : Cpu → Wanted → Bool → ℕ → Outcome
+conditional_outcome cpu w success count = access_outcome cpu w w.value success (At (if success then count + 1 else count))
 
 -- the wanted access, by its kind, at its place
-abbrev pub step_by : Kind → (ℕ → ℕ) → Bool → Cpu → Wanted → List Record → Outcome
-step_by kind.Fetch image armed cpu w h = read_at image cpu w (code_stamp (cpu_number cpu) (line_of w.address) h) h
-step_by kind.Read image armed cpu w h = read_at image cpu w (read_place (cpu_number cpu) (line_of w.address) h) h
-step_by kind.Write image armed cpu w h = done_at cpu w (Entry (entry_for (line_of w.address) (buffer (cpu_number cpu) h)))
-step_by kind.Locked image armed cpu w h = read_at image cpu w (turns h) h
-step_by kind.Conditional image armed cpu w h = tried cpu w (undisturbed armed (cpu_number cpu) w.address h) (turns h)
-step_by kind.Barrier image armed cpu w h = done_at cpu w (At (turns h))
-step_by kind.WriteBarrier image armed cpu w h = done_at cpu w Absent
-step_by kind.CodeBarrier image armed cpu w h = done_at cpu w (At (turns h))
-step_by kind.Signal image armed cpu w h = done_at cpu w (At (turns h + 1))
-step_by kind.Console image armed cpu w h = done_at cpu w (At (turns h))
-step_by kind.Poll image armed cpu w h = done_at cpu w (At (turns h))
+abbrev pub step_outcome_by : Kind → (ℕ → ℕ) → Bool → Cpu → Wanted → List Record → Outcome
+step_outcome_by kind.Fetch image armed cpu w h = read_outcome image cpu w (code_stamp (cpu_number cpu) (line_of w.address) h) h
+step_outcome_by kind.Read image armed cpu w h = read_outcome image cpu w (read_place (cpu_number cpu) (line_of w.address) h) h
+step_outcome_by kind.Write image armed cpu w h = plain_outcome cpu w (Entry (entry_for (line_of w.address) (buffer (cpu_number cpu) h)))
+step_outcome_by kind.Locked image armed cpu w h = read_outcome image cpu w (turns h) h
+step_outcome_by kind.Conditional image armed cpu w h = conditional_outcome cpu w (is_undisturbed armed (cpu_number cpu) w.address h) (turns h)
+step_outcome_by kind.Barrier image armed cpu w h = plain_outcome cpu w (At (turns h))
+step_outcome_by kind.WriteBarrier image armed cpu w h = plain_outcome cpu w Absent
+step_outcome_by kind.CodeBarrier image armed cpu w h = plain_outcome cpu w (At (turns h))
+step_outcome_by kind.Signal image armed cpu w h = plain_outcome cpu w (At (turns h + 1))
+step_outcome_by kind.Console image armed cpu w h = plain_outcome cpu w (At (turns h))
+step_outcome_by kind.Poll image armed cpu w h = plain_outcome cpu w (At (turns h))
 
-abbrev pub stepped : (ℕ → ℕ) → Bool → Cpu → Option Wanted → List Record → Outcome
-stepped image armed cpu None h = outcome.NoAccess
-stepped image armed cpu (Some w) h = step_by w.kind image armed cpu w h
+abbrev pub step_outcome : (ℕ → ℕ) → Bool → Cpu → Option Wanted → List Record → Outcome
+step_outcome image armed cpu None h = outcome.NoAccess
+step_outcome image armed cpu (Some w) h = step_outcome_by w.kind image armed cpu w h
 
 -- the bank that an access of this kind to this line goes to
 abbrev pub bank_for : Kind → ℕ → Bank
@@ -71,27 +71,27 @@ bank_for kind.Fetch l = Code
 bank_for _ l = data_bank l
 
 -- a Fill copies the line of the wanted access as memory now has it
-abbrev pub filled : Option Wanted → List Record → Outcome
-filled None h = outcome.NoAccess
-filled (Some w) h = outcome.Filled (bank_for w.kind (line_of w.address)) (line_at w.address) (turns h)
+abbrev pub fill_outcome : Option Wanted → List Record → Outcome
+fill_outcome None h = outcome.NoAccess
+fill_outcome (Some w) h = outcome.Filled (bank_for w.kind (line_of w.address)) (line_at w.address) (turns h)
 
 -- a Drain makes the entry the next turn
-abbrev pub drained_as : Option Waiting → List Record → Outcome
-drained_as None h = outcome.NoAccess
-drained_as (Some e) h = outcome.Drained e.number e.line (turns h + 1)
+abbrev pub drain_outcome : Option Waiting → List Record → Outcome
+drain_outcome None h = outcome.NoAccess
+drain_outcome (Some e) h = outcome.Drained e.number e.line (turns h + 1)
 
 -- a Take delivers the first late pair: the copy goes where its stamp is less than the turn
-abbrev pub taken : ℕ → List (Line × ℕ) → List Record → Outcome
-taken p [] h = outcome.NoAccess
-taken p ((line, turn) ∷ pairs) h = outcome.Taken line turn (held p (line_number line) h && nat_lt (stamp p (line_number line) h) turn)
+abbrev pub take_outcome : ℕ → List (Line × ℕ) → List Record → Outcome
+take_outcome p [] h = outcome.NoAccess
+take_outcome p ((line, turn) ∷ pairs) h = outcome.Taken line turn (held p (line_number line) h && nat_lt (stamp p (line_number line) h) turn)
 
 abbrev pub outcome_by : Act → (ℕ → ℕ) → Intent → Cpu → List Record → Outcome
-outcome_by act.Step image i cpu h = stepped image i.armed cpu i.wanted h
-outcome_by act.Fill image i cpu h = filled i.wanted h
-outcome_by (act.Drain k) image i cpu h = drained_as (slice_get (oldest (buffer (cpu_number cpu) h).waiting) k) h
-outcome_by (act.Take b) image i cpu h = taken (cpu_number cpu) (late (cpu_number cpu) b h) h
+outcome_by act.Step image i cpu h = step_outcome image i.armed cpu i.wanted h
+outcome_by act.Fill image i cpu h = fill_outcome i.wanted h
+outcome_by (act.Drain k) image i cpu h = drain_outcome (slice_get (oldest (buffer (cpu_number cpu) h).waiting) k) h
+outcome_by (act.Take b) image i cpu h = take_outcome (cpu_number cpu) (late (cpu_number cpu) b h) h
 outcome_by (act.Drop b line) image i cpu h = outcome.Done
-outcome_by act.Poll image i cpu h = outcome.Polled (signalled (cpu_number cpu) h) (signalled (cpu_number cpu) h && i.low) (turns h)
+outcome_by act.Poll image i cpu h = outcome.Polled (is_signalled (cpu_number cpu) h) (is_signalled (cpu_number cpu) h && i.low) (turns h)
 outcome_by act.Tick image i cpu h = outcome.Done
 
 -- the outcome of an event after a history, where the image has these bytes

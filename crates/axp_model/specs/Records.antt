@@ -17,13 +17,13 @@ use Rattle.axp_access.specs.declared.Record.{Record}
 use Rattle.axp_access.specs.Kinds.{is_locked, is_barrier, is_code_barrier, is_signal, is_success}
 
 -- the record is of this processor
-abbrev pub by : ℕ → Record → Bool
-by p r = cpu_number r.event.cpu == p
+abbrev pub is_of : ℕ → Record → Bool
+is_of p r = cpu_number r.event.cpu == p
 
 -- the record is an access that passes a test
-abbrev pub made : (Access → Bool) → Outcome → Bool
-made test (outcome.Access a) = test a
-made test _ = false
+abbrev pub makes_access : (Access → Bool) → Outcome → Bool
+makes_access test (outcome.Access a) = test a
+makes_access test _ = false
 
 -- a turn is a drain, a successful STx_C or a signal
 abbrev pub is_turn : Outcome → Bool
@@ -38,10 +38,10 @@ turns_on l (outcome.Drained entry line turn) = is_line l line
 turns_on l _ = false
 
 -- the line that a turn is on
-abbrev pub turned : Outcome → Option Line
-turned (outcome.Access a) = if is_success a then Some (line_at a.address) else None
-turned (outcome.Drained entry line turn) = Some line
-turned _ = None
+abbrev pub line_of_turn : Outcome → Option Line
+line_of_turn (outcome.Access a) = if is_success a then Some (line_at a.address) else None
+line_of_turn (outcome.Drained entry line turn) = Some line
+line_of_turn _ = None
 
 -- a data Fill of this line, a code Fill of it
 abbrev pub fills : ℕ → Outcome → Bool
@@ -55,14 +55,14 @@ fills_code l _ = false
 
 -- an LDx_L from this line
 abbrev pub locks : ℕ → Outcome → Bool
-locks l o = made (λ a. is_locked a.kind && (line_of a.address == l)) o
+locks l o = makes_access (λ a. is_locked a.kind && (line_of a.address == l)) o
 
 -- an MB or an IMB, an IMB alone
 abbrev pub fences : Outcome → Bool
-fences o = made (λ a. is_barrier a.kind || is_code_barrier a.kind) o
+fences o = makes_access (λ a. is_barrier a.kind || is_code_barrier a.kind) o
 
 abbrev pub code_fences : Outcome → Bool
-code_fences o = made (λ a. is_code_barrier a.kind) o
+code_fences o = makes_access (λ a. is_code_barrier a.kind) o
 
 -- a drain of this entry
 abbrev pub drains : ℕ → Outcome → Bool
@@ -86,7 +86,7 @@ enters _ = false
 
 -- a signal to this processor
 abbrev pub signals : ℕ → Outcome → Bool
-signals p o = made (λ a. is_signal a.kind && (a.value == p)) o
+signals p o = makes_access (λ a. is_signal a.kind && (a.value == p)) o
 
 -- the access of a record: that of a Step, or the Poll
 abbrev pub access_in : Cpu → Outcome → Option Access

@@ -4,11 +4,11 @@ use Rattle.std.specs.List.{AllByRecursion}
 use Rattle.axp_base.specs.Parts.{byte}
 use Rattle.axp_access.specs.declared.Record.{Record}
 use Rattle.axp_model.specs.Accesses.{accesses}
-use Rattle.axp_access.specs.Numbering.{Item}
+use Rattle.axp_access.specs.Numbering.{NumberedAccess}
 use Rattle.axp_model.specs.Sources.{takes_bytes, source_byte, source_value}
 
 -- a read or fetch has the bytes of its sources
-abbrev pub HasSources : (ℕ → ℕ) → List Record → Item → Type 0
+abbrev pub HasSources : (ℕ → ℕ) → List Record → NumberedAccess → Type 0
 HasSources image h v = takes_bytes v ≡ true → v.access.value ≡ source_value image h v
 
 -- so has each of a history
@@ -16,7 +16,7 @@ abbrev pub KeepsStorage : (ℕ → ℕ) → List Record → Type 0
 KeepsStorage image h = AllByRecursion (HasSources image h) (accesses h)
 
 -- byte by byte: byte k of the value is that of the source of the k-th address
-abbrev pub HasEachSource : (ℕ → ℕ) → List Record → Item → Type 0
+abbrev pub HasEachSource : (ℕ → ℕ) → List Record → NumberedAccess → Type 0
 HasEachSource image h v = takes_bytes v ≡ true → (k : ℕ) → k < v.access.size → byte v.access.value k ≡ source_byte image h v (v.access.address + k)
 
 abbrev pub KeepsEachByte : (ℕ → ℕ) → List Record → Type 0

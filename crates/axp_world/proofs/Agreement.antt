@@ -3,7 +3,7 @@
 use Rattle.std.specs.Prelude.{◌≡◌, ℕ, ◌-◌, ◌%◌, ◌==◌, ◌&&◌, Bool, true, false, List, [], ◌∷◌, map, length, slice_get, slice_index, Option, Some, None, is_some}
 use Rattle.std.specs.List.{find, list_any}
 use Rattle.axp_access.specs.declared.Intent.{Intent}
-use Rattle.axp_cpu.specs.Actors.{about}
+use Rattle.axp_cpu.specs.Actors.{actor_intent}
 use Rattle.axp_image.specs.Contents.{Contents}
 use Rattle.axp_world.specs.Worlds.{world}
 use Rattle.axp_base.specs.Lines.{line_number}
@@ -18,7 +18,7 @@ use Rattle.axp_access.specs.declared.Record.{Record}
 use Rattle.axp_bank.specs.Copies.{line_of, is_held, get_of}
 use Rattle.axp_line.specs.Lines.{bytes_of_line}
 use Rattle.axp_line.specs.declared.contents.LineData.{LineData}
-use Rattle.axp_lsu.specs.Keeping.{Kept, data_copies}
+use Rattle.axp_lsu.specs.Keeping.{LocalMemory, data_copies}
 use Rattle.axp_wbuf.specs.Drains.{oldest_group}
 use Rattle.axp_wbuf.specs.Pending as pending
 use Rattle.axp_wbuf.specs.Pending.{Pending, is_before, is_of_line, overlaid, store_number}
@@ -29,17 +29,17 @@ use Rattle.axp_model.specs.Late.{late, held, code_held, copies, code_copies}
 use Rattle.axp_model.specs.Legal.{since_step, takes_write}
 use Rattle.axp_base.specs.Lists.{is_empty}
 use Rattle.axp_access.specs.Acts.{is_drop_of, is_fill, is_poll_act, is_tick}
-use Rattle.axp_model.specs.Locks.{lock, signalled}
+use Rattle.axp_model.specs.Locks.{lock, is_signalled}
 use Rattle.axp_model.specs.Memory.{memory_byte, newest_waiting}
 use Rattle.axp_model.specs.Accesses.{accesses}
-use Rattle.axp_access.specs.Numbering.{Item, cpu_of}
+use Rattle.axp_access.specs.Numbering.{NumberedAccess, cpu_of}
 use Rattle.axp_access.specs.Kinds.{has_byte, is_memory_write}
 use Rattle.axp_base.specs.Lines as lines
 use Rattle.axp_model.specs.Turns.{turns, stamp, barrier, code_stamp}
 
 -- what a processor of the world is about to do after a history
 abbrev pub world_intent : Contents → ℕ → ℕ → ℕ → List Record → Intent
-world_intent image cpus budget p h = about ((world image cpus budget h).actors p)
+world_intent image cpus budget p h = actor_intent ((world image cpus budget h).actors p)
 
 -- an entry of the buffer is the one that waits under this number
 pub record IsEntryOf (e : Pending) (w : Waiting) : Type 0 where
@@ -59,15 +59,15 @@ is_entry n (At turn) = false
 is_entry n (Entry m) = m == n
 is_entry n Absent = false
 
-abbrev pub went_into : ℕ → ℕ → ℕ → Item → Bool
+abbrev pub went_into : ℕ → ℕ → ℕ → NumberedAccess → Bool
 went_into p n at u = (cpu_of u == p) && (is_memory_write u.access && (has_byte at u.access && is_entry n u.access.place))
 
 -- the newest of these
-abbrev pub newest_in : ℕ → ℕ → ℕ → List Record → Option Item
+abbrev pub newest_in : ℕ → ℕ → ℕ → List Record → Option NumberedAccess
 newest_in p n at h = find (went_into p n at) (accesses h)
 
 -- the byte at an address of a write, or else this one
-abbrev pub byte_or : Option Item → ℕ → ℕ → ℕ
+abbrev pub byte_or : Option NumberedAccess → ℕ → ℕ → ℕ
 byte_or None at other = other
 byte_or (Some u) at other = byte u.access.value (at - u.access.address)
 
@@ -94,7 +94,7 @@ HasMemory image h l None turn = Unit {0}
 HasMemory image h l (Some (stamp, d)) turn = (stamp ≡ turn) × ((at : ℕ) → lines.line_of at ≡ l → slice_index (bytes_of_line d) (at % LINE_BYTES) ≡ memory_byte image h turn at)
 
 -- what a processor's banks are to the lines that it holds
-pub record BanksAgree (image : ℕ → ℕ) (p : ℕ) (h : List Record) (k : Kept) : Type 0 where
+pub record BanksAgree (image : ℕ → ℕ) (p : ℕ) (h : List Record) (k : LocalMemory) : Type 0 where
   pub lines : (l : ℕ) → is_held l (data_copies l k) ≡ held p l h
   pub code_lines_held : (l : ℕ) → is_held l k.code ≡ code_held p l h
   pub line_memory : (l : ℕ) → HasMemory image h l (get_of l (data_copies l k)) (stamp p l h)
@@ -105,7 +105,7 @@ pub record BanksAgree (image : ℕ → ℕ) (p : ℕ) (h : List Record) (k : Kep
   pub barrier : k.barrier ≡ barrier p h
 
 -- what it did since its last Step
-pub record SinceAgrees (p : ℕ) (h : List Record) (k : Kept) : Type 0 where
+pub record SinceAgrees (p : ℕ) (h : List Record) (k : LocalMemory) : Type 0 where
   pub filled : k.since.filled ≡ since_step is_fill p h
   pub even : k.since.dropped_even ≡ since_step (is_drop_of Even) p h
   pub odd : k.since.dropped_odd ≡ since_step (is_drop_of Odd) p h
@@ -118,6 +118,6 @@ pub record BusAgrees (image : ℕ → ℕ) (h : List Record) (cs : List BusCall)
   pub count : calls.turns cs ≡ turns h
   pub pairs : (p : ℕ) (b : Bank) → calls.late p b cs ≡ late p b h
   pub block : (p : ℕ) → calls.register p cs ≡ lock p h
-  pub requested : (p : ℕ) → calls.pending p cs ≡ signalled p h
+  pub requested : (p : ℕ) → calls.pending p cs ≡ is_signalled p h
   -- whatever bytes memory had at the start
   pub bytes : (first : ℕ → ℕ) (at : ℕ) → calls.memory first cs at ≡ memory_byte first h (turns h) at

@@ -5,13 +5,13 @@ use Rattle.std.proofs.lemmas.Bool.{and_parts, leb-false, not-true, or_parts}
 use Rattle.axp_line.specs.declared.messages.Request.TheVariants as request
 use Rattle.axp_access.specs.declared.Act.{Act}
 use Rattle.axp_access.specs.declared.Act.TheVariants as act
-use Rattle.axp_model.specs.Legal.{may_now}
+use Rattle.axp_model.specs.Legal.{is_timely}
 use Rattle.axp_lsu.specs.Asking.{act_ask, ask_of}
 use Rattle.axp_lsu.specs.Keeping.{has_dropped}
 use Rattle.axp_lsu.specs.declared.asks.Ask2.{Ask2}
 use Rattle.axp_lsu.specs.declared.asks.Ask2.TheVariants as ask
 use Rattle.axp_lsu.specs.declared.since.Since.{Since}
-use Rattle.axp_cpu.specs.Actors.{Actor, about, asked_by, is_built, request_of}
+use Rattle.axp_cpu.specs.Actors.{Actor, actor_intent, asked_by, is_built, request_of}
 use Rattle.axp_cpu.specs.Seats.{Seat, is_finished}
 
 asked_parts : (x : Option Ask2) (built : Bool) (q : Ask2) → asked_by x built ≡ Ok q → (x ≡ Some q) × (built ≡ true)
@@ -26,14 +26,14 @@ some_if false x q h = cc
 -- what is asked for is built, may be made now, and has its own condition
 pub record IsAsked (a : Actor) (e : Act) (q : Ask2) : Type 0 where
   pub built : is_built e a ≡ true
-  pub now : may_now e (is_finished a.seat) a.kept.since.filled ≡ true
-  pub asks : act_ask e (about a) a.kept ≡ Some q
+  pub now : is_timely e (is_finished a.seat) a.kept.since.filled ≡ true
+  pub asks : act_ask e (actor_intent a) a.kept ≡ Some q
 
 pub is_asked : (a : Actor) (e : Act) (q : Ask2) → request_of a e ≡ Ok q → IsAsked a e q
 unfolding request_of ask_of
 is_asked a e q h =
-    let both = asked_parts (cond (may_now e (is_finished a.seat) a.kept.since.filled) (act_ask e (about a) a.kept) None) (is_built e a) q h in
-    let parts = some_if (may_now e (is_finished a.seat) a.kept.since.filled) (act_ask e (about a) a.kept) q both.0 in
+    let both = asked_parts (cond (is_timely e (is_finished a.seat) a.kept.since.filled) (act_ask e (actor_intent a) a.kept) None) (is_built e a) q h in
+    let parts = some_if (is_timely e (is_finished a.seat) a.kept.since.filled) (act_ask e (actor_intent a) a.kept) q both.0 in
     record { built = both.1; now = parts.0; asks = parts.1 }
 
 -- the bounds that allow an act to a processor with so many steps made: but for a Drain or a Take it has a
@@ -64,8 +64,8 @@ allowed a (act.Drop b line) q h =
     let asks = some_if _ (Some ask.Private) q h.asks in
     ((now_left a.seat a.kept.since.filled h.now).0, not-true (has_dropped b a.kept.since) (and_parts _ (not (has_dropped b a.kept.since)) asks.0).1)
 allowed a act.Poll q h =
-    let asks = some_if _ (Some (ask.Bus (request.Poll (about a).low))) q h.asks in
+    let asks = some_if _ (Some (ask.Bus (request.Poll (actor_intent a).low))) q h.asks in
     ((now_left a.seat a.kept.since.filled h.now).0, not-true a.kept.since.polled (and_parts _ (not a.kept.since.polled) asks.0).1)
 allowed a act.Tick q h =
     let asks = some_if _ (Some ask.Private) q h.asks in
-    ((now_left a.seat a.kept.since.filled h.now).0, not-true a.kept.since.ticked (and_parts (about a).low (not a.kept.since.ticked) (and_parts _ ((about a).low && not a.kept.since.ticked) asks.0).1).1)
+    ((now_left a.seat a.kept.since.filled h.now).0, not-true a.kept.since.ticked (and_parts (actor_intent a).low (not a.kept.since.ticked) (and_parts _ ((actor_intent a).low && not a.kept.since.ticked) asks.0).1).1)

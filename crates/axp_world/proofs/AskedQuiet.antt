@@ -20,7 +20,7 @@ use Rattle.axp_line.specs.BusCalls.{BusCall, late, late_by_own}
 use Rattle.axp_line.specs.BusReply.{first_late, reply_by}
 use Rattle.axp_base.specs.Lines.{same_bank}
 use Rattle.axp_lsu.specs.Asking.{act_ask, fill_ask, fill_for, take_ask}
-use Rattle.axp_lsu.specs.Keeping.{Kept}
+use Rattle.axp_lsu.specs.Keeping.{LocalMemory}
 use Rattle.axp_lsu.specs.declared.asks.Ask2.{Ask2}
 use Rattle.axp_lsu.specs.declared.asks.Ask2.TheVariants as ask
 use Rattle.axp_world.specs.Worlds.{calls_for, reply_for}
@@ -34,13 +34,13 @@ IsQuiet image cs p q = turned (reply_for image cs p (Ok q)) ≡ 0
 quiet_if : (image : ℕ → ℕ) (cs : List BusCall) (p : ℕ) (b : Bool) (m q : Ask2) → IsQuiet image cs p m → cond b (Some m) None ≡ Some q → IsQuiet image cs p q
 quiet_if image cs p b m q quiet h = subst (λ x. IsQuiet image cs p x) (same_Some m q (some_if b (Some m) q h).1) quiet
 
-fill_quiet : (image : ℕ → ℕ) (cs : List BusCall) (p : ℕ) (k : Kind) (w : Wanted) (u : Kept) (q : Ask2) → fill_for k w u ≡ Some q → IsQuiet image cs p q
+fill_quiet : (image : ℕ → ℕ) (cs : List BusCall) (p : ℕ) (k : Kind) (w : Wanted) (u : LocalMemory) (q : Ask2) → fill_for k w u ≡ Some q → IsQuiet image cs p q
 unfolding reply_by
 fill_quiet image cs p kind.Fetch w u q h = quiet_if image cs p _ _ q refl h
 fill_quiet image cs p kind.Read w u q h = quiet_if image cs p _ _ q refl h
 fill_quiet image cs p _ w u q h = cc
 
-wanted_quiet : (image : ℕ → ℕ) (cs : List BusCall) (p : ℕ) (o : Option Wanted) (u : Kept) (q : Ask2) → fill_ask o u ≡ Some q → IsQuiet image cs p q
+wanted_quiet : (image : ℕ → ℕ) (cs : List BusCall) (p : ℕ) (o : Option Wanted) (u : LocalMemory) (q : Ask2) → fill_ask o u ≡ Some q → IsQuiet image cs p q
 wanted_quiet image cs p None u q h = cc
 wanted_quiet image cs p (Some w) u q h = fill_quiet image cs p w.kind w u q h
 
@@ -60,7 +60,7 @@ is_aside act.Step = false
 is_aside (act.Drain k) = false
 is_aside _ = true
 
-pub aside_quiet : (image : ℕ → ℕ) (cs : List BusCall) (p : ℕ) (e : Act) (i : Intent) (u : Kept) (q : Ask2) → is_aside e ≡ true → act_ask e i u ≡ Some q → IsQuiet image cs p q
+pub aside_quiet : (image : ℕ → ℕ) (cs : List BusCall) (p : ℕ) (e : Act) (i : Intent) (u : LocalMemory) (q : Ask2) → is_aside e ≡ true → act_ask e i u ≡ Some q → IsQuiet image cs p q
 unfolding reply_by
 aside_quiet image cs p act.Step i u q aside h = cc
 aside_quiet image cs p act.Fill i u q aside h = wanted_quiet image cs p i.wanted u q h

@@ -13,9 +13,9 @@ use Rattle.axp_bank.specs.Copies.{get_of, spared}
 use Rattle.axp_bank.specs.declared.copies.LineCopy.{LineCopy}
 use Rattle.axp_base.specs.LatePairs.{has_later}
 use Rattle.axp_line.specs.declared.contents.LineData.{LineData}
-use Rattle.axp_lsu.specs.Keeping.{Kept, held_pairs}
+use Rattle.axp_lsu.specs.Keeping.{LocalMemory, held_pairs}
 use Rattle.axp_line.specs.BusCalls.{BusCall}
-use Rattle.axp_line.specs.BusReply.{Front, front, gone}
+use Rattle.axp_line.specs.BusReply.{PortState, port_state, gone}
 use Rattle.axp_model.specs.Late.{code_held, held, late}
 use Rattle.axp_model.specs.Turns.{barrier, code_stamp, stamp, turns}
 use Rattle.axp_laws.proofs.LateReached.{bank_of_line}
@@ -37,7 +37,7 @@ no_later l s b (x ∷ pairs) off banked =
 
 -- what is late of a line is late in the line's own bank
 abbrev LateIsOwn : (ℕ → ℕ) → ℕ → List Record → List BusCall → Bank → Type 0
-LateIsOwn image p h cs b = (l s : ℕ) → in_bank b l ≡ true → late_at (front image cs p) l s ≡ has_later l s (late p b h)
+LateIsOwn image p h cs b = (l s : ℕ) → in_bank b l ≡ true → late_at (port_state image cs p) l s ≡ has_later l s (late p b h)
 
 line_again : (l : ℕ) → line_of (l * LINE_BYTES) ≡ l
 line_again l = omega arith
@@ -98,22 +98,22 @@ bank_spared image g p b r h test cs same fences was = record {
       (spared_line image g b l (stamp p l h) (held p l h) (late p (data_bank l) h) test (get_of l cs) (λ s mine. same l s mine ∙ ap (λ (c : Bank). has_later l s (late p c h)) (sym (bank_of_line b l mine))) (was.each l));
 }
 
-evens_spared : (f : Front) (u : Kept) → spared (gone f (held_pairs u)) u.even ≡ without (late_at f) u.even
+evens_spared : (f : PortState) (u : LocalMemory) → spared (gone f (held_pairs u)) u.even ≡ without (late_at f) u.even
 evens_spared f u = ap (λ (ps : List (ℕ × ℕ)). spared (gone f ps) u.even) (map-append pair_of u.even u.odd) ∙ spared_are f u.even (map pair_of u.odd)
 
-odds_spared : (f : Front) (u : Kept) → spared (gone f (held_pairs u) / 2 ^ length u.even) u.odd ≡ without (late_at f) u.odd
+odds_spared : (f : PortState) (u : LocalMemory) → spared (gone f (held_pairs u) / 2 ^ length u.even) u.odd ≡ without (late_at f) u.odd
 odds_spared f u =
     ap (λ (ps : List (ℕ × ℕ)). spared (gone f ps / 2 ^ length u.even) u.odd) (map-append pair_of u.even u.odd)
     ∙ ap (λ (n : ℕ). spared n u.odd) (bits_behind f u.even (map pair_of u.odd))
     ∙ ap (λ (ps : List (ℕ × ℕ)). spared (gone f ps) u.odd) (sym (append-nil (map pair_of u.odd)))
     ∙ spared_are f u.odd []
 
-pub fence_shows : (image : ℕ → ℕ) (g : List Record) (p : ℕ) (r : Record) (h : List Record) (cs : List BusCall) (u : Kept) (codes : List LineCopy) → BusAgrees image h cs → Fences p r h
+pub fence_shows : (image : ℕ → ℕ) (g : List Record) (p : ℕ) (r : Record) (h : List Record) (cs : List BusCall) (u : LocalMemory) (codes : List LineCopy) → BusAgrees image h cs → Fences p r h
     → CopiesShow image g (λ l. code_held p l (r ∷ h)) (λ l. code_stamp p l (r ∷ h)) codes → KeptShows image g p h u
-    → BanksShow image g p (r ∷ h) (spared (gone (front image cs p) (held_pairs u)) u.even) (spared (gone (front image cs p) (held_pairs u) / 2 ^ length u.even) u.odd) codes (front image cs p).turns
+    → BanksShow image g p (r ∷ h) (spared (gone (port_state image cs p) (held_pairs u)) u.even) (spared (gone (port_state image cs p) (held_pairs u) / 2 ^ length u.even) u.odd) codes (port_state image cs p).turns
 fence_shows image g p r h cs u codes bus fences code was = record {
-  even = rw (evens_spared (front image cs p) u) (bank_spared image g p Even r h (late_at (front image cs p)) u.even (late_even image p h cs bus) fences was.even);
-  odd = rw (odds_spared (front image cs p) u) (bank_spared image g p Odd r h (late_at (front image cs p)) u.odd (late_odd image p h cs bus) fences was.odd);
+  even = rw (evens_spared (port_state image cs p) u) (bank_spared image g p Even r h (late_at (port_state image cs p)) u.even (late_even image p h cs bus) fences was.even);
+  odd = rw (odds_spared (port_state image cs p) u) (bank_spared image g p Odd r h (late_at (port_state image cs p)) u.odd (late_odd image p h cs bus) fences was.odd);
   code = code;
   fenced = bus.count ∙ sym fences.fence;
 }

@@ -1,7 +1,7 @@
 -- The banks of a processor are the copies of the lines that it holds, by the history's words.
 use Rattle.axp_world.proofs.Agreement.{world_intent, BanksAgree, BusAgrees, HasMemory}
 use Rattle.axp_laws.proofs.RunRecords.{bank_own}
-use Rattle.axp_model.specs.Legal.{may_now}
+use Rattle.axp_model.specs.Legal.{is_timely}
 use Rattle.std.proofs.lemmas.Bool.{cases_Bool, eqb-true}
 use Rattle.std.proofs.Common.{◌≡◌, ℕ, Bool, true, false, cond, ◌&&◌, List, [], ◌∷◌, map, Option, Some, None, refl, sym, ap, ◌∙◌, subst, ⊎_elim}
 use Rattle.std.specs.Prelude.{Ok}
@@ -14,19 +14,19 @@ use Rattle.axp_bank.proofs.BankLemmas.{whole_empty}
 use Rattle.axp_base.specs.Cpus.{cpu_number}
 use Rattle.axp_base.specs.Lines.{data_bank, in_bank}
 use Rattle.axp_base.specs.declared.lines.Bank.TheVariants.{Even, Odd}
-use Rattle.axp_cpu.specs.Actors.{Actor, about, advanced, asked_by, is_built, outcome_of, request_of}
+use Rattle.axp_cpu.specs.Actors.{Actor, actor_intent, advanced, asked_by, is_built, outcome_of, request_of}
 use Rattle.axp_image.specs.Contents.{Contents}
 use Rattle.axp_line.specs.declared.contents.LineData.{LineData}
 use Rattle.axp_line.specs.declared.messages.Reply.{Reply}
 use Rattle.axp_lsu.specs.Asking.{act_ask, ask_of}
 use Rattle.axp_lsu.specs.Going as going
-use Rattle.axp_lsu.specs.Going.{kept_after, outcome_by}
-use Rattle.axp_lsu.specs.Keeping.{Kept, data_copies}
+use Rattle.axp_lsu.specs.Going.{after_act, outcome_by}
+use Rattle.axp_lsu.specs.Keeping.{LocalMemory, data_copies}
 use Rattle.axp_lsu.specs.declared.asks.Ask2.{Ask2}
 use Rattle.axp_model.specs.Late.{code_copies, code_held, copies, held}
 use Rattle.axp_laws.specs.LateLaws.{ListsExactly}
 use Rattle.axp_model.specs.Processors.{WantsInLine}
-use Rattle.axp_model.specs.Records.{by}
+use Rattle.axp_model.specs.Records.{is_of}
 use Rattle.axp_model.specs.Turns.{code_stamp, stamp}
 use Rattle.axp_laws.proofs.CopyLists.{code_copies_exactly, copies_exactly}
 use Rattle.axp_laws.proofs.RunFacts.{Fitting}
@@ -39,7 +39,7 @@ use Rattle.axp_world.proofs.BankShows.{CopiesShow, KeptShows, Shows, carried, no
 use Rattle.axp_world.proofs.BankSpares.{among_lines, ascending_lines, same_ascending, told_of_none}
 
 -- a processor's banks show the lines that it holds, with memory after their stamps
-abbrev pub Banked : (ℕ → ℕ) → ℕ → List Record → Kept → Type 0
+abbrev pub Banked : (ℕ → ℕ) → ℕ → List Record → LocalMemory → Type 0
 Banked image p h u = KeptShows image h p h u
 
 -- at the start nothing is held
@@ -68,9 +68,9 @@ may_act : (may : Bool) (o : Option Ask2) (q : Ask2) → cond may o None ≡ Some
 may_act true o q e = e
 may_act false o q e = cc
 
-act_asked : (a : Actor) (e : Act) (q : Ask2) → request_of a e ≡ Ok q → act_ask e (about a) a.kept ≡ Some q
+act_asked : (a : Actor) (e : Act) (q : Ask2) → request_of a e ≡ Ok q → act_ask e (actor_intent a) a.kept ≡ Some q
 unfolding request_of ask_of
-act_asked a e q asks = may_act (may_now e (about a).finished a.kept.since.filled) (act_ask e (about a) a.kept) q (asked_act (ask_of e (about a) a.kept) (is_built e a) q asks)
+act_asked a e q asks = may_act (is_timely e (actor_intent a).finished a.kept.since.filled) (act_ask e (actor_intent a) a.kept) q (asked_act (ask_of e (actor_intent a) a.kept) (is_built e a) q asks)
 
 -- the processor that acted
 own_step : (image : Contents) (cpus budget : ℕ) (r : Record) (h : List Record) → WantsInLine (world_intent image cpus budget (cpu_number r.event.cpu) h).wanted → Shown image (world image cpus budget h) r.event r.outcome → Fitting (r ∷ h)
@@ -82,15 +82,15 @@ own_step image cpus budget r h inside s fit before after was =
     let p : ℕ = cpu_number r.event.cpu in
     let a : Actor = w.actors p in
     let bus : BusAgrees (image_bytes image) (r ∷ h) (calls_for (image_bytes image) w.calls r.event.cpu (Ok s.ask)) = subst (λ cs. BusAgrees (image_bytes image) (r ∷ h) cs) (calls_after image w r.event r.outcome s) after in
-    let gives : outcome_by r.event.act a.cpu (about a) a.kept (reply_for (image_bytes image) w.calls p (Ok s.ask)) ≡ r.outcome = ap (λ (t : Option Reply). outcome_by r.event.act a.cpu (about a) a.kept t) (sym s.answered) ∙ sym s.outcome in
-    let acted : Goes (image_bytes image) r.event.cpu (of_act r.event.cpu r.event.act (outcome_by r.event.act a.cpu (about a) a.kept (reply_for (image_bytes image) w.calls p (Ok s.ask)))) h a.kept (kept_after r.event.act (about a) (reply_for (image_bytes image) w.calls p (Ok s.ask)) a.kept) (calls_for (image_bytes image) w.calls r.event.cpu (Ok s.ask)) =
-    act_goes r.event.act (image_bytes image) r.event.cpu a.cpu h (about a) a.kept w.calls s.ask inside before (act_asked a r.event.act s.ask s.asked) in
-    let goes : Goes (image_bytes image) r.event.cpu r h a.kept (kept_after r.event.act (about a) (reply_for (image_bytes image) w.calls p (Ok s.ask)) a.kept) (calls_for (image_bytes image) w.calls r.event.cpu (Ok s.ask)) =
-    subst (λ (o : Outcome). Goes (image_bytes image) r.event.cpu (of_act r.event.cpu r.event.act o) h a.kept (kept_after r.event.act (about a) (reply_for (image_bytes image) w.calls p (Ok s.ask)) a.kept) (calls_for (image_bytes image) w.calls r.event.cpu (Ok s.ask))) gives acted in
-    subst (λ (t : Option Reply). Banked (image_bytes image) p (r ∷ h) (kept_after r.event.act (about a) t a.kept)) (sym s.answered) (goes fit bus (carried (image_bytes image) p r h a.kept fit was))
+    let gives : outcome_by r.event.act a.cpu (actor_intent a) a.kept (reply_for (image_bytes image) w.calls p (Ok s.ask)) ≡ r.outcome = ap (λ (t : Option Reply). outcome_by r.event.act a.cpu (actor_intent a) a.kept t) (sym s.answered) ∙ sym s.outcome in
+    let acted : Goes (image_bytes image) r.event.cpu (of_act r.event.cpu r.event.act (outcome_by r.event.act a.cpu (actor_intent a) a.kept (reply_for (image_bytes image) w.calls p (Ok s.ask)))) h a.kept (after_act r.event.act (actor_intent a) (reply_for (image_bytes image) w.calls p (Ok s.ask)) a.kept) (calls_for (image_bytes image) w.calls r.event.cpu (Ok s.ask)) =
+    act_goes r.event.act (image_bytes image) r.event.cpu a.cpu h (actor_intent a) a.kept w.calls s.ask inside before (act_asked a r.event.act s.ask s.asked) in
+    let goes : Goes (image_bytes image) r.event.cpu r h a.kept (after_act r.event.act (actor_intent a) (reply_for (image_bytes image) w.calls p (Ok s.ask)) a.kept) (calls_for (image_bytes image) w.calls r.event.cpu (Ok s.ask)) =
+    subst (λ (o : Outcome). Goes (image_bytes image) r.event.cpu (of_act r.event.cpu r.event.act o) h a.kept (after_act r.event.act (actor_intent a) (reply_for (image_bytes image) w.calls p (Ok s.ask)) a.kept) (calls_for (image_bytes image) w.calls r.event.cpu (Ok s.ask))) gives acted in
+    subst (λ (t : Option Reply). Banked (image_bytes image) p (r ∷ h) (after_act r.event.act (actor_intent a) t a.kept)) (sym s.answered) (goes fit bus (carried (image_bytes image) p r h a.kept fit was))
 
 -- another's record
-other_step : (image : ℕ → ℕ) (p : ℕ) (r : Record) (h : List Record) (u : Kept) → by p r ≡ false → Fitting (r ∷ h) → Banked image p h u → Banked image p (r ∷ h) u
+other_step : (image : ℕ → ℕ) (p : ℕ) (r : Record) (h : List Record) (u : LocalMemory) → is_of p r ≡ false → Fitting (r ∷ h) → Banked image p h u → Banked image p (r ∷ h) u
 other_step image p r h u other fit was =
     nothing_changed image (r ∷ h) p r h u (other_leaves_data p r h other) (other_leaves_code p r h other) (other_leaves_barrier p r h other) (carried image p r h u fit was)
 
@@ -100,16 +100,16 @@ pub banks_step : (image : Contents) (cpus budget : ℕ) (r : Record) (h : List R
 banks_step image cpus budget r h inside played fit before after p was =
     let w : World = world image cpus budget h in
     ⊎_elim
-    (λ (own : by p r ≡ true).
+    (λ (own : is_of p r ≡ true).
     let same : cpu_number r.event.cpu ≡ p = eqb-true (cpu_number r.event.cpu) p own in
     let mine : Banked (image_bytes image) (cpu_number r.event.cpu) h (w.actors (cpu_number r.event.cpu)).kept = subst (λ n. Banked (image_bytes image) n h (w.actors n).kept) (sym same) was in
     let gone : Banked (image_bytes image) (cpu_number r.event.cpu) (r ∷ h) (advanced (w.actors (cpu_number r.event.cpu)) r.event.act (reply_at image w r.event)).kept =
     own_step image cpus budget r h inside (shown image cpus w r.event r.outcome played) fit before after mine in
     subst (λ (a : Actor). Banked (image_bytes image) p (r ∷ h) a.kept) (sym (actor_own image w r.event p own))
     (subst (λ n. Banked (image_bytes image) n (r ∷ h) (advanced (w.actors n) r.event.act (reply_at image w r.event)).kept) same gone))
-    (λ (other : by p r ≡ false).
+    (λ (other : is_of p r ≡ false).
     subst (λ (a : Actor). Banked (image_bytes image) p (r ∷ h) a.kept) (sym (actor_other image w r.event p other)) (other_step (image_bytes image) p r h (w.actors p).kept other fit was))
-    (cases_Bool (by p r))
+    (cases_Bool (is_of p r))
 
 -- the banks as other parts are told of them
 memory_shown : (image : ℕ → ℕ) (h : List Record) (l turn : ℕ) (holds : Bool) (o : Option (ℕ × LineData)) → Shows image h l o holds turn → HasMemory image h l o turn
@@ -120,7 +120,7 @@ same_lines : (image : ℕ → ℕ) (h : List Record) (holds : ℕ → Bool) (tur
 same_lines image h holds turn cs ks listed shows =
     same_ascending (map line_of cs) ks (ascending_lines cs shows.whole.up) listed.ascending (λ l. among_lines l cs ∙ is_held_by image h holds turn cs l shows ∙ sym (listed.members l))
 
-pub banks_agree : (image : ℕ → ℕ) (p : ℕ) (h : List Record) (u : Kept) → Banked image p h u → BanksAgree image p h u
+pub banks_agree : (image : ℕ → ℕ) (p : ℕ) (h : List Record) (u : LocalMemory) → Banked image p h u → BanksAgree image p h u
 banks_agree image p h u shows = record {
   lines = λ l. held_in image h p h u (data_bank l) l (bank_own l) shows;
   code_lines_held = λ l. is_held_by image h (λ l. code_held p l h) (λ l. code_stamp p l h) u.code l shows.code;

@@ -7,7 +7,7 @@ use Rattle.axp_access.specs.declared.Record.{Record}
 use Rattle.axp_bank.specs.Copies.{Whole, get_of}
 use Rattle.axp_bank.specs.declared.copies.LineCopy.{LineCopy}
 use Rattle.axp_line.specs.declared.contents.LineData.{LineData}
-use Rattle.axp_lsu.specs.Keeping.{Kept, copies_of, with_copies}
+use Rattle.axp_lsu.specs.Keeping.{LocalMemory, copies_of, with_copies}
 use Rattle.axp_model.specs.Late.{held, code_held}
 use Rattle.axp_base.specs.Lines.{in_bank}
 use Rattle.axp_model.specs.Sources.{byte_of_source}
@@ -34,7 +34,7 @@ pub record BanksShow (image : ℕ → ℕ) (g : List Record) (p : ℕ) (h : List
   pub code : CopiesShow image g (λ l. code_held p l h) (λ l. code_stamp p l h) codes
   pub fenced : fence ≡ barrier p h
 
-abbrev pub KeptShows : (ℕ → ℕ) → List Record → ℕ → List Record → Kept → Type 0
+abbrev pub KeptShows : (ℕ → ℕ) → List Record → ℕ → List Record → LocalMemory → Type 0
 KeptShows image g p h u = BanksShow image g p h u.even u.odd u.code u.barrier
 
 -- memory after turns that were made stays
@@ -46,7 +46,7 @@ shows_carried image r h l turn holds (Some c) fit made shows =
 copies_carried : (image : ℕ → ℕ) (r : Record) (h : List Record) (holds : ℕ → Bool) (turn : ℕ → ℕ) (cs : List LineCopy) → Fitting (r ∷ h) → ((l : ℕ) → turn l ≤ turns h) → CopiesShow image h holds turn cs → CopiesShow image (r ∷ h) holds turn cs
 copies_carried image r h holds turn cs fit made was = record { whole = was.whole; each = λ l. shows_carried image r h l (turn l) (holds l) (get_of l cs) fit (made l) (was.each l) }
 
-pub carried : (image : ℕ → ℕ) (p : ℕ) (r : Record) (h : List Record) (u : Kept) → Fitting (r ∷ h) → KeptShows image h p h u → KeptShows image (r ∷ h) p h u
+pub carried : (image : ℕ → ℕ) (p : ℕ) (r : Record) (h : List Record) (u : LocalMemory) → Fitting (r ∷ h) → KeptShows image h p h u → KeptShows image (r ∷ h) p h u
 carried image p r h u fit was = record {
   even = copies_carried image r h (λ l. in_bank Even l && held p l h) (λ l. stamp p l h) u.even fit (λ l. stamp_most p l h) was.even;
   odd = copies_carried image r h (λ l. in_bank Odd l && held p l h) (λ l. stamp p l h) u.odd fit (λ l. stamp_most p l h) was.odd;
@@ -104,7 +104,7 @@ own_bank : (image : ℕ → ℕ) (g : List Record) (k : ℕ) (b : Bank) (holds n
 own_bank image g k b holds now turn next cs ds mine held_same turn_same whole told here was =
     line_changed image g k (λ l. in_bank b l && holds l) (λ l. in_bank b l && now l) turn next cs ds (λ l apart. ap (λ (x : Bool). in_bank b l && x) (held_same l apart)) turn_same whole told (rw mine here) was
 
-pub data_changed : (image : ℕ → ℕ) (g : List Record) (k p : ℕ) (b : Bank) (r : Record) (h : List Record) (u : Kept) (ds : List LineCopy) → in_bank b k ≡ true → LeavesOthers k p r h → LeavesCode p r h → barrier p (r ∷ h) ≡ barrier p h
+pub data_changed : (image : ℕ → ℕ) (g : List Record) (k p : ℕ) (b : Bank) (r : Record) (h : List Record) (u : LocalMemory) (ds : List LineCopy) → in_bank b k ≡ true → LeavesOthers k p r h → LeavesCode p r h → barrier p (r ∷ h) ≡ barrier p h
     → Whole ds → ((l : ℕ) → l ≢ k → get_of l ds ≡ get_of l (copies_of b u)) → Shows image g k (get_of k ds) (held p k (r ∷ h)) (stamp p k (r ∷ h)) → KeptShows image g p h u → KeptShows image g p (r ∷ h) (with_copies b ds u)
 data_changed image g k p Even r h u ds mine others code fence whole told here was = record {
   even = own_bank image g k Even (λ l. held p l h) (λ l. held p l (r ∷ h)) (λ l. stamp p l h) (λ l. stamp p l (r ∷ h)) u.even ds mine others.holds others.stamps whole told here was.even;
@@ -120,7 +120,7 @@ data_changed image g k p Odd r h u ds mine others code fence whole told here was
 }
 data_changed image g k p Code r h u ds mine others code fence whole told here was = absurd (false≢true mine)
 
-pub code_changed : (image : ℕ → ℕ) (g : List Record) (k p : ℕ) (r : Record) (h : List Record) (u : Kept) (ds : List LineCopy) → LeavesData p r h → LeavesOtherCode k p r h → barrier p (r ∷ h) ≡ barrier p h
+pub code_changed : (image : ℕ → ℕ) (g : List Record) (k p : ℕ) (r : Record) (h : List Record) (u : LocalMemory) (ds : List LineCopy) → LeavesData p r h → LeavesOtherCode k p r h → barrier p (r ∷ h) ≡ barrier p h
     → Whole ds → ((l : ℕ) → l ≢ k → get_of l ds ≡ get_of l u.code) → Shows image g k (get_of k ds) (code_held p k (r ∷ h)) (code_stamp p k (r ∷ h)) → KeptShows image g p h u → KeptShows image g p (r ∷ h) (with_copies Code ds u)
 code_changed image g k p r h u ds leaves others fence whole told here was = record {
   even = same_shows image g (λ l. in_bank Even l && held p l h) (λ l. in_bank Even l && held p l (r ∷ h)) (λ l. stamp p l h) (λ l. stamp p l (r ∷ h)) u.even (λ l. ap (λ (x : Bool). in_bank Even l && x) (leaves.holds l)) leaves.stamps was.even;
@@ -129,7 +129,7 @@ code_changed image g k p r h u ds leaves others fence whole told here was = reco
   fenced = was.fenced ∙ sym fence;
 }
 
-pub nothing_changed : (image : ℕ → ℕ) (g : List Record) (p : ℕ) (r : Record) (h : List Record) (u : Kept) → LeavesData p r h → LeavesCode p r h → barrier p (r ∷ h) ≡ barrier p h → KeptShows image g p h u → KeptShows image g p (r ∷ h) u
+pub nothing_changed : (image : ℕ → ℕ) (g : List Record) (p : ℕ) (r : Record) (h : List Record) (u : LocalMemory) → LeavesData p r h → LeavesCode p r h → barrier p (r ∷ h) ≡ barrier p h → KeptShows image g p h u → KeptShows image g p (r ∷ h) u
 nothing_changed image g p r h u leaves code fence was = record {
   even = same_shows image g (λ l. in_bank Even l && held p l h) (λ l. in_bank Even l && held p l (r ∷ h)) (λ l. stamp p l h) (λ l. stamp p l (r ∷ h)) u.even (λ l. ap (λ (x : Bool). in_bank Even l && x) (leaves.holds l)) leaves.stamps was.even;
   odd = same_shows image g (λ l. in_bank Odd l && held p l h) (λ l. in_bank Odd l && held p l (r ∷ h)) (λ l. stamp p l h) (λ l. stamp p l (r ∷ h)) u.odd (λ l. ap (λ (x : Bool). in_bank Odd l && x) (leaves.holds l)) leaves.stamps was.odd;

@@ -11,7 +11,7 @@ use Rattle.axp_bank.specs.declared.copies.LineCopy.{LineCopy}
 use Rattle.axp_bank.proofs.BankLemmas.{above_none, get_none}
 use Rattle.axp_bank.proofs.GetLemmas.{comes, goes}
 use Rattle.axp_line.specs.declared.contents.LineData.{LineData}
-use Rattle.axp_line.specs.BusReply.{Front, gone, is_late}
+use Rattle.axp_line.specs.BusReply.{PortState, gone, is_late}
 use Rattle.axp_laws.specs.LateLaws.{is_among, IsAscending}
 use Rattle.axp_laws.proofs.RunSteps.{each_map}
 
@@ -29,7 +29,7 @@ unless test l None = None
 unless test l (Some c) = cond (test l c.0) None (Some c)
 
 -- something late has the line at a stamp
-abbrev pub late_at : Front → ℕ → ℕ → Bool
+abbrev pub late_at : PortState → ℕ → ℕ → Bool
 late_at f l stamp = is_late f (l * LINE_BYTES) stamp
 
 low_bit : (b : Bool) (n : ℕ) → eqb ((cond b 1 0 + 2 * n) % 2) 1 ≡ b
@@ -41,7 +41,7 @@ high_bits true n = omega arith
 high_bits false n = omega arith
 
 -- the bits of these copies, before those of others, spare those that nothing late has
-pub spared_are : (f : Front) (cs : List LineCopy) (more : List (ℕ × ℕ)) → spared (gone f (map pair_of cs ++ more)) cs ≡ without (late_at f) cs
+pub spared_are : (f : PortState) (cs : List LineCopy) (more : List (ℕ × ℕ)) → spared (gone f (map pair_of cs ++ more)) cs ≡ without (late_at f) cs
 unfolding spared
 spared_are f [] more = refl
 spared_are f (c ∷ cs) more =
@@ -122,7 +122,7 @@ get_without test l (c ∷ cs) up =
     (cases_Bool (is_of l c))
 
 -- the bits behind those of these copies are of the others
-pub bits_behind : (f : Front) (cs : List LineCopy) (more : List (ℕ × ℕ)) → gone f (map pair_of cs ++ more) / 2 ^ length cs ≡ gone f more
+pub bits_behind : (f : PortState) (cs : List LineCopy) (more : List (ℕ × ℕ)) → gone f (map pair_of cs ++ more) / 2 ^ length cs ≡ gone f more
 bits_behind f [] more = div-one (gone f more)
 bits_behind f (c ∷ cs) more =
     let rest : ℕ = gone f (map pair_of cs ++ more) in

@@ -21,14 +21,14 @@ use Rattle.axp_wbuf.proofs.Overlays.{byte_left, has_joined, has_other}
 use Rattle.axp_wbuf.proofs.Pairs.{same_entry, no_entry}
 use Rattle.axp_model.specs.Entries.{buffer}
 use Rattle.axp_model.specs.Accesses.{accesses, with_access}
-use Rattle.axp_access.specs.Numbering.{Item, cpu_of, next_item}
+use Rattle.axp_access.specs.Numbering.{NumberedAccess, cpu_of, next_access}
 use Rattle.axp_model.specs.Records.{access_in}
 use Rattle.axp_access.specs.Kinds.{has_byte, is_memory_write}
 use Rattle.axp_base.specs.Lines.{line_of}
 use Rattle.axp_model.specs.Turns.{drained}
 use Rattle.axp_laws.proofs.OrderDrains.{entry_write}
 use Rattle.axp_laws.proofs.OrderCases.{acc}
-use Rattle.axp_laws.proofs.RunFacts.{Goes, Kept, KnownItem, waits}
+use Rattle.axp_laws.proofs.RunFacts.{Goes, RunFacts, KnownItem, waits}
 use Rattle.axp_laws.proofs.RunKnown as knows
 use Rattle.axp_laws.proofs.RunKnown.{waits_has}
 use Rattle.axp_laws.proofs.RunSteps.{each_map}
@@ -46,11 +46,11 @@ span_same a s at within line =
     (cases_lt at a)
 
 -- the newest write of a byte in an entry, where a record shows no write into it
-find_with : (p n at : ℕ) (o : Option Access) (us : List Item) → ((a : Access) → o ≡ Some a → went_into p n at (next_item us a) ≡ false) → find (went_into p n at) (with_access o us) ≡ find (went_into p n at) us
+find_with : (p n at : ℕ) (o : Option Access) (us : List NumberedAccess) → ((a : Access) → o ≡ Some a → went_into p n at (next_access us a) ≡ false) → find (went_into p n at) (with_access o us) ≡ find (went_into p n at) us
 find_with p n at None us none = refl
 find_with p n at (Some a) us none = rw (none a refl) refl
 
-pub newest_same : (p n at : ℕ) (r : Record) (h : List Record) → ((a : Access) → access_in r.event.cpu r.outcome ≡ Some a → went_into p n at (next_item (accesses h) a) ≡ false) → newest_in p n at (r ∷ h) ≡ newest_in p n at h
+pub newest_same : (p n at : ℕ) (r : Record) (h : List Record) → ((a : Access) → access_in r.event.cpu r.outcome ≡ Some a → went_into p n at (next_access (accesses h) a) ≡ false) → newest_in p n at (r ∷ h) ≡ newest_in p n at h
 newest_same p n at r h none = find_with p n at (access_in r.event.cpu r.outcome) (accesses h) none
 
 -- and where it shows one
@@ -59,9 +59,9 @@ and_true true = refl
 and_true false = refl
 
 pub newest_now : (p n at : ℕ) (e : Event) (c : Cpu) (a s x : ℕ) (y : Bool) (h : List Record) → c.number ≡ p
-    → newest_in p n at (knows.made_by e (acc c kind.Write a s x y (Entry n)) ∷ h) ≡ cond (leb a at && ltb at (a + s)) (Some (next_item (accesses h) (acc c kind.Write a s x y (Entry n)))) (newest_in p n at h)
+    → newest_in p n at (knows.made_by e (acc c kind.Write a s x y (Entry n)) ∷ h) ≡ cond (leb a at && ltb at (a + s)) (Some (next_access (accesses h) (acc c kind.Write a s x y (Entry n)))) (newest_in p n at h)
 newest_now p n at e c a s x y h own =
-    ap (λ b. cond b (Some (next_item (accesses h) (acc c kind.Write a s x y (Entry n)))) (newest_in p n at h))
+    ap (λ b. cond b (Some (next_access (accesses h) (acc c kind.Write a s x y (Entry n)))) (newest_in p n at h))
     (ap (λ b. b && ((leb a at && ltb at (a + s)) && eqb n n)) (eq-eqb c.number p own) ∙ ap (λ b. (leb a at && ltb at (a + s)) && b) (eq-eqb n n refl) ∙ and_true (leb a at && ltb at (a + s)))
 
 -- an entry has its bytes still
@@ -85,7 +85,7 @@ put_at bytes a s x at within whole line inside =
 pub bytes_merged : (p : ℕ) (e : Event) (c : Cpu) (a s x : ℕ) (y : Bool) (h : List Record) (f : Pending) → c.number ≡ p → a % LINE_BYTES + s ≤ LINE_BYTES → length f.bytes ≡ LINE_BYTES → f.line ≡ line_of a → HasBytesOf p h f
     → HasBytesOf p (knows.made_by e (acc c kind.Write a s x y (Entry f.number)) ∷ h) (with_store a s x f)
 bytes_merged p e c a s x y h f own within whole of_line was =
-    let new : Item = next_item (accesses h) (acc c kind.Write a s x y (Entry f.number)) in
+    let new : NumberedAccess = next_access (accesses h) (acc c kind.Write a s x y (Entry f.number)) in
     record {
       whole = length-with_part f.bytes (a % LINE_BYTES) s x ∙ whole;
       has = λ at line.
@@ -108,7 +108,7 @@ bytes_merged p e c a s x y h f own within whole of_line was =
 pub bytes_made : (p n group : ℕ) (e : Event) (c : Cpu) (a s x : ℕ) (y : Bool) (h : List Record) → c.number ≡ p → a % LINE_BYTES + s ≤ LINE_BYTES → ((at : ℕ) → newest_in p n at h ≡ None)
     → HasBytesOf p (knows.made_by e (acc c kind.Write a s x y (Entry n)) ∷ h) (made_by n group a s x)
 bytes_made p n group e c a s x y h own within none =
-    let new : Item = next_item (accesses h) (acc c kind.Write a s x y (Entry n)) in
+    let new : NumberedAccess = next_access (accesses h) (acc c kind.Write a s x y (Entry n)) in
     record {
       whole = length-with_part (replicate LINE_BYTES 0) (a % LINE_BYTES) s x ∙ length-replicate {A = ℕ} LINE_BYTES 0;
       has = λ at line.
@@ -126,7 +126,7 @@ bytes_made p n group e c a s x y h own within none =
     }
 
 -- no write went into an entry that is not made yet
-find_none : (test : Item → Bool) (us : List Item) → AllByRecursion (λ u. test u ≡ false) us → find test us ≡ None
+find_none : (test : NumberedAccess → Bool) (us : List NumberedAccess) → AllByRecursion (λ u. test u ≡ false) us → find test us ≡ None
 find_none test [] none = refl
 find_none test (u ∷ us) none = rw none.0 (find_none test us none.1)
 
@@ -136,7 +136,7 @@ place_is n (Entry m) is = ap (λ k. Entry k) (eqb-true m n is)
 place_is n Absent is = absurd (false≢true is)
 
 -- a write into an entry that no drain has named is of one that waits
-pub into_waits : (p n at : ℕ) (h : List Record) (u : Item) → KnownItem h u → drained h p n ≡ None → went_into p n at u ≡ true → waits n (line_of u.access.address) u.parts (buffer p h).waiting ≡ true
+pub into_waits : (p n at : ℕ) (h : List Record) (u : NumberedAccess) → KnownItem h u → drained h p n ≡ None → went_into p n at u ≡ true → waits n (line_of u.access.address) u.parts (buffer p h).waiting ≡ true
 into_waits p n at h u known none went =
     let cpu = and_parts (eqb (cpu_of u) p) (is_memory_write u.access && (has_byte at u.access && is_entry n u.access.place)) went in
     let write = and_parts (is_memory_write u.access) (has_byte at u.access && is_entry n u.access.place) cpu.1 in
@@ -147,7 +147,7 @@ into_waits p n at h u known none went =
     let goes : Goes p (line_of u.access.address) u.parts (Entry n) h = rw (plain, is, own) at known.known in
     goes none
 
-pub none_above : (p n : ℕ) (h : List Record) → Kept h → (buffer p h).made < n → (at : ℕ) → newest_in p n at h ≡ None
+pub none_above : (p n : ℕ) (h : List Record) → RunFacts h → (buffer p h).made < n → (at : ℕ) → newest_in p n at h ≡ None
 none_above p n h k above at =
     find_none (went_into p n at) (accesses h)
     (each_map (KnownItem h) (λ u. went_into p n at u ≡ false) (accesses h)

@@ -16,13 +16,13 @@ use Rattle.axp_model.specs.Memory.{is_waiting, newest_waiting, own_waits}
 use Rattle.axp_model.specs.Issue.{AllPairs}
 use Rattle.axp_model.specs.Processors.{IsInLine}
 use Rattle.axp_model.specs.Accesses.{accesses, times}
-use Rattle.axp_access.specs.Numbering.{Item, cpu_of}
+use Rattle.axp_access.specs.Numbering.{NumberedAccess, cpu_of}
 use Rattle.axp_access.specs.Order.{spot}
 use Rattle.axp_access.specs.Kinds.{has_byte, is_memory_write}
 use Rattle.axp_base.specs.Lines.{line_of}
 use Rattle.axp_model.specs.Turns.{drained}
 use Rattle.axp_laws.proofs.SourceForwarded.{waiting_entry}
-use Rattle.axp_laws.proofs.RunFacts.{Kept, KnownItem, PairOk, waits}
+use Rattle.axp_laws.proofs.RunFacts.{RunFacts, KnownItem, PairOk, waits}
 use Rattle.axp_laws.proofs.RunKnown.{waits_has}
 use Rattle.axp_world.proofs.Agreement.{HasBytesOf, byte_or, is_entry, newest_in, went_into}
 use Rattle.axp_world.proofs.BufferEntries.{KeepsWaiting, IsKeptAs, kept_same, waits_same}
@@ -67,7 +67,7 @@ last_or_none l n made newest (e ∷ es) order =
     (last_or_none l n made newest es order.1.1)
 
 -- what a search finds
-find_passes : (test : Item → Bool) (us : List Item) (v : Item) → find test us ≡ Some v → test v ≡ true
+find_passes : (test : NumberedAccess → Bool) (us : List NumberedAccess) (v : NumberedAccess) → find test us ≡ Some v → test v ≡ true
 find_passes test [] v is = cc
 find_passes test (u ∷ us) v is =
     ⊎_elim
@@ -75,7 +75,7 @@ find_passes test (u ∷ us) v is =
     (λ (other : test u ≡ false). find_passes test us v (rw other at is))
     (cases_Bool (test u))
 
-find_each : (P : Item → Type 0) (test : Item → Bool) (us : List Item) (v : Item) → AllByRecursion P us → find test us ≡ Some v → P v
+find_each : (P : NumberedAccess → Type 0) (test : NumberedAccess → Bool) (us : List NumberedAccess) (v : NumberedAccess) → AllByRecursion P us → find test us ≡ Some v → P v
 find_each P test [] v each is = cc
 find_each P test (u ∷ us) v each is =
     ⊎_elim
@@ -84,7 +84,7 @@ find_each P test (u ∷ us) v each is =
     (cases_Bool (test u))
 
 -- another search, of which the one found passes
-find_again : (test other : Item → Bool) (us : List Item) (v : Item) → find test us ≡ Some v → other v ≡ true → is_some (find other us) ≡ true
+find_again : (test other : NumberedAccess → Bool) (us : List NumberedAccess) (v : NumberedAccess) → find test us ≡ Some v → other v ≡ true → is_some (find other us) ≡ true
 find_again test other [] v is passes = cc
 find_again test other (u ∷ us) v is passes =
     ⊎_elim
@@ -96,7 +96,7 @@ find_again test other (u ∷ us) v is passes =
     (cases_Bool (other u))
 
 -- a narrower search finds the same, or one that stands further back
-find_pair : (P : Item → Item → Type 0) (wide narrow : Item → Bool) (us : List Item) (v u : Item) → AllPairs P us → find wide us ≡ Some v → find narrow us ≡ Some u → wide u ≡ true → (u ≡ v) ⊎ P u v
+find_pair : (P : NumberedAccess → NumberedAccess → Type 0) (wide narrow : NumberedAccess → Bool) (us : List NumberedAccess) (v u : NumberedAccess) → AllPairs P us → find wide us ≡ Some v → find narrow us ≡ Some u → wide u ≡ true → (u ≡ v) ⊎ P u v
 find_pair P wide narrow [] v u pairs is found passes = cc
 find_pair P wide narrow (x ∷ us) v u pairs is found passes =
     ⊎_elim
@@ -114,7 +114,7 @@ find_pair P wide narrow (x ∷ us) v u pairs is found passes =
     (cases_Bool (wide x))
 
 -- where the one found passes a narrower search, that finds it too
-find_narrow : (wide narrow : Item → Bool) (us : List Item) (v : Item) → ((x : Item) → narrow x ≡ true → wide x ≡ true) → find wide us ≡ Some v → narrow v ≡ true → find narrow us ≡ Some v
+find_narrow : (wide narrow : NumberedAccess → Bool) (us : List NumberedAccess) (v : NumberedAccess) → ((x : NumberedAccess) → narrow x ≡ true → wide x ≡ true) → find wide us ≡ Some v → narrow v ≡ true → find narrow us ≡ Some v
 find_narrow wide narrow [] v within is passes = cc
 find_narrow wide narrow (x ∷ us) v within is passes =
     ⊎_elim
@@ -129,7 +129,7 @@ find_narrow wide narrow (x ∷ us) v within is passes =
     (cases_Bool (wide x))
 
 -- the newest write of a byte that waits, with its entry
-record IsFound (p at : ℕ) (h : List Record) (b : pending.Buffer) (rank : ℕ → ℕ) (v : Item) : Type 0 where
+record IsFound (p at : ℕ) (h : List Record) (b : pending.Buffer) (rank : ℕ → ℕ) (v : NumberedAccess) : Type 0 where
   number : ℕ
   place : v.access.place ≡ Entry number
   went : went_into p number at v ≡ true
@@ -140,7 +140,7 @@ in_line a s at inside has =
     let parts = and_parts (leb a at) (ltb at (a + s)) has in
     omega (arith, leb-true a at parts.0, ltb-true at (a + s) parts.1, inside.within)
 
-found_by : (p at : ℕ) (h : List Record) (b : pending.Buffer) (v : Item) (a : KeepsWaiting b (buffer p h)) → KnownItem h v → own_waits (times h) at p v ≡ true → IsFound p at h b a.rank v
+found_by : (p at : ℕ) (h : List Record) (b : pending.Buffer) (v : NumberedAccess) (a : KeepsWaiting b (buffer p h)) → KnownItem h v → own_waits (times h) at p v ≡ true → IsFound p at h b a.rank v
 found_by p at h b v a known own =
     let cpu = and_parts (eqb (cpu_of v) p) (is_memory_write v.access && (has_byte at v.access && is_waiting (spot (times h) (cpu_of v) v.access.place))) own in
     let write = and_parts (is_memory_write v.access) (has_byte at v.access && is_waiting (spot (times h) (cpu_of v) v.access.place)) cpu.1 in
@@ -156,7 +156,7 @@ found_by p at h b v a known own =
     record { number = entry.0; place = entry.1; went = went; kept = kept_same a.rank entry.0 (line_of at) v.parts b.kept (buffer p h).waiting (subst (λ l. waits entry.0 l v.parts (buffer p h).waiting ≡ true) line wait) a.entries }
 
 -- an entry of which no drain is known waits: a write into it does
-own_into : (p n at : ℕ) (h : List Record) (u : Item) → drained h p n ≡ None → went_into p n at u ≡ true → own_waits (times h) at p u ≡ true
+own_into : (p n at : ℕ) (h : List Record) (u : NumberedAccess) → drained h p n ≡ None → went_into p n at u ≡ true → own_waits (times h) at p u ≡ true
 own_into p n at h u none went =
     let cpu = and_parts (eqb (cpu_of u) p) (is_memory_write u.access && (has_byte at u.access && is_entry n u.access.place)) went in
     let write = and_parts (is_memory_write u.access) (has_byte at u.access && is_entry n u.access.place) cpu.1 in
@@ -167,7 +167,7 @@ own_into p n at h u none went =
     and_from (eqb (cpu_of u) p) (is_memory_write u.access && (has_byte at u.access && is_waiting (spot (times h) (cpu_of u) u.access.place))) cpu.0 (and_from (is_memory_write u.access) (has_byte at u.access && is_waiting (spot (times h) (cpu_of u) u.access.place)) write.0 (and_from (has_byte at u.access) (is_waiting (spot (times h) (cpu_of u) u.access.place)) both.0 waiting))
 
 -- the write found has the byte of a kept entry
-found_has : (p at : ℕ) (h : List Record) (b : pending.Buffer) (rank : ℕ → ℕ) (v : Item) → AllByRecursion (HasBytesOf p h) b.kept → newest_waiting p at h ≡ Some v → (f : IsFound p at h b rank v) → pending.has_byte (line_of at) (at % LINE_BYTES) f.kept.entry ≡ true
+found_has : (p at : ℕ) (h : List Record) (b : pending.Buffer) (rank : ℕ → ℕ) (v : NumberedAccess) → AllByRecursion (HasBytesOf p h) b.kept → newest_waiting p at h ≡ Some v → (f : IsFound p at h b rank v) → pending.has_byte (line_of at) (at % LINE_BYTES) f.kept.entry ≡ true
 found_has p at h b rank v bytes is f =
     let e : Pending = f.kept.entry in
     let of_e : HasBytesOf p h e = each_at (HasBytesOf p h) b.kept f.kept.place e f.kept.kept bytes in
@@ -176,7 +176,7 @@ found_has p at h b rank v bytes is f =
     and_from (eqb e.line (line_of at)) (has_bit e.bits (at % LINE_BYTES)) (eq-eqb e.line (line_of at) f.kept.line) has
 
 -- where no entry has the byte, no write of it waits
-none_waits : (p at : ℕ) (h : List Record) (b : pending.Buffer) (o : Option Item) → newest_waiting p at h ≡ o → Kept h → KeepsWaiting b (buffer p h) → AllByRecursion (HasBytesOf p h) b.kept → HasNone (line_of at) (at % LINE_BYTES) b.kept → o ≡ None
+none_waits : (p at : ℕ) (h : List Record) (b : pending.Buffer) (o : Option NumberedAccess) → newest_waiting p at h ≡ o → RunFacts h → KeepsWaiting b (buffer p h) → AllByRecursion (HasBytesOf p h) b.kept → HasNone (line_of at) (at % LINE_BYTES) b.kept → o ≡ None
 none_waits p at h b None is k a bytes none = refl
 none_waits p at h b (Some v) is k a bytes none =
     let known : KnownItem h v = find_each (KnownItem h) (own_waits (times h) at p) (accesses h) v k.items is in
@@ -184,7 +184,7 @@ none_waits p at h b (Some v) is k a bytes none =
     absurd (false≢true (sym (none f.kept.place f.kept.entry f.kept.kept) ∙ found_has p at h b a.rank v bytes is f))
 
 -- of writes into two entries of one line the newer one is not in the older entry
-not_older : (p at : ℕ) (h : List Record) (b : pending.Buffer) (j i : ℕ) (e f : Pending) (u v : Item) → Kept h → (a : KeepsWaiting b (buffer p h)) → slice_get b.kept j ≡ Some e → slice_get b.kept i ≡ Some f → e.line ≡ line_of at → f.line ≡ line_of at → f.number < e.number
+not_older : (p at : ℕ) (h : List Record) (b : pending.Buffer) (j i : ℕ) (e f : Pending) (u v : NumberedAccess) → RunFacts h → (a : KeepsWaiting b (buffer p h)) → slice_get b.kept j ≡ Some e → slice_get b.kept i ≡ Some f → e.line ≡ line_of at → f.line ≡ line_of at → f.number < e.number
     → KnownItem h u → went_into p e.number at u ≡ true → u.parts ≤ v.parts → a.rank f.group ≡ v.parts → drained h p e.number ≡ None → ⊥
 not_older p at h b j i e f u v k a at_e at_f line_e line_f less known went parts age none =
     let before = by_number b.made b.newest b.kept i j f e a.tidy.order at_f at_e less in
@@ -195,11 +195,11 @@ not_older p at h b j i e f u v k a at_e at_f line_e line_f less known went parts
     let same : u.parts ≡ a.rank e.group = ((k.sound p).single e.number (line_of u.access.address) u.parts e.line (a.rank e.group) wait kept).1 in
     omega (arith, up, same, parts, age)
 
-own_of : (p n at : ℕ) (u : Item) → went_into p n at u ≡ true → cpu_of u ≡ p
+own_of : (p n at : ℕ) (u : NumberedAccess) → went_into p n at u ≡ true → cpu_of u ≡ p
 own_of p n at u went = eqb-true (cpu_of u) p (and_parts (eqb (cpu_of u) p) (is_memory_write u.access && (has_byte at u.access && is_entry n u.access.place)) went).0
 
 -- the newest write into the last entry that has the byte is the newest that waits
-last_waits : (p at : ℕ) (h : List Record) (b : pending.Buffer) (o w : Option Item) → Kept h → KeepsWaiting b (buffer p h) → AllByRecursion (HasBytesOf p h) b.kept → (l : IsLast (line_of at) (at % LINE_BYTES) b.kept)
+last_waits : (p at : ℕ) (h : List Record) (b : pending.Buffer) (o w : Option NumberedAccess) → RunFacts h → KeepsWaiting b (buffer p h) → AllByRecursion (HasBytesOf p h) b.kept → (l : IsLast (line_of at) (at % LINE_BYTES) b.kept)
     → drained h p l.entry.number ≡ None → is_some o ≡ true → newest_in p l.entry.number at h ≡ o → newest_waiting p at h ≡ w → o ≡ w
 last_waits p at h b None w k a bytes l none some found is = absurd (false≢true some)
 last_waits p at h b (Some u) None k a bytes l none some found is =
@@ -224,11 +224,11 @@ last_waits p at h b (Some u) (Some v) k a bytes l none some found is =
     sym found ∙ find_narrow (own_waits (times h) at p) (went_into p e.number at) (accesses h) v (λ x into. own_into p e.number at h x none into) is (subst (λ n. went_into p n at v ≡ true) same f.went))
     (cases_lt f.kept.entry.number e.number)
 
-byte_some : (o : Option Item) (at x y : ℕ) → is_some o ≡ true → byte_or o at x ≡ byte_or o at y
+byte_some : (o : Option NumberedAccess) (at x y : ℕ) → is_some o ≡ true → byte_or o at x ≡ byte_or o at y
 byte_some None at x y some = absurd (false≢true some)
 byte_some (Some u) at x y some = refl
 
-pub overlaid_waits : (p at : ℕ) (h : List Record) (b : pending.Buffer) (line : List ℕ) → Kept h → KeepsWaiting b (buffer p h) → AllByRecursion (HasBytesOf p h) b.kept → length line ≡ LINE_BYTES → slice_index (overlaid (line_of at) b.kept line) (at % LINE_BYTES) ≡ byte_or (newest_waiting p at h) at (slice_index line (at % LINE_BYTES))
+pub overlaid_waits : (p at : ℕ) (h : List Record) (b : pending.Buffer) (line : List ℕ) → RunFacts h → KeepsWaiting b (buffer p h) → AllByRecursion (HasBytesOf p h) b.kept → length line ≡ LINE_BYTES → slice_index (overlaid (line_of at) b.kept line) (at % LINE_BYTES) ≡ byte_or (newest_waiting p at h) at (slice_index line (at % LINE_BYTES))
 overlaid_waits p at h b line k a bytes whole =
     ⊎_elim
     (λ (l : IsLast (line_of at) (at % LINE_BYTES) b.kept).

@@ -22,13 +22,13 @@ use Rattle.axp_access.specs.declared.Outcome.{Outcome}
 use Rattle.axp_access.specs.declared.Record.{Record}
 use Rattle.axp_access.specs.declared.Wanted.{Wanted}
 use Rattle.axp_cpu.specs.Actors as actors
-use Rattle.axp_cpu.specs.Actors.{Actor, about, asked_by, is_built, request_of}
-use Rattle.axp_lsu.specs.Asking.{act_ask, access_ask, ask_of, drain_ask, ready, step_ask}
+use Rattle.axp_cpu.specs.Actors.{Actor, actor_intent, asked_by, is_built, request_of}
+use Rattle.axp_lsu.specs.Asking.{act_ask, access_ask, ask_of, drain_ask, is_ready, step_ask}
 use Rattle.axp_lsu.specs.Going as going
-use Rattle.axp_lsu.specs.Going.{accessed, brought, delivered, drained, fenced, filled, fill_outcome, drain_outcome, kept_after, outcome_by, poll_outcome, rewritten, step_outcome, stepped, take_outcome}
-use Rattle.axp_lsu.specs.Keeping.{Kept, with_copies}
+use Rattle.axp_lsu.specs.Going.{after_access, after_line, after_late, after_drain, after_barrier, after_fill, fill_outcome, drain_outcome, after_act, outcome_by, poll_outcome, after_stored, step_outcome, after_step, take_outcome}
+use Rattle.axp_lsu.specs.Keeping.{LocalMemory, with_copies}
 use Rattle.axp_lsu.specs.declared.asks.Ask2.{Ask2}
-use Rattle.axp_model.specs.Legal.{may_now}
+use Rattle.axp_model.specs.Legal.{is_timely}
 use Rattle.axp_model.specs.Outcomes.{bank_for}
 use Rattle.axp_laws.proofs.RunFacts.{Fitting}
 use Rattle.axp_wbuf.specs.Drains.{oldest_group, without}
@@ -41,32 +41,32 @@ pub use Rattle.axp_world.proofs.BufferSteps.{IsBuffered, buffer_agrees}
 use Rattle.axp_world.proofs.BufferSteps.{IsQuiet, barrier_step, drain_step, other_step, quiet_step, write_step}
 
 -- copies leave the buffer as it is
-with_copies_buffer : (b : Bank) (cs : List LineCopy) (u : Kept) → (with_copies b cs u).buffer ≡ u.buffer
+with_copies_buffer : (b : Bank) (cs : List LineCopy) (u : LocalMemory) → (with_copies b cs u).buffer ≡ u.buffer
 with_copies_buffer Even cs u = refl
 with_copies_buffer Odd cs u = refl
 with_copies_buffer Code cs u = refl
 
-brought_buffer : (b : Bank) (line : Line) (t : Option Reply) (u : Kept) → (brought b line t u).buffer ≡ u.buffer
+brought_buffer : (b : Bank) (line : Line) (t : Option Reply) (u : LocalMemory) → (after_line b line t u).buffer ≡ u.buffer
 brought_buffer b line None u = refl
 brought_buffer b line (Some (reply.Line turn bytes)) u = with_copies_buffer b _ u
 brought_buffer b line (Some _) u = refl
 
-rewritten_buffer : (line : Line) (t : Option Reply) (u : Kept) → (rewritten line t u).buffer ≡ u.buffer
+rewritten_buffer : (line : Line) (t : Option Reply) (u : LocalMemory) → (after_stored line t u).buffer ≡ u.buffer
 rewritten_buffer line None u = refl
 rewritten_buffer line (Some (reply.Stored turn bytes)) u = with_copies_buffer (data_bank (line_number line)) _ u
 rewritten_buffer line (Some _) u = refl
 
-fenced_buffer : (t : Option Reply) (u : Kept) → (fenced t u).buffer ≡ u.buffer
+fenced_buffer : (t : Option Reply) (u : LocalMemory) → (after_barrier t u).buffer ≡ u.buffer
 fenced_buffer None u = refl
 fenced_buffer (Some (reply.Barrier turn gone)) u = refl
 fenced_buffer (Some _) u = refl
 
-delivered_buffer : (t : Option Reply) (u : Kept) → (delivered t u).buffer ≡ u.buffer
+delivered_buffer : (t : Option Reply) (u : LocalMemory) → (after_late t u).buffer ≡ u.buffer
 delivered_buffer None u = refl
 delivered_buffer (Some (reply.Late line turn)) u = with_copies_buffer (data_bank (line_number line)) _ u
 delivered_buffer (Some _) u = refl
 
-filled_buffer : (o : Option Wanted) (t : Option Reply) (u : Kept) → (filled o t u).buffer ≡ u.buffer
+filled_buffer : (o : Option Wanted) (t : Option Reply) (u : LocalMemory) → (after_fill o t u).buffer ≡ u.buffer
 filled_buffer None t u = refl
 filled_buffer (Some w) t u = brought_buffer (bank_for w.kind (line_of w.address)) (line_at w.address) t u
 
@@ -75,7 +75,7 @@ quiet_fill : (o : Option Wanted) (t : Option Reply) → IsQuiet (fill_outcome o 
 quiet_fill None t = tt
 quiet_fill (Some w) t = tt
 
-quiet_take : (u : Kept) (t : Option Reply) → IsQuiet (take_outcome u t)
+quiet_take : (u : LocalMemory) (t : Option Reply) → IsQuiet (take_outcome u t)
 quiet_take u None = tt
 quiet_take u (Some (reply.Late line turn)) = tt
 quiet_take u (Some _) = tt
@@ -96,8 +96,8 @@ abbrev want : Kind → ℕ → ℕ → ℕ → Wanted
 want k a s x = record { kind = k; address = a; size = s; value = x }
 
 -- an access, by its kind
-access_step : (k : Kind) (cpu : Cpu) (a s x : ℕ) (t : Option Reply) (u : Kept) (e : Event) (h : List Record) → ready k (line_of a) u ≡ true → Fitting (by_event e (step_outcome cpu (Some (want k a s x)) u t) ∷ h) → IsBuffered (cpu_number e.cpu) h u.buffer
-    → IsBuffered (cpu_number e.cpu) (by_event e (step_outcome cpu (Some (want k a s x)) u t) ∷ h) (accessed k (want k a s x) t u).buffer
+access_step : (k : Kind) (cpu : Cpu) (a s x : ℕ) (t : Option Reply) (u : LocalMemory) (e : Event) (h : List Record) → is_ready k (line_of a) u ≡ true → Fitting (by_event e (step_outcome cpu (Some (want k a s x)) u t) ∷ h) → IsBuffered (cpu_number e.cpu) h u.buffer
+    → IsBuffered (cpu_number e.cpu) (by_event e (step_outcome cpu (Some (want k a s x)) u t) ∷ h) (after_access k (want k a s x) t u).buffer
 access_step kind.Fetch cpu a s x t u e h ok fits was = still e _ h u.buffer u.buffer refl (refl, refl) fits was
 access_step kind.Read cpu a s x t u e h ok fits was = still e _ h u.buffer u.buffer refl (refl, refl) fits was
 access_step kind.Write cpu a s x t u e h ok fits was = write_step (cpu_number e.cpu) e cpu a s x false h u.buffer refl ok fits was
@@ -115,39 +115,39 @@ asked_some : (o : Option Ask2) (built : Bool) (q : Ask2) → asked_by o built �
 asked_some None built q is = cc
 asked_some (Some r) built q is = (r, refl)
 
-asked_act : (a : Act) (i : Intent) (u : Kept) (q : Ask2) → ask_of a i u ≡ Some q → act_ask a i u ≡ Some q
+asked_act : (a : Act) (i : Intent) (u : LocalMemory) (q : Ask2) → ask_of a i u ≡ Some q → act_ask a i u ≡ Some q
 unfolding ask_of
 asked_act a i u q is =
     ⊎_elim
-    (λ (may : may_now a i.finished u.since.filled ≡ true). rw may at is)
-    (λ (never : may_now a i.finished u.since.filled ≡ false). let none : None ≡ Some q = rw never at is in cc)
-    (cases_Bool (may_now a i.finished u.since.filled))
+    (λ (may : is_timely a i.finished u.since.filled ≡ true). rw may at is)
+    (λ (never : is_timely a i.finished u.since.filled ≡ false). let none : None ≡ Some q = rw never at is in cc)
+    (cases_Bool (is_timely a i.finished u.since.filled))
 
-asked_of : (x : Actor) (a : Act) (q : Ask2) → request_of x a ≡ Ok q → (r : Ask2) × (act_ask a (about x) x.kept ≡ Some r)
+asked_of : (x : Actor) (a : Act) (q : Ask2) → request_of x a ≡ Ok q → (r : Ask2) × (act_ask a (actor_intent x) x.kept ≡ Some r)
 unfolding request_of
-asked_of x a q is = let some = asked_some (ask_of a (about x) x.kept) (is_built a x) q is in (some.0, asked_act a (about x) x.kept some.0 some.1)
+asked_of x a q is = let some = asked_some (ask_of a (actor_intent x) x.kept) (is_built a x) q is in (some.0, asked_act a (actor_intent x) x.kept some.0 some.1)
 
 -- a Step
 ready_of : (b : Bool) (q r : Ask2) → cond b (Some q) None ≡ Some r → b ≡ true
 ready_of true q r is = refl
 ready_of false q r is = cc
 
-step_step : (o : Option Wanted) (boundary armed : Bool) (cpu : Cpu) (t : Option Reply) (u : Kept) (q : Ask2) (e : Event) (h : List Record) → step_ask boundary o armed u ≡ Some q → Fitting (by_event e (step_outcome cpu o u t) ∷ h) → IsBuffered (cpu_number e.cpu) h u.buffer
-    → IsBuffered (cpu_number e.cpu) (by_event e (step_outcome cpu o u t) ∷ h) (stepped o t u).buffer
+step_step : (o : Option Wanted) (boundary armed : Bool) (cpu : Cpu) (t : Option Reply) (u : LocalMemory) (q : Ask2) (e : Event) (h : List Record) → step_ask boundary o armed u ≡ Some q → Fitting (by_event e (step_outcome cpu o u t) ∷ h) → IsBuffered (cpu_number e.cpu) h u.buffer
+    → IsBuffered (cpu_number e.cpu) (by_event e (step_outcome cpu o u t) ∷ h) (after_step o t u).buffer
 step_step None boundary armed cpu t u q e h is fits was = still e _ h u.buffer u.buffer refl tt fits was
-step_step (Some w) boundary armed cpu t u q e h is fits was = access_step w.kind cpu w.address w.size w.value t u e h (ready_of (ready w.kind (line_of w.address) u) (access_ask w.kind w armed u) q is) fits was
+step_step (Some w) boundary armed cpu t u q e h is fits was = access_step w.kind cpu w.address w.size w.value t u e h (ready_of (is_ready w.kind (line_of w.address) u) (access_ask w.kind w armed u) q is) fits was
 
 -- a Drain
-drained_step : (k : ℕ) (o : Option Pending) (t : Option Reply) (u : Kept) (q : Ask2) (e : Event) (h : List Record) → slice_get (oldest_group u.buffer.kept) k ≡ o → drain_ask o ≡ Some q → Fitting (by_event e (drain_outcome o t) ∷ h) → IsBuffered (cpu_number e.cpu) h u.buffer
-    → IsBuffered (cpu_number e.cpu) (by_event e (drain_outcome o t) ∷ h) (drained k o t u).buffer
+drained_step : (k : ℕ) (o : Option Pending) (t : Option Reply) (u : LocalMemory) (q : Ask2) (e : Event) (h : List Record) → slice_get (oldest_group u.buffer.kept) k ≡ o → drain_ask o ≡ Some q → Fitting (by_event e (drain_outcome o t) ∷ h) → IsBuffered (cpu_number e.cpu) h u.buffer
+    → IsBuffered (cpu_number e.cpu) (by_event e (drain_outcome o t) ∷ h) (after_drain k o t u).buffer
 drained_step k None t u q e h at is fits was = cc
 drained_step k (Some f) t u q e h at is fits was =
     subst (λ b. IsBuffered (cpu_number e.cpu) (by_event e (drain_outcome (Some f) t) ∷ h) b) (sym (rewritten_buffer (line_numbered f.line) t (record u { buffer = without k u.buffer })))
     (drain_step (cpu_number e.cpu) k e f (line_numbered f.line) (going.turn_in t) h u.buffer refl at fits was)
 
 -- each act
-act_step : (a : Act) (cpu : Cpu) (i : Intent) (t : Option Reply) (u : Kept) (q : Ask2) (e : Event) (h : List Record) → act_ask a i u ≡ Some q → Fitting (by_event e (outcome_by a cpu i u t) ∷ h) → IsBuffered (cpu_number e.cpu) h u.buffer
-    → IsBuffered (cpu_number e.cpu) (by_event e (outcome_by a cpu i u t) ∷ h) (kept_after a i t u).buffer
+act_step : (a : Act) (cpu : Cpu) (i : Intent) (t : Option Reply) (u : LocalMemory) (q : Ask2) (e : Event) (h : List Record) → act_ask a i u ≡ Some q → Fitting (by_event e (outcome_by a cpu i u t) ∷ h) → IsBuffered (cpu_number e.cpu) h u.buffer
+    → IsBuffered (cpu_number e.cpu) (by_event e (outcome_by a cpu i u t) ∷ h) (after_act a i t u).buffer
 act_step act.Step cpu i t u q e h is fits was = step_step i.wanted i.boundary i.armed cpu t u q e h is fits was
 act_step act.Fill cpu i t u q e h is fits was = still e _ h u.buffer _ (filled_buffer i.wanted t u) (quiet_fill i.wanted t) fits was
 act_step (act.Drain k) cpu i t u q e h is fits was = drained_step k (slice_get (oldest_group u.buffer.kept) k) t u q e h refl is fits was
@@ -157,22 +157,22 @@ act_step act.Poll cpu i t u q e h is fits was = still e _ h u.buffer u.buffer re
 act_step act.Tick cpu i t u q e h is fits was = still e _ h u.buffer u.buffer refl tt fits was
 
 -- the same of one processor whole
-actor_kept : (x : Actor) (a : Act) (t : Option Reply) → (actors.advanced x a t).kept ≡ kept_after a (about x) t x.kept
+actor_kept : (x : Actor) (a : Act) (t : Option Reply) → (actors.advanced x a t).kept ≡ after_act a (actor_intent x) t x.kept
 unfolding actors.advanced going.advanced
 actor_kept x a t = refl
 
-actor_outcome : (x : Actor) (a : Act) (t : Option Reply) → actors.outcome_of x a t ≡ outcome_by a x.cpu (about x) x.kept t
+actor_outcome : (x : Actor) (a : Act) (t : Option Reply) → actors.outcome_of x a t ≡ outcome_by a x.cpu (actor_intent x) x.kept t
 unfolding actors.outcome_of going.outcome_of
 actor_outcome x a t = refl
 
 actor_step : (x : Actor) (t : Option Reply) (q : Ask2) (e : Event) (o : Outcome) (h : List Record) → request_of x e.act ≡ Ok q → o ≡ actors.outcome_of x e.act t → Fitting (by_event e o ∷ h) → IsBuffered (cpu_number e.cpu) h x.kept.buffer
     → IsBuffered (cpu_number e.cpu) (by_event e o ∷ h) (actors.advanced x e.act t).kept.buffer
 actor_step x t q e o h asked is fits was =
-    let same : o ≡ outcome_by e.act x.cpu (about x) x.kept t = is ∙ actor_outcome x e.act t in
+    let same : o ≡ outcome_by e.act x.cpu (actor_intent x) x.kept t = is ∙ actor_outcome x e.act t in
     let legal = asked_of x e.act q asked in
-    let now = act_step e.act x.cpu (about x) t x.kept legal.0 e h legal.1 (subst (λ z. Fitting (by_event e z ∷ h)) same fits) was in
+    let now = act_step e.act x.cpu (actor_intent x) t x.kept legal.0 e h legal.1 (subst (λ z. Fitting (by_event e z ∷ h)) same fits) was in
     subst (λ u. IsBuffered (cpu_number e.cpu) (by_event e o ∷ h) u.buffer) (sym (actor_kept x e.act t))
-    (subst (λ z. IsBuffered (cpu_number e.cpu) (by_event e z ∷ h) (kept_after e.act (about x) t x.kept).buffer) (sym same) now)
+    (subst (λ z. IsBuffered (cpu_number e.cpu) (by_event e z ∷ h) (after_act e.act (actor_intent x) t x.kept).buffer) (sym same) now)
 
 -- at the start, and by a record that is played
 pub buffer_start : (image : Contents) (cpus budget p : ℕ) → IsBuffered p [] ((world image cpus budget []).actors p).kept.buffer

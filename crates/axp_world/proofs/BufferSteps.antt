@@ -24,8 +24,8 @@ use Rattle.axp_wbuf.proofs.Pairs.{oldest_entry}
 use Rattle.axp_model.specs.Entries.{Buffer, buffer, buffer_after}
 use Rattle.axp_model.specs.Processors.{IsInLine}
 use Rattle.axp_model.specs.Accesses.{accesses}
-use Rattle.axp_access.specs.Numbering.{Item, cpu_of, next_item}
-use Rattle.axp_model.specs.Records.{access_in, by}
+use Rattle.axp_access.specs.Numbering.{NumberedAccess, cpu_of, next_access}
+use Rattle.axp_model.specs.Records.{access_in, is_of}
 use Rattle.axp_access.specs.Kinds.{has_byte, is_memory_write, is_plain_write, is_write_barrier}
 use Rattle.axp_base.specs.Lines.{line_at, line_of}
 use Rattle.axp_laws.proofs.RunRecords.{line_at-number}
@@ -65,10 +65,10 @@ same_step p r h b fits is same was = record {
 }
 
 -- an access of another processor, or one that stands at no such entry, went not into it
-other_cpu : (p n at : ℕ) (u : Item) → cpu_of u ≢ p → went_into p n at u ≡ false
+other_cpu : (p n at : ℕ) (u : NumberedAccess) → cpu_of u ≢ p → went_into p n at u ≡ false
 other_cpu p n at u other = and_left (eqb (cpu_of u) p) (is_memory_write u.access && (has_byte at u.access && is_entry n u.access.place)) (ne_eqb (cpu_of u) p other)
 
-pub other_entry : (p n at : ℕ) (u : Item) → is_entry n u.access.place ≡ false → went_into p n at u ≡ false
+pub other_entry : (p n at : ℕ) (u : NumberedAccess) → is_entry n u.access.place ≡ false → went_into p n at u ≡ false
 other_entry p n at u other =
     and_right (eqb (cpu_of u) p) (is_memory_write u.access && (has_byte at u.access && is_entry n u.access.place))
     (and_right (is_memory_write u.access) (has_byte at u.access && is_entry n u.access.place) (and_right (has_byte at u.access) (is_entry n u.access.place) other))
@@ -83,10 +83,10 @@ cpu_shown cpu (outcome.Taken x y z) h a fit is = cc
 cpu_shown cpu outcome.Done h a fit is = cc
 
 -- another processor's record
-pub other_step : (p : ℕ) (r : Record) (h : List Record) (b : pending.Buffer) → by p r ≡ false → Fitting (r ∷ h) → IsBuffered p h b → IsBuffered p (r ∷ h) b
+pub other_step : (p : ℕ) (r : Record) (h : List Record) (b : pending.Buffer) → is_of p r ≡ false → Fitting (r ∷ h) → IsBuffered p h b → IsBuffered p (r ∷ h) b
 other_step p r h b other fits was =
     same_step p r h b fits (rw other refl)
-    (λ n at. newest_same p n at r h (λ a is. other_cpu p n at (next_item (accesses h) a) (λ same. eqb-false (cpu_number r.event.cpu) p other (sym (cpu_shown r.event.cpu r.outcome h a fits.0 is) ∙ same))))
+    (λ n at. newest_same p n at r h (λ a is. other_cpu p n at (next_access (accesses h) a) (λ same. eqb-false (cpu_number r.event.cpu) p other (sym (cpu_shown r.event.cpu r.outcome h a fits.0 is) ∙ same))))
     was
 
 -- an own record that is no plain write, no write barrier and no drain
@@ -135,7 +135,7 @@ place_shown q n cpu (outcome.Taken x y z) h a quiet fit is = cc
 place_shown q n cpu outcome.Done h a quiet fit is = cc
 
 newest_quiet : (p n at : ℕ) (r : Record) (h : List Record) → IsNoWrite r.outcome → Fitting (r ∷ h) → newest_in p n at (r ∷ h) ≡ newest_in p n at h
-newest_quiet p n at r h quiet fits = newest_same p n at r h (λ a is. other_entry p n at (next_item (accesses h) a) (place_shown (cpu_number r.event.cpu) n r.event.cpu r.outcome h a quiet fits.0 is))
+newest_quiet p n at r h quiet fits = newest_same p n at r h (λ a is. other_entry p n at (next_access (accesses h) a) (place_shown (cpu_number r.event.cpu) n r.event.cpu r.outcome h a quiet fits.0 is))
 
 quiet_no_write : (o : Outcome) → IsQuiet o → IsNoWrite o
 quiet_no_write (outcome.Access a) quiet = quiet.0
@@ -146,7 +146,7 @@ quiet_no_write (outcome.Taken x y z) quiet = tt
 quiet_no_write outcome.Done quiet = tt
 quiet_no_write (outcome.Polled x y z) quiet = tt
 
-pub quiet_step : (p : ℕ) (r : Record) (h : List Record) (b : pending.Buffer) → by p r ≡ true → IsQuiet r.outcome → Fitting (r ∷ h) → IsBuffered p h b → IsBuffered p (r ∷ h) b
+pub quiet_step : (p : ℕ) (r : Record) (h : List Record) (b : pending.Buffer) → is_of p r ≡ true → IsQuiet r.outcome → Fitting (r ∷ h) → IsBuffered p h b → IsBuffered p (r ∷ h) b
 quiet_step p r h b own quiet fits was = same_step p r h b fits (rw own (quiet_buffer r.outcome (buffer p h) quiet)) (λ n at. newest_quiet p n at r h (quiet_no_write r.outcome quiet) fits) was
 
 -- an own write barrier
@@ -182,6 +182,6 @@ write_step p e c a s x y h b own takes fits was =
       alike = rw (eq-eqb (cpu_number e.cpu) p own) (alike_stored a s x (line_at a) b (buffer p h) (line_at-number a inside.addressed) takes was.alike);
       bytes = put_each (HasBytesOf p h) (HasBytesOf p (r ∷ h)) b.made b.newest (a / LINE_BYTES) (b.made + 1) n (with_store a s x) (made_by (b.made + 1) b.newest a s x) b.kept was.alike.tidy.order (omega arith) refl was.bytes
           (λ f made number line had. subst (λ k. HasBytesOf p (knows.made_by e (acc c kind.Write a s x y (Entry k)) ∷ h) (with_store a s x f)) number (bytes_merged p e c a s x y h f cpu inside.within made.whole line had))
-          (λ f apart had. bytes_stay p r h f (λ at. newest_same p f.number at r h (λ v is. other_entry p f.number at (next_item (accesses h) v) (let same : acc c kind.Write a s x y (Entry n) ≡ v = cc in subst (λ z. is_entry f.number z.place ≡ false) same (ne_eqb n f.number (λ q. apart (sym q)))))) had)
+          (λ f apart had. bytes_stay p r h f (λ at. newest_same p f.number at r h (λ v is. other_entry p f.number at (next_access (accesses h) v) (let same : acc c kind.Write a s x y (Entry n) ≡ v = cc in subst (λ z. is_entry f.number z.place ≡ false) same (ne_eqb n f.number (λ q. apart (sym q)))))) had)
           (λ next. subst (λ k. HasBytesOf p (knows.made_by e (acc c kind.Write a s x y (Entry k)) ∷ h) (made_by (b.made + 1) b.newest a s x)) next (bytes_made p (b.made + 1) b.newest e c a s x y h cpu inside.within (none_above p (b.made + 1) h (kept h was.fits) (omega (arith, was.alike.made)))));
     }

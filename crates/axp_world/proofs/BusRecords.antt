@@ -20,7 +20,7 @@ use Rattle.axp_access.specs.declared.Outcome.TheVariants as outcome
 use Rattle.axp_access.specs.declared.Place.TheVariants.{At}
 use Rattle.axp_access.specs.declared.Record.{Record}
 use Rattle.axp_access.specs.declared.Wanted.{Wanted}
-use Rattle.axp_cpu.specs.Actors.{Actor, about, asked_by, is_built, outcome_of, request_of}
+use Rattle.axp_cpu.specs.Actors.{Actor, actor_intent, asked_by, is_built, outcome_of, request_of}
 use Rattle.axp_image.specs.Contents.{Contents}
 use Rattle.axp_base.specs.LatePairs.{others}
 use Rattle.axp_line.specs.Lines.{data_of}
@@ -31,18 +31,18 @@ use Rattle.axp_line.specs.declared.messages.Request.TheVariants as request
 use Rattle.axp_base.specs.Blocks.{is_allowed}
 use Rattle.axp_lsu.specs.declared.asks.Ask2.{Ask2}
 use Rattle.axp_lsu.specs.declared.asks.Ask2.TheVariants as ask
-use Rattle.axp_lsu.specs.Asking.{access_ask, act_ask, ask_of, drain_ask, fill_ask, fill_for, may_bring, ready, signal_to, step_ask, take_ask}
+use Rattle.axp_lsu.specs.Asking.{access_ask, act_ask, ask_of, drain_ask, fill_ask, fill_for, may_bring, is_ready, signal_to, step_ask, take_ask}
 use Rattle.axp_lsu.specs.Going as going
-use Rattle.axp_lsu.specs.Keeping.{Kept, copies_of, data_copies, has_dropped, held_pairs}
+use Rattle.axp_lsu.specs.Keeping.{LocalMemory, copies_of, data_copies, has_dropped, held_pairs}
 use Rattle.axp_line.specs.BusCalls as calls
 use Rattle.axp_line.specs.BusCalls.{BusCall}
-use Rattle.axp_line.specs.BusReply.{Front, bus_reply, first_late, front, reply_by, tried}
+use Rattle.axp_line.specs.BusReply.{PortState, bus_reply, first_late, port_state, reply_by, conditional_reply}
 use Rattle.axp_model.specs.Entries.{buffer, oldest}
 use Rattle.axp_model.specs.Late.{late, late_by_own}
-use Rattle.axp_model.specs.Legal.{may_now}
-use Rattle.axp_model.specs.Locks.{lock, lock_by_own, signalled}
+use Rattle.axp_model.specs.Legal.{is_timely}
+use Rattle.axp_model.specs.Locks.{lock, lock_by_own, is_signalled}
 use Rattle.axp_model.specs.Memory.{memory_byte}
-use Rattle.axp_model.specs.Records.{enters, is_turn, signals, turned}
+use Rattle.axp_model.specs.Records.{enters, is_turn, signals, line_of_turn}
 use Rattle.axp_model.specs.Sources.{byte_of_source}
 use Rattle.axp_model.specs.Turns.{turns}
 use Rattle.axp_laws.proofs.SourceClosedForm.{memory_step}
@@ -63,17 +63,17 @@ use Rattle.axp_world.proofs.BusWrites.{drained_memory, entry_line, entry_waits, 
 -- what a request with its answer leaves, its record leaves
 pub record Matches (image : ℕ → ℕ) (e : Event) (o : Outcome) (h : List Record) (q : Request) (a : Reply) : Type 0 where
   pub turn : calls.is_turn a ≡ is_turn o
-  pub line : calls.line_written (calls.wrote q a) ≡ turned o
+  pub line : calls.line_written (calls.write_made q a) ≡ line_of_turn o
   pub late : (b : Bank) → calls.late_by_own b q a (late (cpu_number e.cpu) b h) ≡ late_by_own b o (late (cpu_number e.cpu) b h)
   pub block : (block : Option ℕ) → calls.lock_by_own q block ≡ lock_by_own o block
   pub signal : (p : ℕ) → calls.signals p q ≡ signals p o
-  pub taken : cond (calls.takes_interrupt q) false (signalled (cpu_number e.cpu) h) ≡ cond (enters o) false (signalled (cpu_number e.cpu) h)
-  pub bytes : (first : ℕ → ℕ) (at : ℕ) → calls.overwritten (calls.wrote q a) (memory_byte first h (turns h)) at ≡ memory_byte first (record { event = e; outcome = o } ∷ h) (turns (record { event = e; outcome = o } ∷ h)) at
+  pub taken : cond (calls.takes_interrupt q) false (is_signalled (cpu_number e.cpu) h) ≡ cond (enters o) false (is_signalled (cpu_number e.cpu) h)
+  pub bytes : (first : ℕ → ℕ) (at : ℕ) → calls.overwritten (calls.write_made q a) (memory_byte first h (turns h)) at ≡ memory_byte first (record { event = e; outcome = o } ∷ h) (turns (record { event = e; outcome = o } ∷ h)) at
 
 -- a record that made no call leaves all
 pub record Stays (image : ℕ → ℕ) (e : Event) (o : Outcome) (h : List Record) : Type 0 where
   pub turn : is_turn o ≡ false
-  pub line : turned o ≡ None
+  pub line : line_of_turn o ≡ None
   pub late : (b : Bank) → late_by_own b o (late (cpu_number e.cpu) b h) ≡ late (cpu_number e.cpu) b h
   pub block : (block : Option ℕ) → lock_by_own o block ≡ block
   pub signal : (p : ℕ) → signals p o ≡ false
@@ -93,7 +93,7 @@ abbrev Leads : (ℕ → ℕ) → List BusCall → Event → List Record → (Opt
 Leads image cs e h give z = FitsOutcome (cpu_number e.cpu) (give (answered image cs e z)) h → Follows image cs e (give (answered image cs e z)) h z
 
 -- a record that is no turn leaves memory
-quiet_bytes : (image : ℕ → ℕ) (e : Event) (o : Outcome) (h : List Record) (at : ℕ) → FitsOutcome (cpu_number e.cpu) o h → model.Kept h → is_turn o ≡ false → memory_byte image h (turns h) at ≡ memory_byte image (record { event = e; outcome = o } ∷ h) (turns (record { event = e; outcome = o } ∷ h)) at
+quiet_bytes : (image : ℕ → ℕ) (e : Event) (o : Outcome) (h : List Record) (at : ℕ) → FitsOutcome (cpu_number e.cpu) o h → model.RunFacts h → is_turn o ≡ false → memory_byte image h (turns h) at ≡ memory_byte image (record { event = e; outcome = o } ∷ h) (turns (record { event = e; outcome = o } ∷ h)) at
 quiet_bytes image e o h at fit k none = rw none (ap (byte_of_source image at) (sym (memory_step (turns h) at (record { event = e; outcome = o }) h fit k (omega arith))))
 
 pub some_if : (b : Bool) (x y : Ask2) → cond b (Some x) None ≡ Some y → x ≡ y
@@ -109,7 +109,7 @@ target_by : (v : ℕ) (small : Bool) (tested : ltb v MAX_CPUS ≡ small) (target
 target_by v true tested target is = let same : record { number = v; below = tested } ≡ target = cc in sym (ap cpu_number same)
 target_by v false tested target is = cc
 
-signal_leads : (image : ℕ → ℕ) (cs : List BusCall) (e : Event) (c : Cpu) (a s v : ℕ) (u : Kept) (h : List Record) → model.Kept h → (o : Option Cpu) → cpu_of v ≡ o
+signal_leads : (image : ℕ → ℕ) (cs : List BusCall) (e : Event) (c : Cpu) (a s v : ℕ) (u : LocalMemory) (h : List Record) → model.RunFacts h → (o : Option Cpu) → cpu_of v ≡ o
     → Leads image cs e h (going.step_outcome c (Some (want kind.Signal a s v)) u) (signal_to o)
 unfolding reply_by
 signal_leads image cs e c a s v u h k None is fit = let never : 0 ≡ turns h + 1 = cc in absurd (omega (arith, never))
@@ -126,9 +126,9 @@ signal_leads image cs e c a s v u h k (Some target) is fit =
     }
 
 -- a store-conditional by its answer
-tried_matches : (image : ℕ → ℕ) (f : Front) (e : Event) (c : Cpu) (a s v : ℕ) (armed : Bool) (u : Kept) (h : List Record) → model.Kept h → (success : Bool)
-    → FitsOutcome (cpu_number e.cpu) (going.step_outcome c (Some (want kind.Conditional a s v)) u (Some (tried success f (calls.would_write (request.Conditional a s v armed)) (line_at a)))) h
-    → Matches image e (going.step_outcome c (Some (want kind.Conditional a s v)) u (Some (tried success f (calls.would_write (request.Conditional a s v armed)) (line_at a)))) h (request.Conditional a s v armed) (tried success f (calls.would_write (request.Conditional a s v armed)) (line_at a))
+tried_matches : (image : ℕ → ℕ) (f : PortState) (e : Event) (c : Cpu) (a s v : ℕ) (armed : Bool) (u : LocalMemory) (h : List Record) → model.RunFacts h → (success : Bool)
+    → FitsOutcome (cpu_number e.cpu) (going.step_outcome c (Some (want kind.Conditional a s v)) u (Some (conditional_reply success f (calls.write_asked (request.Conditional a s v armed)) (line_at a)))) h
+    → Matches image e (going.step_outcome c (Some (want kind.Conditional a s v)) u (Some (conditional_reply success f (calls.write_asked (request.Conditional a s v armed)) (line_at a)))) h (request.Conditional a s v armed) (conditional_reply success f (calls.write_asked (request.Conditional a s v armed)) (line_at a))
 tried_matches image f e c a s v armed u h k true fit = record {
   turn = refl;
   line = refl;
@@ -145,14 +145,14 @@ tried_matches image f e c a s v armed u h k false fit = record {
   block = λ block. refl;
   signal = λ p. refl;
   taken = refl;
-  bytes = λ first at. quiet_bytes first e (going.step_outcome c (Some (want kind.Conditional a s v)) u (Some (tried false f (calls.would_write (request.Conditional a s v armed)) (line_at a)))) h at fit k refl;
+  bytes = λ first at. quiet_bytes first e (going.step_outcome c (Some (want kind.Conditional a s v)) u (Some (conditional_reply false f (calls.write_asked (request.Conditional a s v armed)) (line_at a)))) h at fit k refl;
 }
 
 -- the Step of a wanted access, by its kind
-step_leads : (k : Kind) (image : ℕ → ℕ) (cs : List BusCall) (e : Event) (c : Cpu) (a s v : ℕ) (armed : Bool) (u : Kept) (h : List Record) → model.Kept h
+step_leads : (k : Kind) (image : ℕ → ℕ) (cs : List BusCall) (e : Event) (c : Cpu) (a s v : ℕ) (armed : Bool) (u : LocalMemory) (h : List Record) → model.RunFacts h
     → Leads image cs e h (going.step_outcome c (Some (want k a s v)) u) (access_ask k (want k a s v) armed u)
 unfolding reply_by
-step_leads kind.Conditional image cs e c a s v armed u h k fit = tried_matches image (front image cs (cpu_number e.cpu)) e c a s v armed u h k (armed && is_allowed a (calls.register (cpu_number e.cpu) cs)) fit
+step_leads kind.Conditional image cs e c a s v armed u h k fit = tried_matches image (port_state image cs (cpu_number e.cpu)) e c a s v armed u h k (armed && is_allowed a (calls.register (cpu_number e.cpu) cs)) fit
 step_leads kind.Signal image cs e c a s v armed u h k fit = signal_leads image cs e c a s v u h k (cpu_of v) refl fit
 step_leads kind.Fetch image cs e c a s v armed u h k fit = record {
   turn = refl;
@@ -236,7 +236,7 @@ step_leads kind.Console image cs e c a s v armed u h k fit = record {
   bytes = λ first at. quiet_bytes first e (going.step_outcome c (Some (want kind.Console a s v)) u (answered image cs e (ask.Bus (request.Console (v % 2 ^ 8))))) h at fit k refl;
 }
 
-wanted_leads : (boundary : Bool) (o : Option Wanted) (armed : Bool) (image : ℕ → ℕ) (cs : List BusCall) (e : Event) (c : Cpu) (u : Kept) (h : List Record) (z : Ask2) → model.Kept h → step_ask boundary o armed u ≡ Some z
+wanted_leads : (boundary : Bool) (o : Option Wanted) (armed : Bool) (image : ℕ → ℕ) (cs : List BusCall) (e : Event) (c : Cpu) (u : LocalMemory) (h : List Record) (z : Ask2) → model.RunFacts h → step_ask boundary o armed u ≡ Some z
     → Leads image cs e h (going.step_outcome c o u) z
 wanted_leads boundary None armed image cs e c u h z k is =
     subst (Leads image cs e h (going.step_outcome c None u)) (some_if boundary ask.Private z is)
@@ -250,11 +250,11 @@ wanted_leads boundary None armed image cs e c u h z k is =
       bytes = λ first at. quiet_bytes first e outcome.NoAccess h at fit k refl;
     })
 wanted_leads boundary (Some w) armed image cs e c u h z k is =
-    subst (Leads image cs e h (going.step_outcome c (Some w) u)) (some_if (ready w.kind (line_of w.address) u) (access_ask w.kind w armed u) z is)
+    subst (Leads image cs e h (going.step_outcome c (Some w) u)) (some_if (is_ready w.kind (line_of w.address) u) (access_ask w.kind w armed u) z is)
     (step_leads w.kind image cs e c w.address w.size w.value armed u h k)
 
 -- a Fill
-copy_leads : (image : ℕ → ℕ) (cs : List BusCall) (e : Event) (w : Wanted) (h : List Record) → model.Kept h → (line : Line) → Leads image cs e h (going.fill_outcome (Some w)) (ask.Bus (request.Fill line))
+copy_leads : (image : ℕ → ℕ) (cs : List BusCall) (e : Event) (w : Wanted) (h : List Record) → model.RunFacts h → (line : Line) → Leads image cs e h (going.fill_outcome (Some w)) (ask.Bus (request.Fill line))
 unfolding reply_by
 copy_leads image cs e w h k line fit = record {
   turn = refl;
@@ -266,7 +266,7 @@ copy_leads image cs e w h k line fit = record {
   bytes = λ first at. quiet_bytes first e (going.fill_outcome (Some w) (answered image cs e (ask.Bus (request.Fill line)))) h at fit k refl;
 }
 
-code_copy_leads : (image : ℕ → ℕ) (cs : List BusCall) (e : Event) (w : Wanted) (h : List Record) → model.Kept h → (line : Line) → Leads image cs e h (going.fill_outcome (Some w)) (ask.Bus (request.FillCode line))
+code_copy_leads : (image : ℕ → ℕ) (cs : List BusCall) (e : Event) (w : Wanted) (h : List Record) → model.RunFacts h → (line : Line) → Leads image cs e h (going.fill_outcome (Some w)) (ask.Bus (request.FillCode line))
 unfolding reply_by
 code_copy_leads image cs e w h k line fit = record {
   turn = refl;
@@ -278,14 +278,14 @@ code_copy_leads image cs e w h k line fit = record {
   bytes = λ first at. quiet_bytes first e (going.fill_outcome (Some w) (answered image cs e (ask.Bus (request.FillCode line)))) h at fit k refl;
 }
 
-fill_for_leads : (k : Kind) (image : ℕ → ℕ) (cs : List BusCall) (e : Event) (w : Wanted) (u : Kept) (h : List Record) (z : Ask2) → model.Kept h → fill_for k w u ≡ Some z → Leads image cs e h (going.fill_outcome (Some w)) z
+fill_for_leads : (k : Kind) (image : ℕ → ℕ) (cs : List BusCall) (e : Event) (w : Wanted) (u : LocalMemory) (h : List Record) (z : Ask2) → model.RunFacts h → fill_for k w u ≡ Some z → Leads image cs e h (going.fill_outcome (Some w)) z
 fill_for_leads kind.Fetch image cs e w u h z k is =
     subst (Leads image cs e h (going.fill_outcome (Some w))) (some_if (may_bring (line_of w.address) u.code) (ask.Bus (request.FillCode (line_at w.address))) z is) (code_copy_leads image cs e w h k (line_at w.address))
 fill_for_leads kind.Read image cs e w u h z k is =
     subst (Leads image cs e h (going.fill_outcome (Some w))) (some_if (may_bring (line_of w.address) (data_copies (line_of w.address) u)) (ask.Bus (request.Fill (line_at w.address))) z is) (copy_leads image cs e w h k (line_at w.address))
 fill_for_leads _ image cs e w u h z k is = cc
 
-fill_leads : (o : Option Wanted) (image : ℕ → ℕ) (cs : List BusCall) (e : Event) (u : Kept) (h : List Record) (z : Ask2) → model.Kept h → fill_ask o u ≡ Some z → Leads image cs e h (going.fill_outcome o) z
+fill_leads : (o : Option Wanted) (image : ℕ → ℕ) (cs : List BusCall) (e : Event) (u : LocalMemory) (h : List Record) (z : Ask2) → model.RunFacts h → fill_ask o u ≡ Some z → Leads image cs e h (going.fill_outcome o) z
 fill_leads None image cs e u h z k is = cc
 fill_leads (Some w) image cs e u h z k is = fill_for_leads w.kind image cs e w u h z k is
 
@@ -324,7 +324,7 @@ taken_bank Odd Code l is = cc
 taken_bank Code Even l is = refl
 taken_bank Code Odd l is = refl
 
-first_matches : (image : ℕ → ℕ) (e : Event) (bank : Bank) (u : Kept) (h : List Record) → model.Kept h → (pairs : List (Line × ℕ)) → AllByRecursion (InBank bank) pairs → (Some (first_late pairs) ≡ Some reply.Nothing → ⊥)
+first_matches : (image : ℕ → ℕ) (e : Event) (bank : Bank) (u : LocalMemory) (h : List Record) → model.RunFacts h → (pairs : List (Line × ℕ)) → AllByRecursion (InBank bank) pairs → (Some (first_late pairs) ≡ Some reply.Nothing → ⊥)
     → FitsOutcome (cpu_number e.cpu) (going.take_outcome u (Some (first_late pairs))) h → Matches image e (going.take_outcome u (Some (first_late pairs))) h (request.Take bank) (first_late pairs)
 first_matches image e bank u h k [] banked something fit = absurd (something refl)
 first_matches image e bank u h k ((line, turn) ∷ pairs) banked something fit = record {
@@ -337,7 +337,7 @@ first_matches image e bank u h k ((line, turn) ∷ pairs) banked something fit =
   bytes = λ first at. quiet_bytes first e (going.take_outcome u (Some (reply.Late line turn))) h at fit k refl;
 }
 
-take_leads : (bank : Bank) (image : ℕ → ℕ) (cs : List BusCall) (e : Event) (u : Kept) (h : List Record) (z : Ask2) → model.Kept h → ((b : Bank) → calls.late (cpu_number e.cpu) b cs ≡ late (cpu_number e.cpu) b h)
+take_leads : (bank : Bank) (image : ℕ → ℕ) (cs : List BusCall) (e : Event) (u : LocalMemory) (h : List Record) (z : Ask2) → model.RunFacts h → ((b : Bank) → calls.late (cpu_number e.cpu) b cs ≡ late (cpu_number e.cpu) b h)
     → (answered image cs e z ≡ Some reply.Nothing → ⊥) → take_ask bank ≡ Some z → Leads image cs e h (going.take_outcome u) z
 unfolding reply_by
 take_leads Even image cs e u h z k same something is =
@@ -357,7 +357,7 @@ poll_taken true false = refl
 poll_taken false true = refl
 poll_taken false false = refl
 
-poll_leads : (low : Bool) (image : ℕ → ℕ) (cs : List BusCall) (e : Event) (h : List Record) → model.Kept h → calls.pending (cpu_number e.cpu) cs ≡ signalled (cpu_number e.cpu) h → Leads image cs e h (going.poll_outcome low) (ask.Bus (request.Poll low))
+poll_leads : (low : Bool) (image : ℕ → ℕ) (cs : List BusCall) (e : Event) (h : List Record) → model.RunFacts h → calls.pending (cpu_number e.cpu) cs ≡ is_signalled (cpu_number e.cpu) h → Leads image cs e h (going.poll_outcome low) (ask.Bus (request.Poll low))
 unfolding reply_by
 poll_leads low image cs e h k same fit = record {
   turn = refl;
@@ -365,12 +365,12 @@ poll_leads low image cs e h k same fit = record {
   late = λ b. refl;
   block = λ block. refl;
   signal = λ p. refl;
-  taken = poll_taken low (signalled (cpu_number e.cpu) h) ∙ ap (λ b. cond (b && low) false (signalled (cpu_number e.cpu) h)) (sym same);
+  taken = poll_taken low (is_signalled (cpu_number e.cpu) h) ∙ ap (λ b. cond (b && low) false (is_signalled (cpu_number e.cpu) h)) (sym same);
   bytes = λ first at. quiet_bytes first e (going.poll_outcome low (answered image cs e (ask.Bus (request.Poll low)))) h at fit k refl;
 }
 
 -- a Drop or a Tick
-done_leads : (image : ℕ → ℕ) (cs : List BusCall) (e : Event) (h : List Record) → model.Kept h → Leads image cs e h (λ r. outcome.Done) ask.Private
+done_leads : (image : ℕ → ℕ) (cs : List BusCall) (e : Event) (h : List Record) → model.RunFacts h → Leads image cs e h (λ r. outcome.Done) ask.Private
 done_leads image cs e h k fit = record {
   turn = refl;
   line = refl;
@@ -382,7 +382,7 @@ done_leads image cs e h k fit = record {
 }
 
 -- every act
-act_leads : (a : Act) (image : ℕ → ℕ) (cs : List BusCall) (e : Event) (c : Cpu) (i : Intent) (u : Kept) (h : List Record) (z : Ask2) → Fitting h → BufferAgrees (cpu_number e.cpu) h u.buffer → BusAgrees image h cs
+act_leads : (a : Act) (image : ℕ → ℕ) (cs : List BusCall) (e : Event) (c : Cpu) (i : Intent) (u : LocalMemory) (h : List Record) (z : Ask2) → Fitting h → BufferAgrees (cpu_number e.cpu) h u.buffer → BusAgrees image h cs
     → (answered image cs e z ≡ Some reply.Nothing → ⊥) → act_ask a i u ≡ Some z → Leads image cs e h (going.outcome_by a c i u) z
 act_leads act.Step image cs e c i u h z before buffers bus something is = wanted_leads i.boundary i.wanted i.armed image cs e c u h z (kept h before) is
 act_leads act.Fill image cs e c i u h z before buffers bus something is = fill_leads i.wanted image cs e u h z (kept h before) is
@@ -409,7 +409,7 @@ stays_after image cs e o h s bus = record {
       (λ (own : eqb (cpu_number e.cpu) p ≡ true). rw own (bus.block p ∙ sym (s.block (lock p h))))
       (λ (other : eqb (cpu_number e.cpu) p ≡ false). rw other (rw s.line (bus.block p)))
       (cases_Bool (eqb (cpu_number e.cpu) p));
-  requested = λ p. rw (s.signal p) (rw s.taken (bus.requested p ∙ sym (never (eqb (cpu_number e.cpu) p) (signalled p h))));
+  requested = λ p. rw (s.signal p) (rw s.taken (bus.requested p ∙ sym (never (eqb (cpu_number e.cpu) p) (is_signalled p h))));
   bytes = λ first at. bus.bytes first at ∙ s.bytes first at;
 } where
   never : (b s : Bool) → cond (b && false) false s ≡ s
@@ -432,10 +432,10 @@ matches_after image cs e o h q a m bus = record {
       (cases_Bool (eqb (cpu_number e.cpu) p)));
   requested = λ p. rw (bus.requested p, m.signal p)
       (⊎_elim
-      (λ (own : eqb (cpu_number e.cpu) p ≡ true). rw own (ap (cond (signals p o) true) (subst (λ n. cond (calls.takes_interrupt q) false (signalled n h) ≡ cond (enters o) false (signalled n h)) (eqb-true (cpu_number e.cpu) p own) m.taken)))
+      (λ (own : eqb (cpu_number e.cpu) p ≡ true). rw own (ap (cond (signals p o) true) (subst (λ n. cond (calls.takes_interrupt q) false (is_signalled n h) ≡ cond (enters o) false (is_signalled n h)) (eqb-true (cpu_number e.cpu) p own) m.taken)))
       (λ (other : eqb (cpu_number e.cpu) p ≡ false). rw other refl)
       (cases_Bool (eqb (cpu_number e.cpu) p)));
-  bytes = λ first at. ap (λ memory. calls.overwritten (calls.wrote q a) memory at) (λ i x. bus.bytes first x i) ∙ m.bytes first at;
+  bytes = λ first at. ap (λ memory. calls.overwritten (calls.write_made q a) memory at) (λ i x. bus.bytes first x i) ∙ m.bytes first at;
 }
 
 follows_after : (image : ℕ → ℕ) (cs : List BusCall) (e : Event) (o : Outcome) (h : List Record) (z : Ask2) → Follows image cs e o h z → BusAgrees image h cs → BusAgrees image (record { event = e; outcome = o } ∷ h) (calls_for image cs e.cpu (Ok z))
@@ -448,9 +448,9 @@ asked_ok None built z is = cc
 asked_ok (Some q) true z is = cc
 asked_ok (Some q) false z is = cc
 
-pub asked_act : (a : Actor) (e : Act) (z : Ask2) → request_of a e ≡ Ok z → (act_ask e (about a) a.kept ≡ Some z) × (may_now e (about a).finished a.kept.since.filled ≡ true)
+pub asked_act : (a : Actor) (e : Act) (z : Ask2) → request_of a e ≡ Ok z → (act_ask e (actor_intent a) a.kept ≡ Some z) × (is_timely e (actor_intent a).finished a.kept.since.filled ≡ true)
 unfolding request_of ask_of
-asked_act a e z is = chosen (may_now e (about a).finished a.kept.since.filled) (act_ask e (about a) a.kept) (asked_ok (cond (may_now e (about a).finished a.kept.since.filled) (act_ask e (about a) a.kept) None) (is_built e a) z is) where
+asked_act a e z is = chosen (is_timely e (actor_intent a).finished a.kept.since.filled) (act_ask e (actor_intent a) a.kept) (asked_ok (cond (is_timely e (actor_intent a).finished a.kept.since.filled) (act_ask e (actor_intent a) a.kept) None) (is_built e a) z is) where
   chosen : (b : Bool) (o : Option Ask2) → cond b o None ≡ Some z → (o ≡ Some z) × (b ≡ true)
   chosen true o same = (same, refl)
   chosen false o same = cc
@@ -467,9 +467,9 @@ bus_step image cpus budget r h played fit buffers bus =
     let w : World = world image cpus budget h in
     let a : Actor = w.actors (cpu_number r.event.cpu) in
     let s = shown image cpus w r.event r.outcome played in
-    let given : r.outcome ≡ going.outcome_by r.event.act a.cpu (about a) a.kept (answered (image_bytes image) w.calls r.event s.ask) = s.outcome ∙ ap (going.outcome_by r.event.act a.cpu (about a) a.kept) s.answered in
+    let given : r.outcome ≡ going.outcome_by r.event.act a.cpu (actor_intent a) a.kept (answered (image_bytes image) w.calls r.event s.ask) = s.outcome ∙ ap (going.outcome_by r.event.act a.cpu (actor_intent a) a.kept) s.answered in
     let something : answered (image_bytes image) w.calls r.event s.ask ≡ Some reply.Nothing → ⊥ = λ x. s.something (s.answered ∙ x) in
     let follows : Follows (image_bytes image) w.calls r.event r.outcome h s.ask =
     subst (λ o. FitsOutcome (cpu_number r.event.cpu) o h → Follows (image_bytes image) w.calls r.event o h s.ask) (sym given)
-    (act_leads r.event.act (image_bytes image) w.calls r.event a.cpu (about a) a.kept h s.ask fit.1 buffers bus something (asked_act a r.event.act s.ask s.asked).0) fit.0 in
+    (act_leads r.event.act (image_bytes image) w.calls r.event a.cpu (actor_intent a) a.kept h s.ask fit.1 buffers bus something (asked_act a r.event.act s.ask s.asked).0) fit.0 in
     subst (BusAgrees (image_bytes image) (r ∷ h)) (sym (calls_after image w r.event r.outcome s)) (follows_after (image_bytes image) w.calls r.event r.outcome h s.ask follows bus)

@@ -3,7 +3,7 @@
 use Rattle.std.proofs.Common.{◌≡◌, ℕ, zero, suc, ◌+◌, ◌*◌, Bool, true, false, ◌||◌, ⊎_elim, List, [], ◌∷◌, Option, Some, None, is_some, refl, sym, ap, ◌∙◌}
 use Rattle.std.specs.Prelude.{◌==◌}
 use Rattle.std.proofs.lemmas.Bool.{cases_Bool, eq-eqb}
-use Rattle.axp_access.specs.Numbering.{Item}
+use Rattle.axp_access.specs.Numbering.{NumberedAccess}
 use Rattle.axp_access.specs.declared.Record.{Record}
 use Rattle.axp_base.specs.declared.lines.TheConstants.{LINE_BYTES}
 use Rattle.axp_base.specs.declared.parts.TheConstants.{QUADWORD_BYTES}
@@ -26,7 +26,7 @@ ones at = 1
 -- some call wrote the byte at an address, one of the n bytes from it on
 abbrev byte_written : ℕ → List BusCall → Bool
 byte_written at [] = false
-byte_written at (c ∷ cs) = writes_byte at (calls.wrote c.ask c.answer) || byte_written at cs
+byte_written at (c ∷ cs) = writes_byte at (calls.write_made c.ask c.answer) || byte_written at cs
 
 abbrev bytes_written : ℕ → ℕ → List BusCall → Bool
 bytes_written at zero cs = false
@@ -43,17 +43,17 @@ none_first : (at n : ℕ) → bytes_written at n [] ≡ false
 none_first at zero = refl
 none_first at (suc n) = rw (none_first at n) refl
 
-one_call_more : (at n : ℕ) (c : BusCall) (cs : List BusCall) → (writes_bytes at n (calls.wrote c.ask c.answer) || bytes_written at n cs) ≡ bytes_written at n (c ∷ cs)
+one_call_more : (at n : ℕ) (c : BusCall) (cs : List BusCall) → (writes_bytes at n (calls.write_made c.ask c.answer) || bytes_written at n cs) ≡ bytes_written at n (c ∷ cs)
 one_call_more at zero c cs = refl
 one_call_more at (suc n) c cs =
-    or_swap (writes_bytes at n (calls.wrote c.ask c.answer)) (writes_byte (at + n) (calls.wrote c.ask c.answer)) (bytes_written at n cs) (byte_written (at + n) cs)
-    ∙ ap (λ b. b || (writes_byte (at + n) (calls.wrote c.ask c.answer) || byte_written (at + n) cs)) (one_call_more at n c cs)
+    or_swap (writes_bytes at n (calls.write_made c.ask c.answer)) (writes_byte (at + n) (calls.write_made c.ask c.answer)) (bytes_written at n cs) (byte_written (at + n) cs)
+    ∙ ap (λ b. b || (writes_byte (at + n) (calls.write_made c.ask c.answer) || byte_written (at + n) cs)) (one_call_more at n c cs)
 
 touched_by_bytes : (q : ℕ) (cs : List BusCall) → calls.is_touched q cs ≡ bytes_written (q * QUADWORD_BYTES) QUADWORD_BYTES cs
 touched_by_bytes q [] = sym (none_first (q * QUADWORD_BYTES) QUADWORD_BYTES)
 touched_by_bytes q (c ∷ cs) =
-    ap (λ b. b || calls.is_touched q cs) (reached_by_bytes q (calls.wrote c.ask c.answer))
-    ∙ ap (λ b. writes_bytes (q * QUADWORD_BYTES) QUADWORD_BYTES (calls.wrote c.ask c.answer) || b) (touched_by_bytes q cs)
+    ap (λ b. b || calls.is_touched q cs) (reached_by_bytes q (calls.write_made c.ask c.answer))
+    ∙ ap (λ b. writes_bytes (q * QUADWORD_BYTES) QUADWORD_BYTES (calls.write_made c.ask c.answer) || b) (touched_by_bytes q cs)
     ∙ one_call_more (q * QUADWORD_BYTES) QUADWORD_BYTES c cs
 
 -- a written byte does not depend on what was there
@@ -70,9 +70,9 @@ wrote_over (Some w) at f g older same =
 
 byte_by_memory : (at : ℕ) (cs : List BusCall) → byte_written at cs ≡ (calls.memory zeros cs at == calls.memory ones cs at)
 byte_by_memory at [] = refl
-byte_by_memory at (c ∷ cs) = wrote_over (calls.wrote c.ask c.answer) at (calls.memory zeros cs) (calls.memory ones cs) (byte_written at cs) (byte_by_memory at cs)
+byte_by_memory at (c ∷ cs) = wrote_over (calls.write_made c.ask c.answer) at (calls.memory zeros cs) (calls.memory ones cs) (byte_written at cs) (byte_by_memory at cs)
 
-source_by_memory : (o : Option Item) (at : ℕ) → (byte_of_source zeros at o == byte_of_source ones at o) ≡ is_some o
+source_by_memory : (o : Option NumberedAccess) (at : ℕ) → (byte_of_source zeros at o == byte_of_source ones at o) ≡ is_some o
 source_by_memory None at = refl
 source_by_memory (Some u) at = sym (same_itself _)
 

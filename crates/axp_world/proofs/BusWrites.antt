@@ -22,14 +22,14 @@ use Rattle.axp_model.specs.Entries.{Waiting, buffer}
 use Rattle.axp_model.specs.Memory.{memory_source, memory_byte}
 use Rattle.axp_model.specs.Processors.{IsInLine}
 use Rattle.axp_model.specs.Accesses.{accesses, times}
-use Rattle.axp_access.specs.Numbering.{Item}
+use Rattle.axp_access.specs.Numbering.{NumberedAccess}
 use Rattle.axp_access.specs.Kinds.{has_byte, is_memory_write}
 use Rattle.axp_model.specs.Sources.{byte_of_source}
 use Rattle.axp_model.specs.Turns.{turns}
 use Rattle.axp_laws.proofs.SourceClosedForm.{byte_line, find_some}
 use Rattle.axp_laws.proofs.OrderDrains.{entry_write}
 use Rattle.axp_laws.proofs.RunRecords.{line_at-number}
-use Rattle.axp_laws.proofs.RunFacts.{Fitting, Goes, KnownItem, Kept, Named}
+use Rattle.axp_laws.proofs.RunFacts.{Fitting, Goes, KnownItem, RunFacts, Named}
 use Rattle.axp_laws.proofs.SourceTurns.{named_line}
 use Rattle.axp_laws.proofs.RunSteps.{kept}
 use Rattle.axp_wbuf.specs.Pending.{Pending}
@@ -82,7 +82,7 @@ store_test a at inside =
           (λ (none : has_byte at a ≡ false). none)
           (cases_Bool (has_byte at a))
 
-pub stored_memory : (image : ℕ → ℕ) (e : Event) (a : Access) (h : List Record) (at : ℕ) → IsInLine a.address a.size → Kept h → is_memory_write a ≡ true → a.place ≡ At (turns h + 1)
+pub stored_memory : (image : ℕ → ℕ) (e : Event) (a : Access) (h : List Record) (at : ℕ) → IsInLine a.address a.size → RunFacts h → is_memory_write a ≡ true → a.place ≡ At (turns h + 1)
     → overwritten (Some (store_of a)) (memory_byte image h (turns h)) at ≡ memory_byte image (record { event = e; outcome = outcome.Access a } ∷ h) (turns h + 1) at
 stored_memory image e a h at inside k write place =
     ⊎_elim
@@ -127,14 +127,14 @@ abbrev pub drain_of : Pending → Written
 drain_of e = record { line = line_numbered e.line; bits = e.bits; bytes = bytes_of_line (data_of e.bytes) }
 
 -- a write of the entry that a drain names is in the drain's line
-drained_line : (p n l at : ℕ) (h : List Record) (u : Item) → Kept h → Named n l (buffer p h).waiting → KnownItem h u → went_into p n at u ≡ true → line_of at ≡ l
+drained_line : (p n l at : ℕ) (h : List Record) (u : NumberedAccess) → RunFacts h → Named n l (buffer p h).waiting → KnownItem h u → went_into p n at u ≡ true → line_of at ≡ l
 drained_line p n l at h u k named known went =
     let parts = went_parts p n at u went in
     let write = entry_write u.access.kind u.access.cpu.number (line_of u.access.address) u.parts n h (rw parts.0.1 at known.known) in
     let goes : Goes p (line_of u.access.address) u.parts (Entry n) h = rw (write, parts.0.1, parts.0.0) at known.known in
     byte_line at u.access known.inside parts.2 ∙ sym (named_line p n l (line_of u.access.address) u.parts h named k goes)
 
-drain_by : (image : ℕ → ℕ) (p : ℕ) (e : Pending) (h : List Record) (at : ℕ) → Kept h → Named e.number e.line (buffer p h).waiting → HasBytesOf p h e → (o : Option Item) → newest_in p e.number at h ≡ o
+drain_by : (image : ℕ → ℕ) (p : ℕ) (e : Pending) (h : List Record) (at : ℕ) → RunFacts h → Named e.number e.line (buffer p h).waiting → HasBytesOf p h e → (o : Option NumberedAccess) → newest_in p e.number at h ≡ o
     → cond (eqb (line_of at) e.line && has_bit e.bits (at % LINE_BYTES)) (slice_index e.bytes (at % LINE_BYTES)) (memory_byte image h (turns h) at) ≡ byte_of_source image at (option_or o (memory_source (times h) (turns h) at (accesses h)))
 drain_by image p e h at k named bytes None found =
     ⊎_elim

@@ -13,13 +13,13 @@ use Rattle.axp_line.specs.BusCalls.{BusCall}
 use Rattle.axp_access.specs.Acts.{is_step}
 use Rattle.axp_lsu.specs.Asking.{act_ask}
 use Rattle.axp_lsu.specs.Going as going
-use Rattle.axp_lsu.specs.Going.{kept_after}
-use Rattle.axp_lsu.specs.Keeping.{Kept, has_dropped, with_drop}
+use Rattle.axp_lsu.specs.Going.{after_act}
+use Rattle.axp_lsu.specs.Keeping.{LocalMemory, has_dropped, with_drop}
 use Rattle.axp_lsu.specs.declared.asks.Ask2.{Ask2}
 use Rattle.axp_lsu.specs.declared.since.Since.{Since}
-use Rattle.axp_cpu.specs.Actors.{Actor, about, advanced, is_built, moved_by, request_of, seat_after, step_built}
+use Rattle.axp_cpu.specs.Actors.{Actor, actor_intent, advanced, is_built, moved_by, request_of, seat_after, step_built}
 use Rattle.axp_cpu.specs.Plans.{Plan, End, Want, Unbuilt}
-use Rattle.axp_cpu.specs.Seats.{Seat, moved}
+use Rattle.axp_cpu.specs.Seats.{Seat, seat_at_plan}
 use Rattle.axp_world.specs.Worlds.{reply_for}
 use Rattle.axp_world.proofs.AskedActs.{IsAllowed, allowed, is_asked}
 use Rattle.axp_world.proofs.CountCalls.{turned, turned_most}
@@ -85,7 +85,7 @@ pub record IsBounded (most : ℕ) (a : Actor) (t : Tally) (own : ℕ) : Type 0 w
   pub turned : own + length a.kept.buffer.kept ≤ t.steps
 
 -- a Step is counted, and no other act
-moved_steps : (s : Seat) (values : List ℕ) (plan : Plan) → ((moved s values plan).budget ≡ s.budget) × ((moved s values plan).steps ≡ s.steps + 1)
+moved_steps : (s : Seat) (values : List ℕ) (plan : Plan) → ((seat_at_plan s values plan).budget ≡ s.budget) × ((seat_at_plan s values plan).steps ≡ s.steps + 1)
 moved_steps s values (End t) = (refl, refl)
 moved_steps s values (Want w k) = (refl, refl)
 moved_steps s values Unbuilt = (refl, refl)
@@ -95,7 +95,7 @@ step_moves None r a built = cc
 step_moves (Some w) r a built = moved_steps a.seat _ _
 
 seat_moves : (e : Act) (r : Option Reply) (a : Actor) → is_built e a ≡ true → ((seat_after e r a).budget ≡ a.seat.budget) × ((seat_after e r a).steps ≡ a.seat.steps + cond (is_step e) 1 0)
-seat_moves act.Step r a built = step_moves (about a).wanted r a built
+seat_moves act.Step r a built = step_moves (actor_intent a).wanted r a built
 seat_moves act.Fill r a built = (refl, omega arith)
 seat_moves (act.Drain k) r a built = (refl, omega arith)
 seat_moves (act.Take b) r a built = (refl, omega arith)
@@ -108,7 +108,7 @@ pub record AreDrained (t : Tally) (own entries : ℕ) : Type 0 where
   pub drained : t.drains + entries ≤ t.steps
   pub turned : own + entries ≤ t.steps
 
-aside_buffer : (e : Act) (i : Intent) (r : Option Reply) (u : Kept) → is_aside e ≡ true → length (kept_after e i r u).buffer.kept ≡ length u.buffer.kept
+aside_buffer : (e : Act) (i : Intent) (r : Option Reply) (u : LocalMemory) → is_aside e ≡ true → length (after_act e i r u).buffer.kept ≡ length u.buffer.kept
 aside_buffer act.Step i r u aside = cc
 aside_buffer act.Fill i r u aside = ap (λ b. length b.kept) (filled_same i.wanted r u)
 aside_buffer (act.Drain k) i r u aside = cc
@@ -131,15 +131,15 @@ aside_counts (act.Drop b line) t aside = drop_counts b t
 aside_counts act.Poll t aside = (refl, refl)
 aside_counts act.Tick t aside = (refl, refl)
 
-aside_drained : (image : ℕ → ℕ) (cs : List BusCall) (p : ℕ) (e : Act) (i : Intent) (u : Kept) (q : Ask2) (t : Tally) (own : ℕ) → is_aside e ≡ true → act_ask e i u ≡ Some q → AreDrained t own (length u.buffer.kept)
-    → AreDrained (counted e t) (own + turned (reply_for image cs p (Ok q))) (length (kept_after e i (reply_for image cs p (Ok q)) u).buffer.kept)
+aside_drained : (image : ℕ → ℕ) (cs : List BusCall) (p : ℕ) (e : Act) (i : Intent) (u : LocalMemory) (q : Ask2) (t : Tally) (own : ℕ) → is_aside e ≡ true → act_ask e i u ≡ Some q → AreDrained t own (length u.buffer.kept)
+    → AreDrained (counted e t) (own + turned (reply_for image cs p (Ok q))) (length (after_act e i (reply_for image cs p (Ok q)) u).buffer.kept)
 aside_drained image cs p e i u q t own aside asks was =
     let counts = aside_counts e t aside in
     let same = aside_buffer e i (reply_for image cs p (Ok q)) u aside in
     record { drained = omega (arith, was.drained, counts.0, counts.1, same); turned = omega (arith, was.turned, counts.0, same, aside_quiet image cs p e i u q aside asks) }
 
-are_drained : (image : ℕ → ℕ) (cs : List BusCall) (p : ℕ) (e : Act) (i : Intent) (u : Kept) (q : Ask2) (t : Tally) (own : ℕ) → act_ask e i u ≡ Some q → AreDrained t own (length u.buffer.kept)
-    → AreDrained (counted e t) (own + turned (reply_for image cs p (Ok q))) (length (kept_after e i (reply_for image cs p (Ok q)) u).buffer.kept)
+are_drained : (image : ℕ → ℕ) (cs : List BusCall) (p : ℕ) (e : Act) (i : Intent) (u : LocalMemory) (q : Ask2) (t : Tally) (own : ℕ) → act_ask e i u ≡ Some q → AreDrained t own (length u.buffer.kept)
+    → AreDrained (counted e t) (own + turned (reply_for image cs p (Ok q))) (length (after_act e i (reply_for image cs p (Ok q)) u).buffer.kept)
 are_drained image cs p act.Step i u q t own asks was =
     let one = stepped_one i.wanted i.boundary i.armed (reply_for image cs p (Ok q)) u q asks (λ private. subst (λ x. IsQuiet image cs p x) (sym private) refl) in
     record { drained = omega (arith, was.drained, one.entries); turned = omega (arith, was.turned, one.turns) }
@@ -160,11 +160,11 @@ bounded_after image cs p most a e q t own requested was =
     let asked = is_asked a e q requested in
     let seat = seat_moves e r a asked.built in
     let free = subst (λ n. IsAllowed e most n a.kept.since) was.made (subst (λ n. IsAllowed e n a.seat.steps a.kept.since) was.limit (allowed a e q asked)) in
-    let entries = are_drained image cs p e (about a) a.kept q t own asked.asks (record { drained = was.drained; turned = was.turned }) in
+    let entries = are_drained image cs p e (actor_intent a) a.kept q t own asked.asks (record { drained = was.drained; turned = was.turned }) in
     record {
       limit = seat.0 ∙ was.limit;
       made = omega (arith, seat.1, was.made, counts_steps e t);
-      marked = subst (λ s. AreFew most (counted e t) s) (sym (since_is e (about a) r a.kept)) (acts_few e most t a.kept.since free was.marked);
+      marked = subst (λ s. AreFew most (counted e t) s) (sym (since_is e (actor_intent a) r a.kept)) (acts_few e most t a.kept.since free was.marked);
       drained = entries.drained;
       turned = entries.turned;
     }

@@ -16,7 +16,7 @@ use Rattle.axp_line.specs.declared.messages.Request.{Request}
 use Rattle.axp_line.specs.declared.messages.Request.TheVariants as request
 use Rattle.axp_lsu.specs.declared.asks.Ask2.{Ask2}
 use Rattle.axp_lsu.specs.declared.asks.Ask2.TheVariants as ask
-use Rattle.axp_line.specs.BusCalls.{BusCall, is_turn, turns, late, late_by_own, line_written, would_write, wrote}
+use Rattle.axp_line.specs.BusCalls.{BusCall, is_turn, turns, late, late_by_own, line_written, write_asked, write_made}
 use Rattle.axp_line.specs.BusReply.{bus_reply}
 use Rattle.axp_world.specs.Worlds.{calls_for, reply_for}
 
@@ -102,9 +102,9 @@ unfolding some_line
 some_most None = omega arith
 some_most (Some line) = omega arith
 
-line_turned : (m : Request) (r : Reply) → some_line (line_written (wrote m r)) ≤ turned (Some r)
+line_turned : (m : Request) (r : Reply) → some_line (line_written (write_made m r)) ≤ turned (Some r)
 unfolding some_line
-line_turned m (reply.Stored turn bytes) = some_most (line_written (would_write m))
+line_turned m (reply.Stored turn bytes) = some_most (line_written (write_asked m))
 line_turned m _ = omega arith
 
 pub pairs_other : (image : ℕ → ℕ) (cs : List BusCall) (cpu : Cpu) (p : ℕ) (q : Ask2) → eqb (cpu_number cpu) p ≡ false
@@ -112,4 +112,4 @@ pub pairs_other : (image : ℕ → ℕ) (cs : List BusCall) (cpu : Cpu) (p : ℕ
 pairs_other image cs cpu p ask.Private other = omega arith
 pairs_other image cs cpu p (ask.Bus m) other =
     let r = bus_reply image cs (cpu_number cpu) m in
-    rw other (omega (arith, other_more (line_written (wrote m r)) (turns cs + 1) (late p Even cs) (late p Odd cs), line_turned m r))
+    rw other (omega (arith, other_more (line_written (write_made m r)) (turns cs + 1) (late p Even cs) (late p Odd cs), line_turned m r))

@@ -19,9 +19,9 @@ use Rattle.axp_access.specs.declared.Outcome.{Outcome}
 use Rattle.axp_access.specs.declared.Record.{Record}
 use Rattle.axp_line.specs.BusCalls.{BusCall, turns}
 use Rattle.axp_access.specs.Acts.{is_step}
-use Rattle.axp_model.specs.Records.{by}
+use Rattle.axp_model.specs.Records.{is_of}
 use Rattle.axp_lsu.specs.Asking.{act_ask}
-use Rattle.axp_lsu.specs.Keeping.{Kept}
+use Rattle.axp_lsu.specs.Keeping.{LocalMemory}
 use Rattle.axp_lsu.specs.declared.asks.Ask2.{Ask2}
 use Rattle.axp_cpu.specs.Actors.{Actor, advanced, request_of}
 use Rattle.axp_world.specs.Lengths.{events_per_step, steps_in, steps_of}
@@ -82,7 +82,7 @@ bounded_as : (most : ℕ) (a b : Actor) (t u : Tally) (m n : ℕ) → b ≡ a �
 bounded_as most a b t u m n actor acts turned was =
     subst (λ x. IsBounded most x u n) (sym actor) (subst (λ x. IsBounded most a x n) (sym acts) (subst (λ x. IsBounded most a t x) (sym turned) was))
 
-bounded_own : (image : Contents) (w : World) (r : Record) (h : List Record) (most p : ℕ) (s : Shown image w r.event r.outcome) → by p r ≡ true → IsBounded most (w.actors p) (tally p h) (own_turns p w.calls)
+bounded_own : (image : Contents) (w : World) (r : Record) (h : List Record) (most p : ℕ) (s : Shown image w r.event r.outcome) → is_of p r ≡ true → IsBounded most (w.actors p) (tally p h) (own_turns p w.calls)
     → IsBounded most ((after_event image w r.event).actors p) (tally p (r ∷ h)) (own_turns p (calls_for (image_bytes image) w.calls r.event.cpu (Ok s.ask)))
 bounded_own image w r h most p s own was =
     let at = eqb-true (cpu_number r.event.cpu) p own in
@@ -93,7 +93,7 @@ bounded_own image w r h most p s own was =
     (own_after (image_bytes image) w.calls r.event.cpu p s.ask own)
     (bounded_after (image_bytes image) w.calls (cpu_number r.event.cpu) most (w.actors p) r.event.act s.ask (tally p h) (own_turns p w.calls) asked was)
 
-bounded_other : (image : Contents) (w : World) (r : Record) (h : List Record) (most p : ℕ) (s : Shown image w r.event r.outcome) → by p r ≡ false → IsBounded most (w.actors p) (tally p h) (own_turns p w.calls)
+bounded_other : (image : Contents) (w : World) (r : Record) (h : List Record) (most p : ℕ) (s : Shown image w r.event r.outcome) → is_of p r ≡ false → IsBounded most (w.actors p) (tally p h) (own_turns p w.calls)
     → IsBounded most ((after_event image w r.event).actors p) (tally p (r ∷ h)) (own_turns p (calls_for (image_bytes image) w.calls r.event.cpu (Ok s.ask)))
 bounded_other image w r h most p s other was =
     bounded_as most _ _ _ _ _ _ (actor_other image w r.event p other) (tally_other p r h other) (other_after (image_bytes image) w.calls r.event.cpu p s.ask other) was
@@ -104,13 +104,13 @@ drop_takes Even t = refl
 drop_takes Odd t = refl
 drop_takes Code t = refl
 
-own_takes : (image : ℕ → ℕ) (cs : List BusCall) (cpu : Cpu) (e : Act) (i : Intent) (u : Kept) (q : Ask2) (t : Tally) → act_ask e i u ≡ Some q → (reply_for image cs (cpu_number cpu) (Ok q) ≡ Some reply.Nothing → ⊥)
+own_takes : (image : ℕ → ℕ) (cs : List BusCall) (cpu : Cpu) (e : Act) (i : Intent) (u : LocalMemory) (q : Ask2) (t : Tally) → act_ask e i u ≡ Some q → (reply_for image cs (cpu_number cpu) (Ok q) ≡ Some reply.Nothing → ⊥)
     → (counted e t).takes + pairs (cpu_number cpu) (calls_for image cs cpu (Ok q)) ≤ t.takes + pairs (cpu_number cpu) cs
 own_takes image cs cpu (act.Take b) i u q t asks some = omega (arith, pairs_taken image cs cpu b q asks some)
 own_takes image cs cpu (act.Drop b line) i u q t asks some = omega (arith, drop_takes b t, pairs_own image cs cpu (cpu_number cpu) q (eq-eqb (cpu_number cpu) (cpu_number cpu) refl))
 own_takes image cs cpu _ i u q t asks some = omega (arith, pairs_own image cs cpu (cpu_number cpu) q (eq-eqb (cpu_number cpu) (cpu_number cpu) refl))
 
-taken_own : (image : Contents) (w : World) (r : Record) (h : List Record) (p : ℕ) (s : Shown image w r.event r.outcome) → by p r ≡ true → AreTaken p (tally p h).takes w.calls
+taken_own : (image : Contents) (w : World) (r : Record) (h : List Record) (p : ℕ) (s : Shown image w r.event r.outcome) → is_of p r ≡ true → AreTaken p (tally p h).takes w.calls
     → AreTaken p (tally p (r ∷ h)).takes (calls_for (image_bytes image) w.calls r.event.cpu (Ok s.ask))
 taken_own image w r h p s own was =
     let bytes = image_bytes image in
@@ -121,7 +121,7 @@ taken_own image w r h p s own was =
     (own_takes bytes w.calls r.event.cpu r.event.act _ _ s.ask (tally p h) asks some) in
     rw (tally_own p r h own) (omega (arith, was, takes, own_after bytes w.calls r.event.cpu p s.ask own, turns_after bytes w.calls r.event.cpu s.ask))
 
-taken_other : (image : Contents) (w : World) (r : Record) (h : List Record) (p : ℕ) (s : Shown image w r.event r.outcome) → by p r ≡ false → AreTaken p (tally p h).takes w.calls
+taken_other : (image : Contents) (w : World) (r : Record) (h : List Record) (p : ℕ) (s : Shown image w r.event r.outcome) → is_of p r ≡ false → AreTaken p (tally p h).takes w.calls
     → AreTaken p (tally p (r ∷ h)).takes (calls_for (image_bytes image) w.calls r.event.cpu (Ok s.ask))
 taken_other image w r h p s other was =
     let bytes = image_bytes image in
@@ -142,13 +142,13 @@ counted_after image cpus budget w r h below s was =
     subst (λ cs. IsCounted cpus budget (after_event image w r.event).actors cs (r ∷ h)) (sym (calls_after image w r.event r.outcome s))
     (record {
       bounded = λ p. ⊎_elim
-          (λ (mine : by p r ≡ true). bounded_own image w r h budget p s mine (was.bounded p))
-          (λ (other : by p r ≡ false). bounded_other image w r h budget p s other (was.bounded p))
-          (cases_Bool (by p r));
+          (λ (mine : is_of p r ≡ true). bounded_own image w r h budget p s mine (was.bounded p))
+          (λ (other : is_of p r ≡ false). bounded_other image w r h budget p s other (was.bounded p))
+          (cases_Bool (is_of p r));
       taken = λ p. ⊎_elim
-          (λ (mine : by p r ≡ true). taken_own image w r h p s mine (was.taken p))
-          (λ (other : by p r ≡ false). taken_other image w r h p s other (was.taken p))
-          (cases_Bool (by p r));
+          (λ (mine : is_of p r ≡ true). taken_own image w r h p s mine (was.taken p))
+          (λ (other : is_of p r ≡ false). taken_other image w r h p s other (was.taken p))
+          (cases_Bool (is_of p r));
       events = omega (arith, was.events, sum_raised (λ p. total (tally p h)) (λ p. total (tally p (r ∷ h))) cpu 1 cpus below (ap total its ∙ counts_once r.event.act (tally cpu h)) (λ p other. ap total (tally_other p r h other)));
       steps = omega (arith, was.steps, more_if (is_step r.event.act) (steps_in h), sum_raised (λ p. (tally p h).steps) (λ p. (tally p (r ∷ h)).steps) cpu (cond (is_step r.event.act) 1 0) cpus below (ap (λ t. t.steps) its ∙ counts_steps r.event.act (tally cpu h)) (λ p other. ap (λ t. t.steps) (tally_other p r h other)));
       turned = omega (arith, was.turned, turns_after bytes w.calls r.event.cpu s.ask, sum_raised (λ p. own_turns p w.calls) (λ p. own_turns p (calls_for bytes w.calls r.event.cpu (Ok s.ask))) cpu (turned (reply_for bytes w.calls cpu (Ok s.ask))) cpus below (own_after bytes w.calls r.event.cpu cpu s.ask own) (λ p other. other_after bytes w.calls r.event.cpu p s.ask other));

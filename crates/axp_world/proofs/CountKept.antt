@@ -19,8 +19,8 @@ use Rattle.axp_wbuf.specs.Drains.{oldest_group, without}
 use Rattle.axp_wbuf.specs.Pending.{Buffer, Pending, is_at, put_into}
 use Rattle.axp_wbuf.proofs.Fronts.{oldest_inside}
 use Rattle.axp_lsu.specs.Asking.{access_ask, drain_ask, step_ask}
-use Rattle.axp_lsu.specs.Going.{accessed, brought, delivered, drained, fenced, filled, kept_after, rewritten, stepped}
-use Rattle.axp_lsu.specs.Keeping.{Kept, nothing, with_copies, with_drop}
+use Rattle.axp_lsu.specs.Going.{after_access, after_line, after_late, after_drain, after_barrier, after_fill, after_act, after_stored, after_step}
+use Rattle.axp_lsu.specs.Keeping.{LocalMemory, nothing, with_copies, with_drop}
 use Rattle.axp_lsu.specs.declared.asks.Ask2.{Ask2}
 use Rattle.axp_lsu.specs.declared.asks.Ask2.TheVariants as ask
 use Rattle.axp_lsu.specs.declared.since.Since.{Since}
@@ -28,32 +28,32 @@ use Rattle.axp_world.proofs.AskedActs.{some_if}
 use Rattle.axp_world.proofs.CountCalls.{turned, turned_most}
 
 -- copies alone are changed
-pub record IsSameBut (u v : Kept) : Type 0 where
+pub record IsSameBut (u v : LocalMemory) : Type 0 where
   pub buffer : v.buffer ≡ u.buffer
   pub since : v.since ≡ u.since
 
-pub copies_same : (b : Bank) (cs : List LineCopy) (u : Kept) → IsSameBut u (with_copies b cs u)
+pub copies_same : (b : Bank) (cs : List LineCopy) (u : LocalMemory) → IsSameBut u (with_copies b cs u)
 copies_same Even cs u = record { buffer = refl; since = refl }
 copies_same Odd cs u = record { buffer = refl; since = refl }
 copies_same Code cs u = record { buffer = refl; since = refl }
 
-brought_same : (b : Bank) (line : Line) (r : Option Reply) (u : Kept) → IsSameBut u (brought b line r u)
+brought_same : (b : Bank) (line : Line) (r : Option Reply) (u : LocalMemory) → IsSameBut u (after_line b line r u)
 brought_same b line (Some (reply.Line turn bytes)) u = copies_same b _ u
 brought_same b line _ u = record { buffer = refl; since = refl }
 
-rewritten_same : (line : Line) (r : Option Reply) (u : Kept) → IsSameBut u (rewritten line r u)
+rewritten_same : (line : Line) (r : Option Reply) (u : LocalMemory) → IsSameBut u (after_stored line r u)
 rewritten_same line (Some (reply.Stored turn bytes)) u = copies_same (data_bank (line_number line)) _ u
 rewritten_same line _ u = record { buffer = refl; since = refl }
 
-fenced_same : (r : Option Reply) (u : Kept) → IsSameBut u (fenced r u)
+fenced_same : (r : Option Reply) (u : LocalMemory) → IsSameBut u (after_barrier r u)
 fenced_same (Some (reply.Barrier turn gone)) u = record { buffer = refl; since = refl }
 fenced_same _ u = record { buffer = refl; since = refl }
 
-pub delivered_same : (r : Option Reply) (u : Kept) → IsSameBut u (delivered r u)
+pub delivered_same : (r : Option Reply) (u : LocalMemory) → IsSameBut u (after_late r u)
 delivered_same (Some (reply.Late line turn)) u = copies_same (data_bank (line_number line)) _ u
 delivered_same _ u = record { buffer = refl; since = refl }
 
-pub filled_same : (o : Option Wanted) (r : Option Reply) (u : Kept) → (filled o r u).buffer ≡ u.buffer
+pub filled_same : (o : Option Wanted) (r : Option Reply) (u : LocalMemory) → (after_fill o r u).buffer ≡ u.buffer
 filled_same None r u = refl
 filled_same (Some w) r u = (brought_same _ _ r u).buffer
 
@@ -77,8 +77,8 @@ one_same r b c same =
     let long = ap (λ b. length b.kept) same in
     record { entries = omega (arith, long); turns = omega (arith, long, turned_most r) }
 
-accessed_one : (k : Kind) (w : Wanted) (armed : Bool) (r : Option Reply) (u : Kept) → (access_ask k w armed u ≡ ask.Private → turned r ≡ 0)
-    → IsOneMore r (length u.buffer.kept) (length (accessed k w r u).buffer.kept)
+accessed_one : (k : Kind) (w : Wanted) (armed : Bool) (r : Option Reply) (u : LocalMemory) → (access_ask k w armed u ≡ ask.Private → turned r ≡ 0)
+    → IsOneMore r (length u.buffer.kept) (length (after_access k w r u).buffer.kept)
 accessed_one kind.Write w armed r u quiet =
     let few = put_few _ _ _ _ u.buffer.kept in
     record { entries = few; turns = omega (arith, few, quiet refl) }
@@ -86,18 +86,18 @@ accessed_one kind.WriteBarrier w armed r u quiet = record { entries = omega arit
 accessed_one kind.Locked w armed r u quiet = one_same r u.buffer _ (brought_same _ _ r u).buffer
 accessed_one kind.Conditional w armed r u quiet = one_same r u.buffer _ (rewritten_same _ r u).buffer
 accessed_one kind.Barrier w armed r u quiet = one_same r u.buffer _ (fenced_same r u).buffer
-accessed_one kind.CodeBarrier w armed r u quiet = one_same r u.buffer (fenced r u).buffer (fenced_same r u).buffer
+accessed_one kind.CodeBarrier w armed r u quiet = one_same r u.buffer (after_barrier r u).buffer (fenced_same r u).buffer
 accessed_one _ w armed r u quiet = one_same r u.buffer u.buffer refl
 
-pub stepped_one : (o : Option Wanted) (boundary armed : Bool) (r : Option Reply) (u : Kept) (q : Ask2) → step_ask boundary o armed u ≡ Some q → (q ≡ ask.Private → turned r ≡ 0)
-    → IsOneMore r (length u.buffer.kept) (length (stepped o r u).buffer.kept)
+pub stepped_one : (o : Option Wanted) (boundary armed : Bool) (r : Option Reply) (u : LocalMemory) (q : Ask2) → step_ask boundary o armed u ≡ Some q → (q ≡ ask.Private → turned r ≡ 0)
+    → IsOneMore r (length u.buffer.kept) (length (after_step o r u).buffer.kept)
 stepped_one None boundary armed r u q asks quiet = one_same r u.buffer u.buffer refl
 stepped_one (Some w) boundary armed r u q asks quiet =
     accessed_one w.kind w armed r u (λ private. quiet (sym (same_Some (access_ask w.kind w armed u) q (some_if _ (Some (access_ask w.kind w armed u)) q asks).1) ∙ private))
 
 -- a Drain takes one entry away
-pub drained_one : (k : ℕ) (o : Option Pending) (r : Option Reply) (u : Kept) (q : Ask2) → slice_get (oldest_group u.buffer.kept) k ≡ o → drain_ask o ≡ Some q
-    → length (drained k o r u).buffer.kept + 1 ≡ length u.buffer.kept
+pub drained_one : (k : ℕ) (o : Option Pending) (r : Option Reply) (u : LocalMemory) (q : Ask2) → slice_get (oldest_group u.buffer.kept) k ≡ o → drain_ask o ≡ Some q
+    → length (after_drain k o r u).buffer.kept + 1 ≡ length u.buffer.kept
 drained_one k None r u q at asks = cc
 drained_one k (Some e) r u q at asks =
     let within = slice_get_within (oldest_group u.buffer.kept) k e at in
@@ -114,11 +114,11 @@ since_after (act.Drop b line) s = with_drop b s
 since_after act.Poll s = record s { polled = true }
 since_after act.Tick s = record s { ticked = true }
 
-drained_since : (k : ℕ) (o : Option Pending) (r : Option Reply) (u : Kept) → (drained k o r u).since ≡ u.since
+drained_since : (k : ℕ) (o : Option Pending) (r : Option Reply) (u : LocalMemory) → (after_drain k o r u).since ≡ u.since
 drained_since k None r u = refl
 drained_since k (Some e) r u = (rewritten_same _ r (record u { buffer = without k u.buffer })).since
 
-pub since_is : (e : Act) (i : Intent) (r : Option Reply) (u : Kept) → (kept_after e i r u).since ≡ since_after e u.since
+pub since_is : (e : Act) (i : Intent) (r : Option Reply) (u : LocalMemory) → (after_act e i r u).since ≡ since_after e u.since
 since_is act.Step i r u = refl
 since_is act.Fill i r u = refl
 since_is (act.Drain k) i r u = drained_since k _ r u

@@ -7,7 +7,7 @@ use Rattle.axp_access.specs.declared.Act.{Act}
 use Rattle.axp_access.specs.declared.Act.TheVariants as act
 use Rattle.axp_access.specs.declared.Record.{Record}
 use Rattle.axp_access.specs.Acts.{is_step}
-use Rattle.axp_model.specs.Records.{by}
+use Rattle.axp_model.specs.Records.{is_of}
 use Rattle.axp_world.specs.Lengths.{steps_of}
 
 pub record Tally : Type 0 where
@@ -43,12 +43,12 @@ counted act.Tick t = record t { ticks = t.ticks + 1 }
 
 abbrev pub tally : ℕ → List Record → Tally
 tally p [] = no_acts
-tally p (r ∷ h) = cond (by p r) (counted r.event.act (tally p h)) (tally p h)
+tally p (r ∷ h) = cond (is_of p r) (counted r.event.act (tally p h)) (tally p h)
 
-pub tally_own : (p : ℕ) (r : Record) (h : List Record) → by p r ≡ true → tally p (r ∷ h) ≡ counted r.event.act (tally p h)
+pub tally_own : (p : ℕ) (r : Record) (h : List Record) → is_of p r ≡ true → tally p (r ∷ h) ≡ counted r.event.act (tally p h)
 tally_own p r h own = rw own refl
 
-pub tally_other : (p : ℕ) (r : Record) (h : List Record) → by p r ≡ false → tally p (r ∷ h) ≡ tally p h
+pub tally_other : (p : ℕ) (r : Record) (h : List Record) → is_of p r ≡ false → tally p (r ∷ h) ≡ tally p h
 tally_other p r h other = rw other refl
 
 drop_totals : (b : Bank) (t : Tally) → total (with_dropped b t) ≡ total t + 1
@@ -92,6 +92,6 @@ pub steps_tallied : (p : ℕ) (h : List Record) → steps_of p h ≡ (tally p h)
 steps_tallied p [] = refl
 steps_tallied p (r ∷ h) =
     ⊎_elim
-    (λ (own : by p r ≡ true). rw own (omega (arith, steps_by p (steps_of p h) (tally p h).steps r.event.act (steps_tallied p h), counts_steps r.event.act (tally p h))))
-    (λ (other : by p r ≡ false). rw other (steps_tallied p h))
-    (cases_Bool (by p r))
+    (λ (own : is_of p r ≡ true). rw own (omega (arith, steps_by p (steps_of p h) (tally p h).steps r.event.act (steps_tallied p h), counts_steps r.event.act (tally p h))))
+    (λ (other : is_of p r ≡ false). rw other (steps_tallied p h))
+    (cases_Bool (is_of p r))

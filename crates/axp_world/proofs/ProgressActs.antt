@@ -5,7 +5,7 @@ use Rattle.axp_access.specs.declared.Intent.{Intent}
 use Rattle.axp_world.proofs.Agreement.{BanksAgree}
 use Rattle.axp_world.proofs.RunSeats.{legal_by, cpu_small}
 use Rattle.axp_world.proofs.RunWants.{intents_in_line, intents_want_no_poll}
-use Rattle.axp_model.specs.Legal.{legal, may_now}
+use Rattle.axp_model.specs.Legal.{legal, is_timely}
 use Rattle.std.proofs.lemmas.Bool.{lt-ltb, cases_Bool, eq-eqb, eqb-true, false≢true}
 use Rattle.std.proofs.Common.{◌≡◌, ◌<◌, ℕ, Bool, true, false, cond, List, [], ◌∷◌, Option, None, is_some, refl, sym, ap, ◌∙◌, subst, ⊎_elim}
 use Rattle.axp_base.specs.Cpus.{cpu_number}
@@ -14,7 +14,7 @@ use Rattle.axp_base.specs.declared.processors.Cpu.{Cpu}
 use Rattle.axp_access.specs.declared.Act.{Act}
 use Rattle.axp_access.specs.declared.Act.TheVariants as act
 use Rattle.axp_access.specs.declared.Record.{Record}
-use Rattle.axp_cpu.specs.Actors.{Actor, about, advanced}
+use Rattle.axp_cpu.specs.Actors.{Actor, actor_intent, advanced}
 use Rattle.axp_image.specs.Contents.{Contents, IsValid}
 use Rattle.axp_line.specs.declared.messages.Reply.{Reply}
 use Rattle.axp_lsu.specs.Asking.{act_ask, ask_of}
@@ -22,7 +22,7 @@ use Rattle.axp_lsu.specs.Going as going
 use Rattle.axp_line.specs.BusCalls.{BusCall}
 use Rattle.axp_model.specs.Entries.{buffer}
 use Rattle.axp_base.specs.Lists.{is_empty}
-use Rattle.axp_model.specs.Records.{by}
+use Rattle.axp_model.specs.Records.{is_of}
 use Rattle.axp_world.specs.RunLaws.{is_progress}
 use Rattle.axp_world.specs.Worlds.{IsPlayed, World, image_bytes, reply_at, world}
 use Rattle.axp_world.proofs.AskedActs.{IsAsked, is_asked}
@@ -47,16 +47,16 @@ unasked act.Tick cs p goes = cc
 
 -- what a processor may do now, as far as it knows, is legal
 asked_is_legal : (image : Contents) (cpus budget : ℕ) (h : List Record) (c : Cpu) (a : Act) → cpu_number c < cpus → Joined image cpus budget h → is_progress a ≡ true
-    → may_now a (about ((world image cpus budget h).actors (cpu_number c))).finished ((world image cpus budget h).actors (cpu_number c)).kept.since.filled ≡ true
-    → is_some (act_ask a (about ((world image cpus budget h).actors (cpu_number c))) ((world image cpus budget h).actors (cpu_number c)).kept) ≡ true
+    → is_timely a (actor_intent ((world image cpus budget h).actors (cpu_number c))).finished ((world image cpus budget h).actors (cpu_number c)).kept.since.filled ≡ true
+    → is_some (act_ask a (actor_intent ((world image cpus budget h).actors (cpu_number c))) ((world image cpus budget h).actors (cpu_number c)).kept) ≡ true
     → legal (processors image cpus budget) h (record { cpu = c; act = a }) ≡ true
 unfolding ask_of
 asked_is_legal image cpus budget h c a below is goes now asks =
     let p : ℕ = cpu_number c in
     let who : Actor = (world image cpus budget h).actors p in
     let agree : Agrees image cpus budget h p = agrees image cpus budget h is p (cpu_small c) in
-    legal_by (processors image cpus budget) h (record { cpu = c; act = a }) (about who) below (ap intent_of agree.seat)
-    ∙ (sym (legal_agrees (image_bytes image) p h (about who) who.kept (world image cpus budget h).calls a agree.buffer agree.banks agree.since is.bus)
+    legal_by (processors image cpus budget) h (record { cpu = c; act = a }) (actor_intent who) below (ap intent_of agree.seat)
+    ∙ (sym (legal_agrees (image_bytes image) p h (actor_intent who) who.kept (world image cpus budget h).calls a agree.buffer agree.banks agree.since is.bus)
     ∙ rw (now, asks, unasked a (world image cpus budget h).calls p goes) refl)
 
 -- finished, with a write that waits
@@ -69,7 +69,7 @@ finished_drains image cpus budget h c valid played below finished some =
 
 -- what lets a processor go on, and stays so by all that is played
 record GoesOn (a : Actor) : Type 0 where
-  ready : IsReady (about a) a.kept
+  ready : IsReady (actor_intent a) a.kept
   rooms : HasRooms a.kept
   wants : WantsWithin a.seat
 
@@ -91,13 +91,13 @@ own_goes_on image cpus budget r h valid is after s was =
     let n : ℕ = cpu_number r.event.cpu in
     let a : Actor = w.actors n in
     let t : Option Reply = reply_at image w r.event in
-    let own : by n r ≡ true = eq-eqb n n refl in
+    let own : is_of n r ≡ true = eq-eqb n n refl in
     let asked : IsAsked a r.event.act s.ask = is_asked a r.event.act s.ask s.asked in
     let banks : BanksAgree (image_bytes image) n (r ∷ h) (advanced a r.event.act t).kept =
     subst (λ (x : Actor). BanksAgree (image_bytes image) n (r ∷ h) x.kept) (actor_own image w r.event n own) (agrees image cpus budget (r ∷ h) after n (cpu_small r.event.cpu)).banks in
     record {
       ready = act_ready r.event.act a t (image_bytes image) n r h s.ask asked own s.outcome (intents_in_line image cpus budget valid n h) banks;
-      rooms = act_rooms r.event.act (about a) t a.kept s.ask asked.asks (are_few image cpus budget h is n) was.rooms;
+      rooms = act_rooms r.event.act (actor_intent a) t a.kept s.ask asked.asks (are_few image cpus budget h is n) was.rooms;
       wants = act_wants r.event.act a t s.ask asked was.wants;
     }
 
@@ -108,12 +108,12 @@ goes_on image cpus budget (r ∷ h) valid played p =
     let n : ℕ = cpu_number r.event.cpu in
     let was : (k : ℕ) → GoesOn (w.actors k) = goes_on image cpus budget h valid played.1 in
     ⊎_elim
-    (λ (own : by p r ≡ true).
+    (λ (own : is_of p r ≡ true).
     let gone : GoesOn (advanced (w.actors n) r.event.act (reply_at image w r.event)) =
     own_goes_on image cpus budget r h valid (joined image cpus budget h valid played.1) (joined image cpus budget (r ∷ h) valid played) (shown image cpus w r.event r.outcome played.0) (was n) in
     subst GoesOn (sym (actor_own image w r.event p own)) (subst (λ k. GoesOn (advanced (w.actors k) r.event.act (reply_at image w r.event))) (eqb-true n p own) gone))
-    (λ (other : by p r ≡ false). subst GoesOn (sym (actor_other image w r.event p other)) (was p))
-    (cases_Bool (by p r))
+    (λ (other : is_of p r ≡ false). subst GoesOn (sym (actor_other image w r.event p other)) (was p))
+    (cases_Bool (is_of p r))
 
 -- a processor that wants no access stands at a boundary
 at_boundary : (s : Seat) → is_finished s ≡ false → WantsWithin s → wanted s ≡ None → is_empty s.values ≡ true
@@ -134,5 +134,5 @@ progress image cpus budget h c valid played below goes =
     let is : Joined image cpus budget h = joined image cpus budget h valid played in
     let on : is_finished a.seat ≡ false = sym (ap is_finished (agrees image cpus budget h is p (cpu_small c)).seat) ∙ goes in
     let can : GoesOn a = goes_on image cpus budget h valid played p in
-    let o : Offer (about a) a.kept = offered (about a) a.kept on can.ready can.rooms (intents_want_no_poll image cpus budget valid p h) (at_boundary a.seat on can.wants) in
+    let o : Offer (actor_intent a) a.kept = offered (actor_intent a) a.kept on can.ready can.rooms (intents_want_no_poll image cpus budget valid p h) (at_boundary a.seat on can.wants) in
     (o.chosen, o.goes, asked_is_legal image cpus budget h c o.chosen below is o.goes o.now o.asks)

@@ -12,9 +12,9 @@ use Rattle.axp_base.specs.declared.limits.TheConstants.{BANK_COPIES, WBUF_ENTRIE
 use Rattle.axp_base.specs.Lines.{data_bank, line_number, line_of}
 use Rattle.axp_base.specs.declared.lines.Bank.{Bank}
 use Rattle.axp_base.specs.declared.lines.Bank.TheVariants.{Code}
-use Rattle.axp_lsu.specs.Asking.{act_ask, drain_ask, fill_ask, fill_for, ready, step_ask}
-use Rattle.axp_lsu.specs.Keeping.{Kept, copies_of, data_copies, has_dropped}
-use Rattle.axp_model.specs.Legal.{may_now}
+use Rattle.axp_lsu.specs.Asking.{act_ask, drain_ask, fill_ask, fill_for, is_ready, step_ask}
+use Rattle.axp_lsu.specs.Keeping.{LocalMemory, copies_of, data_copies, has_dropped}
+use Rattle.axp_model.specs.Legal.{is_timely}
 use Rattle.axp_access.specs.Kinds.{is_poll}
 use Rattle.axp_regs.specs.declared.asks.Kind.{Kind}
 use Rattle.axp_regs.specs.declared.asks.Kind.TheVariants as kind
@@ -26,16 +26,16 @@ use Rattle.axp_world.proofs.ProgressFilled.{IsReady}
 use Rattle.axp_world.proofs.RunWants.{wants_poll}
 
 -- an act of progress that may be made now, as far as the processor knows
-pub record Offer (i : Intent) (u : Kept) : Type 0 where
+pub record Offer (i : Intent) (u : LocalMemory) : Type 0 where
   pub chosen : Act
   pub goes : is_progress chosen ≡ true
-  pub now : may_now chosen i.finished u.since.filled ≡ true
+  pub now : is_timely chosen i.finished u.since.filled ≡ true
   pub asks : is_some (act_ask chosen i u) ≡ true
 
-step_offer : (i : Intent) (u : Kept) → i.finished ≡ false → is_some (step_ask i.boundary i.wanted i.armed u) ≡ true → Offer i u
+step_offer : (i : Intent) (u : LocalMemory) → i.finished ≡ false → is_some (step_ask i.boundary i.wanted i.armed u) ≡ true → Offer i u
 step_offer i u on asks = record { chosen = act.Step; goes = refl; now = rw on refl; asks = asks }
 
-fill_offer : (i : Intent) (u : Kept) → i.finished ≡ false → u.since.filled ≡ false → is_some (fill_ask i.wanted u) ≡ true → Offer i u
+fill_offer : (i : Intent) (u : LocalMemory) → i.finished ≡ false → u.since.filled ≡ false → is_some (fill_ask i.wanted u) ≡ true → Offer i u
 fill_offer i u on unfilled asks = record { chosen = act.Fill; goes = refl; now = rw (on, unfilled) refl; asks = asks }
 
 -- of writes that wait the first may leave
@@ -44,7 +44,7 @@ unfolding in_front
 first_leaves [] some = cc
 first_leaves (e ∷ es) some = rw (eq-eqb e.group e.group refl) refl
 
-drain_offer : (i : Intent) (u : Kept) → i.finished ≡ false → u.since.filled ≡ false → eqb (length u.buffer.kept) 0 ≡ false → Offer i u
+drain_offer : (i : Intent) (u : LocalMemory) → i.finished ≡ false → u.since.filled ≡ false → eqb (length u.buffer.kept) 0 ≡ false → Offer i u
 drain_offer i u on unfilled some = record { chosen = act.Drain 0; goes = refl; now = rw (on, unfilled) refl; asks = first_leaves u.buffer.kept some }
 
 -- a full bank has a copy to drop; one that dropped a copy since the last Step is not full
@@ -52,13 +52,13 @@ first_held : (c : LineCopy) (cs : List LineCopy) → is_held (line_number c.line
 unfolding is_held
 first_held c cs = rw (eq-eqb (line_number c.line) (line_number c.line) refl) refl
 
-drop_first : (i : Intent) (u : Kept) (b : Bank) (cs : List LineCopy) → i.finished ≡ false → u.since.filled ≡ false → has_dropped b u.since ≡ false → copies_of b u ≡ cs → ltb (length cs) BANK_COPIES ≡ false → Offer i u
+drop_first : (i : Intent) (u : LocalMemory) (b : Bank) (cs : List LineCopy) → i.finished ≡ false → u.since.filled ≡ false → has_dropped b u.since ≡ false → copies_of b u ≡ cs → ltb (length cs) BANK_COPIES ≡ false → Offer i u
 drop_first i u b [] on unfilled undropped is full = cc
 drop_first i u b (c ∷ cs) on unfilled undropped is full =
     let held : is_held (line_number c.line) (copies_of b u) ≡ true = ap (is_held (line_number c.line)) is ∙ first_held c cs in
     record { chosen = act.Drop b c.line; goes = refl; now = rw (on, unfilled) refl; asks = rw (held, undropped) refl }
 
-drop_offer : (i : Intent) (u : Kept) (b : Bank) → i.finished ≡ false → u.since.filled ≡ false → HasRooms u → ltb (length (copies_of b u)) BANK_COPIES ≡ false → Offer i u
+drop_offer : (i : Intent) (u : LocalMemory) (b : Bank) → i.finished ≡ false → u.since.filled ≡ false → HasRooms u → ltb (length (copies_of b u)) BANK_COPIES ≡ false → Offer i u
 drop_offer i u b on unfilled rooms full =
     ⊎_elim
     (λ (drops : has_dropped b u.since ≡ true). absurd (false≢true (sym full ∙ lt-ltb (length (copies_of b u)) BANK_COPIES (rooms unfilled b drops))))
@@ -78,18 +78,18 @@ any_some test [] any = cc
 any_some test (e ∷ es) any = more_some e es
 
 -- a bank that lacks a line is filled, or full
-bring_offer : (i : Intent) (u : Kept) (b : Bank) → i.finished ≡ false → u.since.filled ≡ false → HasRooms u → (ltb (length (copies_of b u)) BANK_COPIES ≡ true → is_some (fill_ask i.wanted u) ≡ true) → Offer i u
+bring_offer : (i : Intent) (u : LocalMemory) (b : Bank) → i.finished ≡ false → u.since.filled ≡ false → HasRooms u → (ltb (length (copies_of b u)) BANK_COPIES ≡ true → is_some (fill_ask i.wanted u) ≡ true) → Offer i u
 bring_offer i u b on unfilled rooms brings =
     ⊎_elim
     (λ (room : ltb (length (copies_of b u)) BANK_COPIES ≡ true). fill_offer i u on unfilled (brings room))
     (λ (full : ltb (length (copies_of b u)) BANK_COPIES ≡ false). drop_offer i u b on unfilled rooms full)
     (cases_Bool (ltb (length (copies_of b u)) BANK_COPIES))
 
-fills_wanted : (i : Intent) (u : Kept) (w : Wanted) (k : Kind) → i.wanted ≡ Some w → w.kind ≡ k → is_some (fill_for k w u) ≡ true → is_some (fill_ask i.wanted u) ≡ true
+fills_wanted : (i : Intent) (u : LocalMemory) (w : Wanted) (k : Kind) → i.wanted ≡ Some w → w.kind ≡ k → is_some (fill_for k w u) ≡ true → is_some (fill_ask i.wanted u) ≡ true
 fills_wanted i u w k wants is asks = ap (λ o. is_some (fill_ask o u)) wants ∙ ap (λ x. is_some (fill_for x w u)) is ∙ asks
 
 -- where the wanted access is not ready
-waiting_offer : (k : Kind) (i : Intent) (u : Kept) (w : Wanted) → i.finished ≡ false → u.since.filled ≡ false → HasRooms u → i.wanted ≡ Some w → w.kind ≡ k → is_poll k ≡ false → ready k (line_of w.address) u ≡ false → Offer i u
+waiting_offer : (k : Kind) (i : Intent) (u : LocalMemory) (w : Wanted) → i.finished ≡ false → u.since.filled ≡ false → HasRooms u → i.wanted ≡ Some w → w.kind ≡ k → is_poll k ≡ false → is_ready k (line_of w.address) u ≡ false → Offer i u
 waiting_offer kind.Fetch i u w on unfilled rooms wants is poll none = bring_offer i u Code on unfilled rooms (λ room. fills_wanted i u w kind.Fetch wants is (rw (none, room) refl))
 waiting_offer kind.Read i u w on unfilled rooms wants is poll none = bring_offer i u (data_bank (line_of w.address)) on unfilled rooms (λ room. fills_wanted i u w kind.Read wants is (rw (none, room) refl))
 waiting_offer kind.Write i u w on unfilled rooms wants is poll none =
@@ -116,15 +116,15 @@ waiting_offer kind.Console i u w on unfilled rooms wants is poll none = cc
 waiting_offer kind.Poll i u w on unfilled rooms wants is poll none = cc
 
 -- by what is wanted: an access, or none at a boundary
-wanted_offer : (o : Option Wanted) (i : Intent) (u : Kept) → i.wanted ≡ o → i.finished ≡ false → u.since.filled ≡ false → HasRooms u → wants_poll o ≡ false → (o ≡ None → i.boundary ≡ true) → Offer i u
+wanted_offer : (o : Option Wanted) (i : Intent) (u : LocalMemory) → i.wanted ≡ o → i.finished ≡ false → u.since.filled ≡ false → HasRooms u → wants_poll o ≡ false → (o ≡ None → i.boundary ≡ true) → Offer i u
 wanted_offer None i u wants on unfilled rooms poll stands = step_offer i u on (rw (wants, stands refl) refl)
 wanted_offer (Some w) i u wants on unfilled rooms poll stands =
     ⊎_elim
-    (λ (is : ready w.kind (line_of w.address) u ≡ true). step_offer i u on (rw (wants, is) refl))
-    (λ (none : ready w.kind (line_of w.address) u ≡ false). waiting_offer w.kind i u w on unfilled rooms wants refl poll none)
-    (cases_Bool (ready w.kind (line_of w.address) u))
+    (λ (is : is_ready w.kind (line_of w.address) u ≡ true). step_offer i u on (rw (wants, is) refl))
+    (λ (none : is_ready w.kind (line_of w.address) u ≡ false). waiting_offer w.kind i u w on unfilled rooms wants refl poll none)
+    (cases_Bool (is_ready w.kind (line_of w.address) u))
 
-pub offered : (i : Intent) (u : Kept) → i.finished ≡ false → IsReady i u → HasRooms u → wants_poll i.wanted ≡ false → (i.wanted ≡ None → i.boundary ≡ true) → Offer i u
+pub offered : (i : Intent) (u : LocalMemory) → i.finished ≡ false → IsReady i u → HasRooms u → wants_poll i.wanted ≡ false → (i.wanted ≡ None → i.boundary ≡ true) → Offer i u
 offered i u on filled rooms poll stands =
     ⊎_elim
     (λ (is : u.since.filled ≡ true). step_offer i u on (filled is on))

@@ -19,7 +19,7 @@ use Rattle.axp_lsu.specs.declared.asks.Ask2.{Ask2}
 use Rattle.axp_lsu.specs.declared.asks.Ask2.TheVariants as ask
 use Rattle.axp_lsu.specs.Asking as asking
 use Rattle.axp_lsu.specs.Asking.{access_ask, act_ask, ask_of, drain_ask, fill_ask, fill_for, may_bring, step_ask}
-use Rattle.axp_lsu.specs.Keeping.{Kept, copies_of, data_copies, has_dropped}
+use Rattle.axp_lsu.specs.Keeping.{LocalMemory, copies_of, data_copies, has_dropped}
 use Rattle.axp_line.specs.declared.messages.Request.TheVariants as request
 use Rattle.axp_line.specs.BusCalls as calls
 use Rattle.axp_line.specs.BusCalls.{BusCall}
@@ -27,7 +27,7 @@ use Rattle.axp_model.specs.Entries.{Waiting, buffer, oldest}
 use Rattle.axp_model.specs.Late.{late}
 use Rattle.axp_model.specs.Late as model
 use Rattle.axp_laws.specs.LateLaws.{is_among}
-use Rattle.axp_model.specs.Legal.{has_room, holds_in, may, may_act, may_fill, may_fill_for, may_now, may_step, ready, since_step}
+use Rattle.axp_model.specs.Legal.{has_room, holds_in, is_enabled, is_legal_act, is_fill_enabled, is_fill_enabled_for, is_timely, is_step_enabled, is_ready, since_step}
 use Rattle.axp_base.specs.Lists.{is_empty}
 use Rattle.axp_access.specs.Acts.{is_drop_of}
 use Rattle.axp_laws.proofs.CopyLists.{copies_exactly}
@@ -52,7 +52,7 @@ map_length : (cs : List LineCopy) → length (map copies.line_of cs) ≡ length 
 map_length [] = refl
 map_length (c ∷ cs) = ap suc (map_length cs)
 
-bank_length : (image : ℕ → ℕ) (p : ℕ) (h : List Record) (u : Kept) → BanksAgree image p h u → (b : Bank) → in_bank b zero || in_bank b 1 ≡ true → length (copies_of b u) ≡ length (model.copies p b h)
+bank_length : (image : ℕ → ℕ) (p : ℕ) (h : List Record) (u : LocalMemory) → BanksAgree image p h u → (b : Bank) → in_bank b zero || in_bank b 1 ≡ true → length (copies_of b u) ≡ length (model.copies p b h)
 bank_length image p h u banks Even is = sym (map_length u.even) ∙ ap (λ ls. length ls) banks.even_lines
 bank_length image p h u banks Odd is = sym (map_length u.odd) ∙ ap (λ ls. length ls) banks.odd_lines
 bank_length image p h u banks Code is = cc
@@ -64,14 +64,14 @@ data_is_data l = by_test (eqb (l % 2) 0) where
   by_test true = refl
   by_test false = refl
 
-code_length : (image : ℕ → ℕ) (p : ℕ) (h : List Record) (u : Kept) → BanksAgree image p h u → length u.code ≡ length (model.code_copies p h)
+code_length : (image : ℕ → ℕ) (p : ℕ) (h : List Record) (u : LocalMemory) → BanksAgree image p h u → length u.code ≡ length (model.code_copies p h)
 code_length image p h u banks = sym (map_length u.code) ∙ ap (λ ls. length ls) banks.code_lines
 
-room_agrees : (image : ℕ → ℕ) (p l : ℕ) (h : List Record) (u : Kept) → BanksAgree image p h u → ltb (length (data_copies l u)) BANK_COPIES ≡ has_room l p h
+room_agrees : (image : ℕ → ℕ) (p l : ℕ) (h : List Record) (u : LocalMemory) → BanksAgree image p h u → ltb (length (data_copies l u)) BANK_COPIES ≡ has_room l p h
 room_agrees image p l h u banks = ap (λ n. ltb n BANK_COPIES) (bank_length image p h u banks (data_bank l) (data_is_data l))
 
 -- the condition of a Step, by the kind of its access
-ready_agrees : (k : Kind) (image : ℕ → ℕ) (p l : ℕ) (h : List Record) (u : Kept) → BufferAgrees p h u.buffer → BanksAgree image p h u → asking.ready k l u ≡ ready k l p h
+ready_agrees : (k : Kind) (image : ℕ → ℕ) (p l : ℕ) (h : List Record) (u : LocalMemory) → BufferAgrees p h u.buffer → BanksAgree image p h u → asking.is_ready k l u ≡ is_ready k l p h
 ready_agrees kind.Fetch image p l h u buffers banks = banks.code_lines_held l
 ready_agrees kind.Read image p l h u buffers banks = banks.lines l
 ready_agrees kind.Write image p l h u buffers banks = buffers.takes l
@@ -84,16 +84,16 @@ ready_agrees kind.Signal image p l h u buffers banks = ap not buffers.closed
 ready_agrees kind.Console image p l h u buffers banks = refl
 ready_agrees kind.Poll image p l h u buffers banks = refl
 
-step_agrees : (o : Option Wanted) (boundary armed : Bool) (image : ℕ → ℕ) (p : ℕ) (h : List Record) (u : Kept) → BufferAgrees p h u.buffer → BanksAgree image p h u → is_some (step_ask boundary o armed u) ≡ may_step boundary o p h
+step_agrees : (o : Option Wanted) (boundary armed : Bool) (image : ℕ → ℕ) (p : ℕ) (h : List Record) (u : LocalMemory) → BufferAgrees p h u.buffer → BanksAgree image p h u → is_some (step_ask boundary o armed u) ≡ is_step_enabled boundary o p h
 step_agrees None boundary armed image p h u buffers banks = asked_if boundary ask.Private
-step_agrees (Some w) boundary armed image p h u buffers banks = asked_if (asking.ready w.kind (line_of w.address) u) (access_ask w.kind w armed u) ∙ ready_agrees w.kind image p (line_of w.address) h u buffers banks
+step_agrees (Some w) boundary armed image p h u buffers banks = asked_if (asking.is_ready w.kind (line_of w.address) u) (access_ask w.kind w armed u) ∙ ready_agrees w.kind image p (line_of w.address) h u buffers banks
 
 -- a Fill
 not_or : (a b : Bool) → (not a && (a || b)) ≡ (not a && b)
 not_or true b = refl
 not_or false b = refl
 
-fill_for_agrees : (k : Kind) (w : Wanted) (image : ℕ → ℕ) (p : ℕ) (h : List Record) (u : Kept) → BanksAgree image p h u → is_some (fill_for k w u) ≡ may_fill_for k (line_of w.address) p h
+fill_for_agrees : (k : Kind) (w : Wanted) (image : ℕ → ℕ) (p : ℕ) (h : List Record) (u : LocalMemory) → BanksAgree image p h u → is_some (fill_for k w u) ≡ is_fill_enabled_for k (line_of w.address) p h
 fill_for_agrees kind.Fetch w image p h u banks =
     asked_if (may_bring (line_of w.address) u.code) (ask.Bus (request.FillCode (line_at w.address)))
     ∙ not_or (is_held (line_of w.address) u.code) (ltb (length u.code) BANK_COPIES)
@@ -104,7 +104,7 @@ fill_for_agrees kind.Read w image p h u banks =
     ∙ rw (banks.lines (line_of w.address), room_agrees image p (line_of w.address) h u banks) refl
 fill_for_agrees _ w image p h u banks = refl
 
-fill_agrees : (o : Option Wanted) (image : ℕ → ℕ) (p : ℕ) (h : List Record) (u : Kept) → BanksAgree image p h u → is_some (fill_ask o u) ≡ may_fill o p h
+fill_agrees : (o : Option Wanted) (image : ℕ → ℕ) (p : ℕ) (h : List Record) (u : LocalMemory) → BanksAgree image p h u → is_some (fill_ask o u) ≡ is_fill_enabled o p h
 fill_agrees None image p h u banks = refl
 fill_agrees (Some w) image p h u banks = fill_for_agrees w.kind w image p h u banks
 
@@ -126,12 +126,12 @@ entries_listed (e ∷ es) (w ∷ ws) (suc k) are =
     (cases_lt k (length ws))
 
 -- a Drop
-drop_held : (b : Bank) (image : ℕ → ℕ) (p l : ℕ) (h : List Record) (u : Kept) → BanksAgree image p h u → is_held l (copies_of b u) ≡ holds_in b l p h
+drop_held : (b : Bank) (image : ℕ → ℕ) (p l : ℕ) (h : List Record) (u : LocalMemory) → BanksAgree image p h u → is_held l (copies_of b u) ≡ holds_in b l p h
 drop_held Even image p l h u banks = held_among l u.even ∙ ap (is_among l) banks.even_lines ∙ (copies_exactly p Even h).members l
 drop_held Odd image p l h u banks = held_among l u.odd ∙ ap (is_among l) banks.odd_lines ∙ (copies_exactly p Odd h).members l
 drop_held Code image p l h u banks = banks.code_lines_held l
 
-drop_since : (b : Bank) (p : ℕ) (h : List Record) (u : Kept) → SinceAgrees p h u → has_dropped b u.since ≡ since_step (is_drop_of b) p h
+drop_since : (b : Bank) (p : ℕ) (h : List Record) (u : LocalMemory) → SinceAgrees p h u → has_dropped b u.since ≡ since_step (is_drop_of b) p h
 drop_since Even p h u since = since.even
 drop_since Odd p h u since = since.odd
 drop_since Code p h u since = since.code
@@ -155,7 +155,7 @@ take_agrees Odd image p h cs bus = rw (bus.pairs p Odd) refl
 take_agrees Code image p h cs bus = rw (none_of_code (late p Code h) (late_in p Code h)) refl
 
 -- every act
-may_agrees : (a : Act) (image : ℕ → ℕ) (p : ℕ) (h : List Record) (i : Intent) (u : Kept) (cs : List BusCall) → BufferAgrees p h u.buffer → BanksAgree image p h u → SinceAgrees p h u → BusAgrees image h cs → (is_some (act_ask a i u) && has_late a cs p) ≡ may a i p h
+may_agrees : (a : Act) (image : ℕ → ℕ) (p : ℕ) (h : List Record) (i : Intent) (u : LocalMemory) (cs : List BusCall) → BufferAgrees p h u.buffer → BanksAgree image p h u → SinceAgrees p h u → BusAgrees image h cs → (is_some (act_ask a i u) && has_late a cs p) ≡ is_enabled a i p h
 may_agrees act.Step image p h i u cs buffers banks since bus = and_true (is_some (step_ask i.boundary i.wanted i.armed u)) ∙ step_agrees i.wanted i.boundary i.armed image p h u buffers banks
 may_agrees act.Fill image p h i u cs buffers banks since bus = and_true (is_some (fill_ask i.wanted u)) ∙ fill_agrees i.wanted image p h u banks
 may_agrees (act.Drain k) image p h i u cs buffers banks since bus =
@@ -167,11 +167,11 @@ may_agrees act.Poll image p h i u cs buffers banks since bus = and_true (is_some
 may_agrees act.Tick image p h i u cs buffers banks since bus = and_true (is_some (act_ask act.Tick i u)) ∙ asked_if (i.boundary && (i.low && not u.since.ticked)) ask.Private ∙ rw since.ticked refl
 
 -- an act is asked, and not answered that nothing is late, exactly where it is legal
-pub legal_agrees : (image : ℕ → ℕ) (p : ℕ) (h : List Record) (i : Intent) (u : Kept) (cs : List BusCall) (a : Act) → BufferAgrees p h u.buffer → BanksAgree image p h u → SinceAgrees p h u → BusAgrees image h cs
-    → (is_some (ask_of a i u) && has_late a cs p) ≡ may_act a i p h
+pub legal_agrees : (image : ℕ → ℕ) (p : ℕ) (h : List Record) (i : Intent) (u : LocalMemory) (cs : List BusCall) (a : Act) → BufferAgrees p h u.buffer → BanksAgree image p h u → SinceAgrees p h u → BusAgrees image h cs
+    → (is_some (ask_of a i u) && has_late a cs p) ≡ is_legal_act a i p h
 unfolding ask_of
 legal_agrees image p h i u cs a buffers banks since bus =
-    chosen (may_now a i.finished u.since.filled) (act_ask a i u) (has_late a cs p)
+    chosen (is_timely a i.finished u.since.filled) (act_ask a i u) (has_late a cs p)
     ∙ rw (may_agrees a image p h i u cs buffers banks since bus, since.filled) refl where
       chosen : (now : Bool) (o : Option Ask2) (some : Bool) → (is_some (cond now o None) && some) ≡ ((is_some o && some) && now)
       chosen true o some = sym (and_true (is_some o && some))

@@ -7,7 +7,7 @@ use Rattle.axp_world.proofs.RunSeats.{legal_by}
 use Rattle.axp_world.proofs.RunWants.{in_line, intents_in_line, intents_name_targets}
 use Rattle.axp_world.proofs.CountEvents.{numbered}
 use Rattle.axp_laws.proofs.RunRecords.{legal_parts, run_fits}
-use Rattle.axp_model.specs.Legal.{may_act, legal, may, may_now, since_step}
+use Rattle.axp_model.specs.Legal.{is_legal_act, legal, is_enabled, is_timely, since_step}
 use Rattle.std.proofs.lemmas.Bool.{lt-ltb, cases_Bool, and_parts}
 use Rattle.std.proofs.Common.{true, false, ℕ, ◌≡◌, ⊎_elim, eqb, not, List, [], ◌∷◌, Option, Some, is_some, refl, sym, ap, ◌∙◌, subst}
 use Rattle.std.specs.Prelude.{Ok}
@@ -20,7 +20,7 @@ use Rattle.axp_base.proofs.CpuLemmas.{cpu_of_number}
 use Rattle.axp_access.specs.declared.Act.{Act}
 use Rattle.axp_access.specs.declared.Act.TheVariants as act
 use Rattle.axp_access.specs.declared.Record.{Record}
-use Rattle.axp_cpu.specs.Actors.{Actor, about, advanced, is_built, outcome_of, request_of}
+use Rattle.axp_cpu.specs.Actors.{Actor, actor_intent, advanced, is_built, outcome_of, request_of}
 use Rattle.axp_image.specs.Contents.{Contents, IsValid}
 use Rattle.axp_line.specs.declared.messages.Reply.{Reply}
 use Rattle.axp_line.specs.declared.messages.Reply.TheVariants as reply
@@ -29,7 +29,7 @@ use Rattle.axp_lsu.specs.declared.asks.Ask2.{Ask2}
 use Rattle.axp_lsu.specs.declared.asks.Ask2.TheVariants as ask
 use Rattle.axp_lsu.specs.Asking.{act_ask, ask_of, take_ask}
 use Rattle.axp_lsu.specs.Going as going
-use Rattle.axp_lsu.specs.Keeping.{Kept}
+use Rattle.axp_lsu.specs.Keeping.{LocalMemory}
 use Rattle.axp_line.specs.BusCalls as calls
 use Rattle.axp_line.specs.BusCalls.{BusCall}
 use Rattle.axp_line.specs.BusReply.{first_late, reply_by}
@@ -70,7 +70,7 @@ take_some Even image cs c z something is = let same : ask.Bus (request.Take Even
 take_some Odd image cs c z something is = let same : ask.Bus (request.Take Odd) ≡ z = cc in first_some (calls.late (cpu_number c) Odd cs) (subst (λ y. answer image cs c y ≡ Some reply.Nothing → ⊥) (sym same) something)
 take_some Code image cs c z something is = cc
 
-act_some : (a : Act) (i : Intent) (u : Kept) (image : ℕ → ℕ) (cs : List BusCall) (c : Cpu) (z : Ask2) → (answer image cs c z ≡ Some reply.Nothing → ⊥) → act_ask a i u ≡ Some z → has_late a cs (cpu_number c) ≡ true
+act_some : (a : Act) (i : Intent) (u : LocalMemory) (image : ℕ → ℕ) (cs : List BusCall) (c : Cpu) (z : Ask2) → (answer image cs c z ≡ Some reply.Nothing → ⊥) → act_ask a i u ≡ Some z → has_late a cs (cpu_number c) ≡ true
 act_some (act.Take b) i u image cs c z something is = take_some b image cs c z something is
 act_some act.Step i u image cs c z something is = refl
 act_some act.Fill i u image cs c z something is = refl
@@ -80,9 +80,9 @@ act_some act.Poll i u image cs c z something is = refl
 act_some act.Tick i u image cs c z something is = refl
 
 -- what is asked
-asked_is : (a : Actor) (e : Act) (z : Ask2) → request_of a e ≡ Ok z → ask_of e (about a) a.kept ≡ Some z
+asked_is : (a : Actor) (e : Act) (z : Ask2) → request_of a e ≡ Ok z → ask_of e (actor_intent a) a.kept ≡ Some z
 unfolding request_of
-asked_is a e z is = asked_ok (ask_of e (about a) a.kept) (is_built e a) z is
+asked_is a e z is = asked_ok (ask_of e (actor_intent a) a.kept) (is_built e a) z is
 
 -- what each processor has of the world, after a history
 pub record Agrees (image : Contents) (cpus budget : ℕ) (h : List Record) (p : ℕ) : Type 0 where
@@ -99,10 +99,10 @@ played_legal image cpus budget r h played agrees bus =
     let a : Actor = w.actors (cpu_number r.event.cpu) in
     let s = shown image cpus w r.event r.outcome played in
     let something : answer (image_bytes image) w.calls r.event.cpu s.ask ≡ Some reply.Nothing → ⊥ = λ x. s.something (s.answered ∙ x) in
-    let asks : is_some (ask_of r.event.act (about a) a.kept) ≡ true = ap is_some (asked_is a r.event.act s.ask s.asked) in
-    let late : has_late r.event.act w.calls (cpu_number r.event.cpu) ≡ true = act_some r.event.act (about a) a.kept (image_bytes image) w.calls r.event.cpu s.ask something (asked_act a r.event.act s.ask s.asked).0 in
-    legal_by (processors image cpus budget) h r.event (about a) (numbered image cpus w r.event r.outcome played) (ap intent_of agrees.seat)
-    ∙ (sym (legal_agrees (image_bytes image) (cpu_number r.event.cpu) h (about a) a.kept w.calls r.event.act agrees.buffer agrees.banks agrees.since bus) ∙ rw (asks, late) refl)
+    let asks : is_some (ask_of r.event.act (actor_intent a) a.kept) ≡ true = ap is_some (asked_is a r.event.act s.ask s.asked) in
+    let late : has_late r.event.act w.calls (cpu_number r.event.cpu) ≡ true = act_some r.event.act (actor_intent a) a.kept (image_bytes image) w.calls r.event.cpu s.ask something (asked_act a r.event.act s.ask s.asked).0 in
+    legal_by (processors image cpus budget) h r.event (actor_intent a) (numbered image cpus w r.event r.outcome played) (ap intent_of agrees.seat)
+    ∙ (sym (legal_agrees (image_bytes image) (cpu_number r.event.cpu) h (actor_intent a) a.kept w.calls r.event.act agrees.buffer agrees.banks agrees.since bus) ∙ rw (asks, late) refl)
 
 -- and has its outcome
 pub played_outcome : (image : Contents) (cpus budget : ℕ) (r : Record) (h : List Record) → answer_of image cpus (world image cpus budget h) r.event ≡ Ok r.outcome → Fitting h
@@ -116,13 +116,13 @@ played_outcome image cpus budget r h played fit inside target agrees bus =
     let a : Actor = w.actors p in
     let s = shown image cpus w r.event r.outcome played in
     let something : answer (image_bytes image) w.calls r.event.cpu s.ask ≡ Some reply.Nothing → ⊥ = λ x. s.something (s.answered ∙ x) in
-    let own : may_act r.event.act (about a) p h ≡ true =
-    sym (legal_by (processors image cpus budget) h r.event (about a) (numbered image cpus w r.event r.outcome played) (ap intent_of agrees.seat)) ∙ played_legal image cpus budget r h played agrees bus in
-    let able : may r.event.act (about a) p h ≡ true = (and_parts (may r.event.act (about a) p h) (may_now r.event.act (about a).finished (since_step is_fill p h)) own).0 in
+    let own : is_legal_act r.event.act (actor_intent a) p h ≡ true =
+    sym (legal_by (processors image cpus budget) h r.event (actor_intent a) (numbered image cpus w r.event r.outcome played) (ap intent_of agrees.seat)) ∙ played_legal image cpus budget r h played agrees bus in
+    let able : is_enabled r.event.act (actor_intent a) p h ≡ true = (and_parts (is_enabled r.event.act (actor_intent a) p h) (is_timely r.event.act (actor_intent a).finished (since_step is_fill p h)) own).0 in
     s.outcome
-    ∙ ap (going.outcome_by r.event.act a.cpu (about a) a.kept) s.answered
-    ∙ ap (λ c. going.outcome_by r.event.act c (about a) a.kept (answer (image_bytes image) w.calls r.event.cpu s.ask)) (actor_cpu image cpus budget h r.event.cpu)
-    ∙ outcome_agrees (image_bytes image) h r.event.act r.event.cpu (about a) a.kept w.calls s.ask fit agrees.buffer agrees.banks bus inside target something (asked_act a r.event.act s.ask s.asked).0 able
+    ∙ ap (going.outcome_by r.event.act a.cpu (actor_intent a) a.kept) s.answered
+    ∙ ap (λ c. going.outcome_by r.event.act c (actor_intent a) a.kept (answer (image_bytes image) w.calls r.event.cpu s.ask)) (actor_cpu image cpus budget h r.event.cpu)
+    ∙ outcome_agrees (image_bytes image) h r.event.act r.event.cpu (actor_intent a) a.kept w.calls s.ask fit agrees.buffer agrees.banks bus inside target something (asked_act a r.event.act s.ask s.asked).0 able
     ∙ ap (λ i. model.outcome_by r.event.act (image_bytes image) i r.event.cpu h) (sym (ap intent_of agrees.seat))
 
 -- so a history goes on as a run

@@ -3,7 +3,7 @@ use Rattle.axp_cpu.specs.Following.{processors}
 use Rattle.axp_cpu.specs.Seats.{intent_of}
 use Rattle.axp_access.specs.declared.Intent.{Intent}
 use Rattle.axp_world.proofs.Agreement.{BusAgrees}
-use Rattle.axp_model.specs.Legal.{legal, may_now}
+use Rattle.axp_model.specs.Legal.{legal, is_timely}
 use Rattle.std.proofs.lemmas.Bool.{cases_Bool, ltb-true, lt-ltb, false≢true}
 use Rattle.std.proofs.Common.{ltb, ⊎_elim, true, false, ℕ, ◌<◌, ◌≡◌, cond, Bool, not, ◌&&◌, List, [], ◌∷◌, slice_get, Option, Some, None, is_some, refl, sym, ap, ◌∙◌}
 use Rattle.std.specs.Prelude.{Ok}
@@ -20,7 +20,7 @@ use Rattle.axp_access.specs.declared.Event.{Event}
 use Rattle.axp_access.specs.declared.Outcome.{Outcome}
 use Rattle.axp_access.specs.declared.Record.{Record}
 use Rattle.axp_access.specs.declared.Wanted.{Wanted}
-use Rattle.axp_cpu.specs.Actors.{Actor, about, asked_by, is_built, outcome_of, request_of}
+use Rattle.axp_cpu.specs.Actors.{Actor, actor_intent, asked_by, is_built, outcome_of, request_of}
 use Rattle.axp_image.specs.Contents.{Contents}
 use Rattle.axp_line.specs.Lines.{data_of}
 use Rattle.axp_line.specs.declared.messages.Reply.{Reply}
@@ -31,10 +31,10 @@ use Rattle.axp_lsu.specs.declared.asks.Ask2.{Ask2}
 use Rattle.axp_lsu.specs.declared.asks.Ask2.TheVariants as ask
 use Rattle.axp_lsu.specs.Asking as asking
 use Rattle.axp_lsu.specs.Asking.{access_ask, act_ask, ask_of, drain_ask, fill_ask, fill_for, may_bring, signal_to, step_ask, take_ask}
-use Rattle.axp_lsu.specs.Keeping.{Kept, copies_of, data_copies, has_dropped}
+use Rattle.axp_lsu.specs.Keeping.{LocalMemory, copies_of, data_copies, has_dropped}
 use Rattle.axp_line.specs.BusCalls as calls
 use Rattle.axp_line.specs.BusCalls.{BusCall, Written}
-use Rattle.axp_line.specs.BusReply.{Front, first_late, reply_by, tried}
+use Rattle.axp_line.specs.BusReply.{PortState, first_late, reply_by, conditional_reply}
 use Rattle.axp_base.specs.Lists.{is_empty}
 use Rattle.axp_regs.specs.declared.asks.Kind.{Kind}
 use Rattle.axp_regs.specs.declared.asks.Kind.TheVariants as kind
@@ -58,7 +58,7 @@ is_take (ask.Bus (request.Take b)) = true
 is_take _ = false
 
 -- only a Take is answered so
-tried_something : (success : Bool) (f : Front) (w : Option Written) (line : Line) → is_nothing (Some (tried success f w line)) ≡ false
+tried_something : (success : Bool) (f : PortState) (w : Option Written) (line : Line) → is_nothing (Some (conditional_reply success f w line)) ≡ false
 tried_something true f w line = refl
 tried_something false f w line = refl
 
@@ -67,7 +67,7 @@ unfolding reply_by
 only_takes ask.Private image cs c is = refl
 only_takes (ask.Bus (request.Take b)) image cs c is = cc
 only_takes (ask.Bus (request.Conditional a s v armed)) image cs c is =
-    tried_something (armed && is_allowed a (calls.register (cpu_number c) cs)) _ (calls.would_write (request.Conditional a s v armed)) (line_at a)
+    tried_something (armed && is_allowed a (calls.register (cpu_number c) cs)) _ (calls.write_asked (request.Conditional a s v armed)) (line_at a)
 only_takes (ask.Bus (request.Fill line)) image cs c is = refl
 only_takes (ask.Bus (request.FillCode line)) image cs c is = refl
 only_takes (ask.Bus (request.Drain line mask bytes)) image cs c is = refl
@@ -83,20 +83,20 @@ signal_no_take : (o : Option Cpu) → is_take (signal_to o) ≡ false
 signal_no_take None = refl
 signal_no_take (Some target) = refl
 
-access_no_take : (k : Kind) (w : Wanted) (armed : Bool) (u : Kept) → is_take (access_ask k w armed u) ≡ false
+access_no_take : (k : Kind) (w : Wanted) (armed : Bool) (u : LocalMemory) → is_take (access_ask k w armed u) ≡ false
 access_no_take kind.Signal w armed u = signal_no_take (cpu_of w.value)
 access_no_take _ w armed u = refl
 
-step_no_take : (o : Option Wanted) (boundary armed : Bool) (u : Kept) (z : Ask2) → step_ask boundary o armed u ≡ Some z → is_take z ≡ false
+step_no_take : (o : Option Wanted) (boundary armed : Bool) (u : LocalMemory) (z : Ask2) → step_ask boundary o armed u ≡ Some z → is_take z ≡ false
 step_no_take None boundary armed u z is = ap is_take (sym (some_if boundary ask.Private z is))
-step_no_take (Some w) boundary armed u z is = ap is_take (sym (some_if (asking.ready w.kind (line_of w.address) u) (access_ask w.kind w armed u) z is)) ∙ access_no_take w.kind w armed u
+step_no_take (Some w) boundary armed u z is = ap is_take (sym (some_if (asking.is_ready w.kind (line_of w.address) u) (access_ask w.kind w armed u) z is)) ∙ access_no_take w.kind w armed u
 
-fill_for_no_take : (k : Kind) (w : Wanted) (u : Kept) (z : Ask2) → fill_for k w u ≡ Some z → is_take z ≡ false
+fill_for_no_take : (k : Kind) (w : Wanted) (u : LocalMemory) (z : Ask2) → fill_for k w u ≡ Some z → is_take z ≡ false
 fill_for_no_take kind.Fetch w u z is = ap is_take (sym (some_if (may_bring (line_of w.address) u.code) (ask.Bus (request.FillCode (line_at w.address))) z is))
 fill_for_no_take kind.Read w u z is = ap is_take (sym (some_if (may_bring (line_of w.address) (data_copies (line_of w.address) u)) (ask.Bus (request.Fill (line_at w.address))) z is))
 fill_for_no_take _ w u z is = cc
 
-fill_no_take : (o : Option Wanted) (u : Kept) (z : Ask2) → fill_ask o u ≡ Some z → is_take z ≡ false
+fill_no_take : (o : Option Wanted) (u : LocalMemory) (z : Ask2) → fill_ask o u ≡ Some z → is_take z ≡ false
 fill_no_take None u z is = cc
 fill_no_take (Some w) u z is = fill_for_no_take w.kind w u z is
 
@@ -114,7 +114,7 @@ take_nothing Even image cs c z is = let same : ask.Bus (request.Take Even) ≡ z
 take_nothing Odd image cs c z is = let same : ask.Bus (request.Take Odd) ≡ z = cc in ap (λ y. is_nothing (answer image cs c y)) (sym same) ∙ first_nothing (calls.late (cpu_number c) Odd cs)
 take_nothing Code image cs c z is = cc
 
-act_nothing : (a : Act) (i : Intent) (u : Kept) (image : ℕ → ℕ) (cs : List BusCall) (c : Cpu) (z : Ask2) → act_ask a i u ≡ Some z → is_nothing (answer image cs c z) ≡ not (has_late a cs (cpu_number c))
+act_nothing : (a : Act) (i : Intent) (u : LocalMemory) (image : ℕ → ℕ) (cs : List BusCall) (c : Cpu) (z : Ask2) → act_ask a i u ≡ Some z → is_nothing (answer image cs c z) ≡ not (has_late a cs (cpu_number c))
 act_nothing (act.Take b) i u image cs c z is = take_nothing b image cs c z is
 act_nothing act.Step i u image cs c z is = only_takes z image cs c (step_no_take i.wanted i.boundary i.armed u z is)
 act_nothing act.Fill i u image cs c z is = only_takes z image cs c (fill_no_take i.wanted u z is)
@@ -155,10 +155,10 @@ below_agrees image cpus budget h e below agrees bus =
     let w : World = world image cpus budget h in
     let a : Actor = w.actors (cpu_number e.cpu) in
     rw (lt-ltb (cpu_number e.cpu) cpus below)
-    (by_ask (ask_of e.act (about a) a.kept) (is_built e.act a) (has_late e.act w.calls (cpu_number e.cpu)) (image_bytes image) w.calls e.cpu (outcome_of a e.act (reply_at image w e)) (unbuilt_late e.act a w.calls (cpu_number e.cpu))
-    (λ z is. act_nothing e.act (about a) a.kept (image_bytes image) w.calls e.cpu z (ask_act (may_now e.act (about a).finished a.kept.since.filled) (act_ask e.act (about a) a.kept) z is))
-    ∙ ap not (legal_agrees (image_bytes image) (cpu_number e.cpu) h (about a) a.kept w.calls e.act agrees.buffer agrees.banks agrees.since bus)
-    ∙ ap not (sym (legal_by (processors image cpus budget) h e (about a) below (ap intent_of agrees.seat))))
+    (by_ask (ask_of e.act (actor_intent a) a.kept) (is_built e.act a) (has_late e.act w.calls (cpu_number e.cpu)) (image_bytes image) w.calls e.cpu (outcome_of a e.act (reply_at image w e)) (unbuilt_late e.act a w.calls (cpu_number e.cpu))
+    (λ z is. act_nothing e.act (actor_intent a) a.kept (image_bytes image) w.calls e.cpu z (ask_act (is_timely e.act (actor_intent a).finished a.kept.since.filled) (act_ask e.act (actor_intent a) a.kept) z is))
+    ∙ ap not (legal_agrees (image_bytes image) (cpu_number e.cpu) h (actor_intent a) a.kept w.calls e.act agrees.buffer agrees.banks agrees.since bus)
+    ∙ ap not (sym (legal_by (processors image cpus budget) h e (actor_intent a) below (ap intent_of agrees.seat))))
 
 -- an event of a processor that there is not is not legal
 pub refused_agrees : (image : Contents) (cpus budget : ℕ) (h : List Record) (e : Event) → Agrees image cpus budget h (cpu_number e.cpu) → BusAgrees (image_bytes image) h (world image cpus budget h).calls

@@ -12,20 +12,20 @@ use Rattle.axp_base.specs.Cpus.{cpu_by, cpu_number, cpu_of}
 use Rattle.axp_base.specs.Lines.{line_of}
 use Rattle.axp_base.specs.declared.processors.Cpu.{Cpu}
 use Rattle.axp_base.specs.declared.processors.TheConstants.{MAX_CPUS}
-use Rattle.axp_cpu.specs.Actors.{Actor, about, advanced, first_actor, outcome_of}
+use Rattle.axp_cpu.specs.Actors.{Actor, actor_intent, advanced, first_actor, outcome_of}
 use Rattle.axp_cpu.specs.Actors as actors
 use Rattle.axp_cpu.specs.Following as following
 use Rattle.axp_cpu.specs.Following.{processors, seat_in}
-use Rattle.axp_cpu.specs.Seats.{first_seat, intent_of, stepped}
+use Rattle.axp_cpu.specs.Seats.{first_seat, intent_of, seat_after_value}
 use Rattle.axp_image.specs.Contents.{Contents}
 use Rattle.axp_line.specs.declared.messages.Reply.{Reply}
 use Rattle.axp_lsu.specs.Going as going
 use Rattle.axp_lsu.specs.Going.{shown_by, success_by}
-use Rattle.axp_lsu.specs.Keeping.{Kept}
+use Rattle.axp_lsu.specs.Keeping.{LocalMemory}
 use Rattle.axp_access.specs.declared.Intent.{Intent}
-use Rattle.axp_model.specs.Legal.{legal, may_act}
+use Rattle.axp_model.specs.Legal.{legal, is_legal_act}
 use Rattle.axp_model.specs.Processors.{Processors}
-use Rattle.axp_model.specs.Records.{by}
+use Rattle.axp_model.specs.Records.{is_of}
 use Rattle.axp_regs.specs.declared.asks.Kind.{Kind}
 use Rattle.axp_regs.specs.declared.asks.Kind.TheVariants as kind
 use Rattle.axp_world.specs.Worlds.{IsPlayed, World, cpu_or_first, reply_at, world}
@@ -33,7 +33,7 @@ use Rattle.axp_world.proofs.Agreement.{world_intent}
 use Rattle.axp_world.proofs.PlayedRecords.{actor_other, actor_own, shown}
 
 -- what a record shows of an access is what its instruction got
-value_same : (k : Kind) (c : Cpu) (w : Wanted) (u : Kept) (r : Option Reply) (at : Place)
+value_same : (k : Kind) (c : Cpu) (w : Wanted) (u : LocalMemory) (r : Option Reply) (at : Place)
     → following.value_by k (record { cpu = c; kind = k; address = w.address; size = w.size; value = shown_by k w u r; yes = success_by k r; place = at }) ≡ going.value_by k w u r
 value_same kind.Fetch c w u r at = refl
 value_same kind.Read c w u r at = refl
@@ -44,10 +44,10 @@ value_same _ c w u r at = refl
 step_same : (o : Option Wanted) (c : Cpu) (r : Option Reply) (a : Actor) → following.seat_after_step (going.step_outcome c o a.kept r) a.seat ≡ actors.moved_by o r a
 unfolding going.value_of
 step_same None c r a = refl
-step_same (Some w) c r a = ap (stepped a.seat) (value_same w.kind c w a.kept r (going.place_by w.kind (line_of w.address) a.kept r))
+step_same (Some w) c r a = ap (seat_after_value a.seat) (value_same w.kind c w a.kept r (going.place_by w.kind (line_of w.address) a.kept r))
 
-act_same : (e : Act) (c : Cpu) (r : Option Reply) (a : Actor) → following.seat_after e (going.outcome_by e c (about a) a.kept r) a.seat ≡ actors.seat_after e r a
-act_same act.Step c r a = step_same (about a).wanted c r a
+act_same : (e : Act) (c : Cpu) (r : Option Reply) (a : Actor) → following.seat_after e (going.outcome_by e c (actor_intent a) a.kept r) a.seat ≡ actors.seat_after e r a
+act_same act.Step c r a = step_same (actor_intent a).wanted c r a
 act_same _ c r a = refl
 
 -- so a processor that acts is moved as its record says
@@ -68,7 +68,7 @@ seats_agree image cpus budget (r ∷ h) played p less =
     let w : World = world image cpus budget h in
     let before : seat_in image cpus budget p h ≡ (w.actors p).seat = seats_agree image cpus budget h played.1 p less in
     ⊎_elim
-    (λ (own : by p r ≡ true).
+    (λ (own : is_of p r ≡ true).
     let same : cpu_number r.event.cpu ≡ p = eqb-true (cpu_number r.event.cpu) p own in
     let s = shown image cpus w r.event r.outcome played.0 in
     let gave : r.outcome ≡ outcome_of (w.actors p) r.event.act (reply_at image w r.event) = s.outcome ∙ ap (λ n. outcome_of (w.actors n) r.event.act (reply_at image w r.event)) same in
@@ -76,8 +76,8 @@ seats_agree image cpus budget (r ∷ h) played p less =
     ∙ ap (λ o. following.seat_after r.event.act o (w.actors p).seat) gave
     ∙ own_same (w.actors p) r.event.act (reply_at image w r.event)
     ∙ ap (λ (a : Actor). a.seat) (sym (actor_own image w r.event p own))))
-    (λ (other : by p r ≡ false). rw other (before ∙ ap (λ (a : Actor). a.seat) (sym (actor_other image w r.event p other))))
-    (cases_Bool (by p r))
+    (λ (other : is_of p r ≡ false). rw other (before ∙ ap (λ (a : Actor). a.seat) (sym (actor_other image w r.event p other))))
+    (cases_Bool (is_of p r))
 
 pub intents_agree : (image : Contents) (cpus budget : ℕ) (h : List Record) → IsPlayed image cpus budget h → (p : ℕ) → p < MAX_CPUS → (processors image cpus budget).intent p h ≡ world_intent image cpus budget p h
 intents_agree image cpus budget h played p less = ap intent_of (seats_agree image cpus budget h played p less)
@@ -87,6 +87,6 @@ pub cpu_small : (c : Cpu) → cpu_number c < MAX_CPUS
 cpu_small c = ltb-true (cpu_number c) MAX_CPUS c.below
 
 -- an event of a processor that there is is legal exactly where its act may be made by its intent
-pub legal_by : (ps : Processors) (h : List Record) (e : Event) (i : Intent) → cpu_number e.cpu < ps.count → ps.intent (cpu_number e.cpu) h ≡ i → legal ps h e ≡ may_act e.act i (cpu_number e.cpu) h
+pub legal_by : (ps : Processors) (h : List Record) (e : Event) (i : Intent) → cpu_number e.cpu < ps.count → ps.intent (cpu_number e.cpu) h ≡ i → legal ps h e ≡ is_legal_act e.act i (cpu_number e.cpu) h
 unfolding legal
 legal_by ps h e i below same = rw (lt-ltb (cpu_number e.cpu) ps.count below, same) refl

@@ -16,14 +16,14 @@ use Rattle.axp_access.specs.declared.Wanted.{Wanted}
 use Rattle.axp_line.specs.Lines.{bytes_of_line}
 use Rattle.axp_line.specs.declared.contents.LineData.{LineData}
 use Rattle.axp_lsu.specs.Going.{fetched_value, part_of, read_value, stamp_or_none}
-use Rattle.axp_lsu.specs.Keeping.{Kept, data_copies}
+use Rattle.axp_lsu.specs.Keeping.{LocalMemory, data_copies}
 use Rattle.axp_line.specs.BusReply.{bytes_from, line_of_memory}
 use Rattle.axp_model.specs.Entries.{buffer, has_line}
 use Rattle.axp_model.specs.Late.{code_held, held}
 use Rattle.axp_model.specs.Memory.{memory_byte, memory_source, newest_waiting}
 use Rattle.axp_model.specs.Processors.{IsInLine}
 use Rattle.axp_model.specs.Accesses.{accesses, times}
-use Rattle.axp_access.specs.Numbering.{Item, next_item}
+use Rattle.axp_access.specs.Numbering.{NumberedAccess, next_access}
 use Rattle.axp_model.specs.Sources.{byte_of_source, source_byte, source_value}
 use Rattle.axp_model.specs.Turns.{code_stamp, read_place, stamp, turns}
 use Rattle.axp_laws.proofs.SourceClosedForm.{fetch_source, read_source}
@@ -73,23 +73,23 @@ abbrev pub to_read : Kind → Cpu → ℕ → ℕ → ℕ → Access
 to_read k c a s turn = record { cpu = c; kind = k; address = a; size = s; value = 0; yes = false; place = At turn }
 
 -- a fetch
-pub code_stamp_agrees : (image : ℕ → ℕ) (p l : ℕ) (h : List Record) (u : Kept) → BanksAgree image p h u → code_held p l h ≡ true → stamp_or_none (stamp_of l u.code) ≡ code_stamp p l h
+pub code_stamp_agrees : (image : ℕ → ℕ) (p l : ℕ) (h : List Record) (u : LocalMemory) → BanksAgree image p h u → code_held p l h ≡ true → stamp_or_none (stamp_of l u.code) ≡ code_stamp p l h
 code_stamp_agrees image p l h u banks holds = copy_stamp image h l (code_stamp p l h) (get_of l u.code) (banks.code_memory l) (sym (held_get l u.code) ∙ banks.code_lines_held l ∙ holds)
 
-pub fetched_agrees : (image : ℕ → ℕ) (c : Cpu) (w : Wanted) (h : List Record) (u : Kept) → BanksAgree image (cpu_number c) h u → IsInLine w.address w.size → code_held (cpu_number c) (line_of w.address) h ≡ true
-    → fetched_value w u ≡ source_value image h (next_item (accesses h) (to_read kind.Fetch c w.address w.size (code_stamp (cpu_number c) (line_of w.address) h)))
+pub fetched_agrees : (image : ℕ → ℕ) (c : Cpu) (w : Wanted) (h : List Record) (u : LocalMemory) → BanksAgree image (cpu_number c) h u → IsInLine w.address w.size → code_held (cpu_number c) (line_of w.address) h ≡ true
+    → fetched_value w u ≡ source_value image h (next_access (accesses h) (to_read kind.Fetch c w.address w.size (code_stamp (cpu_number c) (line_of w.address) h)))
 fetched_agrees image c w h u banks inside holds =
     let l : ℕ = line_of w.address in
     let n : ℕ = code_stamp (cpu_number c) l h in
-    let v : Item = next_item (accesses h) (to_read kind.Fetch c w.address w.size n) in
+    let v : NumberedAccess = next_access (accesses h) (to_read kind.Fetch c w.address w.size n) in
     copy_part image h (source_byte image h v) (λ bytes. bytes) w.address w.size n (get_of l u.code) inside (banks.code_memory l) (sym (held_get l u.code) ∙ banks.code_lines_held l ∙ holds)
     (λ bytes at whole line has. has ∙ sym (ap (byte_of_source image at) (fetch_source (times h) n at v (accesses h) refl refl refl)))
 
 -- a plain read
-pub stamp_agrees : (image : ℕ → ℕ) (p l : ℕ) (h : List Record) (u : Kept) → BanksAgree image p h u → held p l h ≡ true → stamp_or_none (stamp_of l (data_copies l u)) ≡ stamp p l h
+pub stamp_agrees : (image : ℕ → ℕ) (p l : ℕ) (h : List Record) (u : LocalMemory) → BanksAgree image p h u → held p l h ≡ true → stamp_or_none (stamp_of l (data_copies l u)) ≡ stamp p l h
 stamp_agrees image p l h u banks holds = copy_stamp image h l (stamp p l h) (get_of l (data_copies l u)) (banks.line_memory l) (sym (held_get l (data_copies l u)) ∙ banks.lines l ∙ holds)
 
-over_source : (image : ℕ → ℕ) (at : ℕ) (o m : Option Item) → byte_or o at (byte_of_source image at m) ≡ byte_of_source image at (option_or o m)
+over_source : (image : ℕ → ℕ) (at : ℕ) (o m : Option NumberedAccess) → byte_or o at (byte_of_source image at m) ≡ byte_of_source image at (option_or o m)
 over_source image at None m = refl
 over_source image at (Some u) m = refl
 
@@ -98,10 +98,10 @@ stamp_below p l h = omega arith
 
 read_byte : (image : ℕ → ℕ) (c : Cpu) (a s at : ℕ) (h : List Record) → Fitting h → line_of at ≡ line_of a → held (cpu_number c) (line_of a) h ≡ true
     → byte_or (newest_waiting (cpu_number c) at h) at (memory_byte image h (stamp (cpu_number c) (line_of a) h) at)
-    ≡ source_byte image h (next_item (accesses h) (to_read kind.Read c a s (read_place (cpu_number c) (line_of a) h))) at
+    ≡ source_byte image h (next_access (accesses h) (to_read kind.Read c a s (read_place (cpu_number c) (line_of a) h))) at
 read_byte image c a s at h fit line holds =
     let p : ℕ = cpu_number c in
-    let v : Item = next_item (accesses h) (to_read kind.Read c a s (read_place p (line_of a) h)) in
+    let v : NumberedAccess = next_access (accesses h) (to_read kind.Read c a s (read_place p (line_of a) h)) in
     let same : memory_source (times h) (read_place p (line_of a) h) at (accesses h) ≡ memory_source (times h) (stamp p (line_of a) h) at (accesses h) =
     subst (λ l. memory_source (times h) (read_place p l h) at (accesses h) ≡ memory_source (times h) (stamp p l h) at (accesses h)) line (held_memory h p at fit (rw line holds)) in
     let less : stamp p (line_of at) h ≤ read_place p (line_of a) h = subst (λ l. stamp p l h ≤ read_place p (line_of a) h) (sym line) (stamp_below p (line_of a) h) in
@@ -110,12 +110,12 @@ read_byte image c a s at h fit line holds =
     ∙ ap (λ m. byte_of_source image at (option_or (newest_waiting p at h) m)) (sym same)
     ∙ sym (ap (byte_of_source image at) source)
 
-pub read_agrees : (image : ℕ → ℕ) (c : Cpu) (w : Wanted) (h : List Record) (u : Kept) → Fitting h → BufferAgrees (cpu_number c) h u.buffer → BanksAgree image (cpu_number c) h u → IsInLine w.address w.size → held (cpu_number c) (line_of w.address) h ≡ true
-    → read_value w u ≡ source_value image h (next_item (accesses h) (to_read kind.Read c w.address w.size (read_place (cpu_number c) (line_of w.address) h)))
+pub read_agrees : (image : ℕ → ℕ) (c : Cpu) (w : Wanted) (h : List Record) (u : LocalMemory) → Fitting h → BufferAgrees (cpu_number c) h u.buffer → BanksAgree image (cpu_number c) h u → IsInLine w.address w.size → held (cpu_number c) (line_of w.address) h ≡ true
+    → read_value w u ≡ source_value image h (next_access (accesses h) (to_read kind.Read c w.address w.size (read_place (cpu_number c) (line_of w.address) h)))
 read_agrees image c w h u fit buffers banks inside holds =
     let p : ℕ = cpu_number c in
     let l : ℕ = line_of w.address in
-    let v : Item = next_item (accesses h) (to_read kind.Read c w.address w.size (read_place p l h)) in
+    let v : NumberedAccess = next_access (accesses h) (to_read kind.Read c w.address w.size (read_place p l h)) in
     copy_part image h (source_byte image h v) (overlaid l u.buffer.kept) w.address w.size (stamp p l h) (get_of l (data_copies l u)) inside (banks.line_memory l) (sym (held_get l (data_copies l u)) ∙ banks.lines l ∙ holds)
     (λ bytes at whole line has.
     subst (λ k. slice_index (overlaid k u.buffer.kept bytes) (at % LINE_BYTES) ≡ byte_or (newest_waiting p at h) at (slice_index bytes (at % LINE_BYTES))) line (buffers.over at bytes whole)
@@ -141,10 +141,10 @@ memory_line_byte memory a at small line =
     ∙ ap memory (omega (arith, line_at-number a small, line))
 
 pub locked_agrees : (image memory : ℕ → ℕ) (c : Cpu) (w : Wanted) (h : List Record) → Fitting h → IsInLine w.address w.size → has_line (line_of w.address) (buffer (cpu_number c) h).waiting ≡ false → ((at : ℕ) → memory at ≡ memory_byte image h (turns h) at)
-    → part (bytes_of_line (line_of_memory memory (line_at w.address))) (w.address % LINE_BYTES) w.size ≡ source_value image h (next_item (accesses h) (to_read kind.Locked c w.address w.size (turns h)))
+    → part (bytes_of_line (line_of_memory memory (line_at w.address))) (w.address % LINE_BYTES) w.size ≡ source_value image h (next_access (accesses h) (to_read kind.Locked c w.address w.size (turns h)))
 locked_agrees image memory c w h fit inside none same =
     let p : ℕ = cpu_number c in
-    let v : Item = next_item (accesses h) (to_read kind.Locked c w.address w.size (turns h)) in
+    let v : NumberedAccess = next_access (accesses h) (to_read kind.Locked c w.address w.size (turns h)) in
     line_part (source_byte image h v) (bytes_of_line (line_of_memory memory (line_at w.address))) w.address w.size inside
     (λ at line.
     memory_line_byte memory w.address at inside.addressed line

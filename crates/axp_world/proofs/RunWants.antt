@@ -7,16 +7,16 @@ use Rattle.axp_access.specs.declared.Act.{Act}
 use Rattle.axp_access.specs.declared.Act.TheVariants as act
 use Rattle.axp_access.specs.declared.Record.{Record}
 use Rattle.axp_access.specs.declared.Wanted.{Wanted}
-use Rattle.axp_cpu.specs.Actors.{Actor, about, advanced, moved_by, seat_after}
+use Rattle.axp_cpu.specs.Actors.{Actor, actor_intent, advanced, moved_by, seat_after}
 use Rattle.axp_access.specs.declared.Outcome.{Outcome}
 use Rattle.axp_access.specs.declared.Outcome.TheVariants as outcome
 use Rattle.axp_cpu.specs.Following as following
 use Rattle.axp_cpu.specs.Following.{processors, seat_after_step, seat_in, value_shown}
-use Rattle.axp_model.specs.Records.{by}
+use Rattle.axp_model.specs.Records.{is_of}
 use Rattle.axp_world.proofs.Agreement.{world_intent}
 use Rattle.axp_cpu.specs.Plans.{Plan, End, Want, Unbuilt, along}
 use Rattle.axp_cpu.specs.Rows.{group}
-use Rattle.axp_cpu.specs.Seats.{Seat, first_seat, first_table, is_finished, moved, plan_now, stepped, wanted, wanted_by}
+use Rattle.axp_cpu.specs.Seats.{Seat, first_seat, first_table, is_finished, seat_at_plan, plan_now, seat_after_value, wanted, wanted_by}
 use Rattle.axp_cpu.specs.Soundness.{IsSound, IsSoundAs}
 use Rattle.axp_cpu.proofs.PlanLemmas.{along_sound, group_sound}
 use Rattle.axp_cpu.proofs.SeatLemmas.{first_stands}
@@ -43,7 +43,7 @@ record IsSeated (s : Seat) : Type 0 where
 first_seated : (image : Contents) (cpus budget n : ℕ) → IsValid image → IsSeated (first_seat image cpus budget n)
 first_seated image cpus budget n valid = record { pages = valid.whole_pages; most = valid.most_size; pc = (first_stands image cpus budget n image.size (first_table image n) refl refl valid).pc }
 
-moved_seated : (s : Seat) (values : List ℕ) (p : Plan) → IsSeated s → IsSound s.size p → IsSeated (moved s values p)
+moved_seated : (s : Seat) (values : List ℕ) (p : Plan) → IsSeated s → IsSound s.size p → IsSeated (seat_at_plan s values p)
 moved_seated s values (End t) seated sound = record { pages = seated.pages; most = seated.most; pc = sound }
 moved_seated s values (Want w k) seated sound = record { pages = seated.pages; most = seated.most; pc = seated.pc }
 moved_seated s values Unbuilt seated sound = record { pages = seated.pages; most = seated.most; pc = seated.pc }
@@ -55,7 +55,7 @@ wanted_seated (Some w) r a seated =
     moved_seated a.seat values (along values (group a.seat.size a.seat.start)) seated (along_sound a.seat.size values (group a.seat.size a.seat.start) (group_sound a.seat.size a.seat.start seated.pages seated.pc))
 
 act_seated : (e : Act) (r : Option Reply) (a : Actor) → IsSeated a.seat → IsSeated (seat_after e r a)
-act_seated act.Step r a seated = wanted_seated (about a).wanted r a seated
+act_seated act.Step r a seated = wanted_seated (actor_intent a).wanted r a seated
 act_seated act.Fill r a seated = seated
 act_seated (act.Drain k) r a seated = seated
 act_seated (act.Take b) r a seated = seated
@@ -144,7 +144,7 @@ pub intents_want_no_poll : (image : Contents) (cpus budget : ℕ) → IsValid im
 intents_want_no_poll image cpus budget valid p h = (seat_wants ((world image cpus budget h).actors p).seat (seated image cpus budget valid h p)).2
 
 -- the same by the records alone
-step_seated : (s : Seat) (v : ℕ) → IsSeated s → IsSeated (stepped s v)
+step_seated : (s : Seat) (v : ℕ) → IsSeated s → IsSeated (seat_after_value s v)
 step_seated s v seated =
     let values : List ℕ = s.values ++ v ∷ [] in
     moved_seated s values (along values (group s.size s.start)) seated (along_sound s.size values (group s.size s.start) (group_sound s.size s.start seated.pages seated.pc))
@@ -160,7 +160,7 @@ record_seated _ o s seated = seated
 followed_seated : (image : Contents) (cpus budget : ℕ) → IsValid image → (h : List Record) (p : ℕ) → IsSeated (seat_in image cpus budget p h)
 followed_seated image cpus budget valid [] p = first_seated image cpus budget p valid
 followed_seated image cpus budget valid (r ∷ h) p =
-    cond_both (by p r) (following.seat_after r.event.act r.outcome (seat_in image cpus budget p h)) (seat_in image cpus budget p h) IsSeated
+    cond_both (is_of p r) (following.seat_after r.event.act r.outcome (seat_in image cpus budget p h)) (seat_in image cpus budget p h) IsSeated
     (λ own. record_seated r.event.act r.outcome (seat_in image cpus budget p h) (followed_seated image cpus budget valid h p)) (λ other. followed_seated image cpus budget valid h p)
 
 pub in_line : (image : Contents) (cpus budget : ℕ) → IsValid image → AreInLine (processors image cpus budget)

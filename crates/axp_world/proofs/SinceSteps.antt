@@ -9,53 +9,53 @@ use Rattle.axp_bank.specs.declared.copies.LineCopy.{LineCopy}
 use Rattle.axp_base.specs.declared.lines.Bank.{Bank}
 use Rattle.axp_base.specs.declared.lines.Bank.TheVariants.{Even, Odd, Code}
 use Rattle.axp_base.specs.declared.lines.Line.{Line}
-use Rattle.axp_cpu.specs.Actors.{about, advanced}
+use Rattle.axp_cpu.specs.Actors.{actor_intent, advanced}
 use Rattle.axp_image.specs.Contents.{Contents}
 use Rattle.axp_line.specs.declared.messages.Reply.{Reply}
 use Rattle.axp_line.specs.declared.messages.Reply.TheVariants as reply
 use Rattle.axp_lsu.specs.Going as going
-use Rattle.axp_lsu.specs.Going.{delivered, drained, filled, kept_after, rewritten}
-use Rattle.axp_lsu.specs.Keeping.{Kept, with_copies}
+use Rattle.axp_lsu.specs.Going.{after_late, after_drain, after_fill, after_act, after_stored}
+use Rattle.axp_lsu.specs.Keeping.{LocalMemory, with_copies}
 use Rattle.axp_lsu.specs.declared.since.Since.{Since}
 use Rattle.axp_wbuf.specs.Drains.{oldest_group}
 use Rattle.axp_wbuf.specs.Pending.{Pending}
 use Rattle.axp_model.specs.Legal.{since_step}
 use Rattle.axp_access.specs.Acts.{is_drop_of, is_fill, is_poll_act, is_step, is_tick}
-use Rattle.axp_model.specs.Records.{by}
+use Rattle.axp_model.specs.Records.{is_of}
 use Rattle.axp_world.specs.Worlds.{World, reply_at, world}
 use Rattle.axp_world.proofs.Agreement.{SinceAgrees}
 use Rattle.axp_world.proofs.PlayedRecords.{actor_other, actor_own}
 
 -- a change of copies leaves what was done
-with_copies_since : (b : Bank) (cs : List LineCopy) (u : Kept) → (with_copies b cs u).since ≡ u.since
+with_copies_since : (b : Bank) (cs : List LineCopy) (u : LocalMemory) → (with_copies b cs u).since ≡ u.since
 with_copies_since Even cs u = refl
 with_copies_since Odd cs u = refl
 with_copies_since Code cs u = refl
 
-rewritten_since : (line : Line) (r : Option Reply) (u : Kept) → (rewritten line r u).since ≡ u.since
+rewritten_since : (line : Line) (r : Option Reply) (u : LocalMemory) → (after_stored line r u).since ≡ u.since
 rewritten_since line (Some (reply.Stored turn bytes)) u = with_copies_since _ _ u
 rewritten_since line _ u = refl
 
-drained_since : (k : ℕ) (o : Option Pending) (r : Option Reply) (u : Kept) → (drained k o r u).since ≡ u.since
+drained_since : (k : ℕ) (o : Option Pending) (r : Option Reply) (u : LocalMemory) → (after_drain k o r u).since ≡ u.since
 drained_since k None r u = refl
 drained_since k (Some e) r u = rewritten_since _ r _
 
-delivered_since : (r : Option Reply) (u : Kept) → (delivered r u).since ≡ u.since
+delivered_since : (r : Option Reply) (u : LocalMemory) → (after_late r u).since ≡ u.since
 delivered_since (Some (reply.Late line turn)) u = with_copies_since _ _ u
 delivered_since _ u = refl
 
 -- what the newest act, an own one, makes of an act since the last Step
-stepped_since : (test : Act → Bool) (p : ℕ) (r : Record) (h : List Record) → by p r ≡ true → is_step r.event.act ≡ true → since_step test p (r ∷ h) ≡ false
+stepped_since : (test : Act → Bool) (p : ℕ) (r : Record) (h : List Record) → is_of p r ≡ true → is_step r.event.act ≡ true → since_step test p (r ∷ h) ≡ false
 stepped_since test p r h own step = rw own (rw step refl)
 
-made_since : (test : Act → Bool) (p : ℕ) (r : Record) (h : List Record) → by p r ≡ true → is_step r.event.act ≡ false → test r.event.act ≡ true → since_step test p (r ∷ h) ≡ true
+made_since : (test : Act → Bool) (p : ℕ) (r : Record) (h : List Record) → is_of p r ≡ true → is_step r.event.act ≡ false → test r.event.act ≡ true → since_step test p (r ∷ h) ≡ true
 made_since test p r h own step is = rw own (rw step (rw is refl))
 
-same_since : (test : Act → Bool) (p : ℕ) (r : Record) (h : List Record) → by p r ≡ true → is_step r.event.act ≡ false → test r.event.act ≡ false → since_step test p (r ∷ h) ≡ since_step test p h
+same_since : (test : Act → Bool) (p : ℕ) (r : Record) (h : List Record) → is_of p r ≡ true → is_step r.event.act ≡ false → test r.event.act ≡ false → since_step test p (r ∷ h) ≡ since_step test p h
 same_since test p r h own step is = rw own (rw step (rw is refl))
 
 -- an act that is none of these
-quiet_since : (p : ℕ) (r : Record) (h : List Record) (u v : Kept) → by p r ≡ true → is_step r.event.act ≡ false → is_fill r.event.act ≡ false → ((b : Bank) → is_drop_of b r.event.act ≡ false) → is_poll_act r.event.act ≡ false
+quiet_since : (p : ℕ) (r : Record) (h : List Record) (u v : LocalMemory) → is_of p r ≡ true → is_step r.event.act ≡ false → is_fill r.event.act ≡ false → ((b : Bank) → is_drop_of b r.event.act ≡ false) → is_poll_act r.event.act ≡ false
     → is_tick r.event.act ≡ false → v.since ≡ u.since → SinceAgrees p h u → SinceAgrees p (r ∷ h) v
 quiet_since p r h u v own step fill drop poll tick same was = record {
   filled = ap (λ (s : Since). s.filled) same ∙ was.filled ∙ sym (same_since is_fill p r h own step fill);
@@ -66,7 +66,7 @@ quiet_since p r h u v own step fill drop poll tick same was = record {
   ticked = ap (λ (s : Since). s.ticked) same ∙ was.ticked ∙ sym (same_since is_tick p r h own step tick);
 }
 
-own_since : (a : Act) (i : Intent) (t : Option Reply) (u : Kept) (p : ℕ) (r : Record) (h : List Record) → r.event.act ≡ a → by p r ≡ true → SinceAgrees p h u → SinceAgrees p (r ∷ h) (kept_after a i t u)
+own_since : (a : Act) (i : Intent) (t : Option Reply) (u : LocalMemory) (p : ℕ) (r : Record) (h : List Record) → r.event.act ≡ a → is_of p r ≡ true → SinceAgrees p h u → SinceAgrees p (r ∷ h) (after_act a i t u)
 own_since act.Step i t u p r h is own was =
     let step : is_step r.event.act ≡ true = rw is refl in
     record {
@@ -129,7 +129,7 @@ own_since act.Tick i t u p r h is own was = record {
 }
 
 -- another's record
-other_since : (p : ℕ) (r : Record) (h : List Record) (u : Kept) → by p r ≡ false → SinceAgrees p h u → SinceAgrees p (r ∷ h) u
+other_since : (p : ℕ) (r : Record) (h : List Record) (u : LocalMemory) → is_of p r ≡ false → SinceAgrees p h u → SinceAgrees p (r ∷ h) u
 other_since p r h u other was = record {
   filled = was.filled ∙ sym (stays is_fill);
   even = was.even ∙ sym (stays (is_drop_of Even));
@@ -150,6 +150,6 @@ unfolding advanced going.advanced
 since_agrees_step image cpus budget r h p was =
     let w : World = world image cpus budget h in
     ⊎_elim
-    (λ (own : by p r ≡ true). rw (actor_own image w r.event p own) (own_since r.event.act (about (w.actors p)) (reply_at image w r.event) (w.actors p).kept p r h refl own was))
-    (λ (other : by p r ≡ false). rw (actor_other image w r.event p other) (other_since p r h (w.actors p).kept other was))
-    (cases_Bool (by p r))
+    (λ (own : is_of p r ≡ true). rw (actor_own image w r.event p own) (own_since r.event.act (actor_intent (w.actors p)) (reply_at image w r.event) (w.actors p).kept p r h refl own was))
+    (λ (other : is_of p r ≡ false). rw (actor_other image w r.event p other) (other_since p r h (w.actors p).kept other was))
+    (cases_Bool (is_of p r))

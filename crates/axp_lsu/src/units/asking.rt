@@ -5,9 +5,9 @@ ghost use Rattle.axp_base.specs.Cpus.{cpu_of};
 ghost use Rattle.axp_base.specs.Lines.{line_number};
 ghost use Rattle.axp_line.specs.declared.messages.TheConstants.{MAX_HELD};
 ghost use Rattle.axp_wbuf.specs.Drains.{oldest_group};
-ghost use Rattle.axp_model.specs.Legal.{may_now};
+ghost use Rattle.axp_model.specs.Legal.{is_timely};
 ghost use Rattle.axp_base.specs.Lines.{line_at};
-ghost use Rattle.axp_lsu.specs.Asking.{ready, signal_to, access_ask, step_ask, fill_for, fill_ask, drain_ask, take_ask, act_ask, ask_of};
+ghost use Rattle.axp_lsu.specs.Asking.{is_ready, signal_to, access_ask, step_ask, fill_for, fill_ask, drain_ask, take_ask, act_ask, ask_of};
 ghost use Rattle.axp_lsu.specs.Fitting.{IsWithinSome};
 ghost use Rattle.axp_lsu.specs.Keeping.{addressed, copies_of, data_copies, has_dropped, held_pairs};
 ghost use Rattle.axp_lsu.specs.Within.{IsAskWithin, IsKeptWithin, IsSmall, IsWantedWithin};
@@ -35,7 +35,7 @@ impl Lsu {
         requires { IsWithinSome self.now }
         ensures { result ≡ ask_of act intent.now self.now }
     {
-        if may_now(act, intent.finished, self.since.filled) {
+        if is_timely(act, intent.finished, self.since.filled) {
             self.act_ask(act, intent)
         } else {
             None
@@ -84,7 +84,7 @@ impl Lsu {
 
     /// The condition of a step that makes an access of this kind to this line.
     fn is_ready(&self, kind: Kind, line: Line) -> bool
-        ensures { result ≡ ready kind (line_number line) self.now }
+        ensures { result ≡ is_ready kind (line_number line) self.now }
     {
         match kind {
             Kind::Fetch => self.code.holds(line),
@@ -193,8 +193,8 @@ fn private_if(legal: bool) -> Option<Ask2>
 }
 
 /// A finished processor may drain alone; after a fill only the step is left.
-fn may_now(act: Act, finished: bool, filled: bool) -> bool
-    ensures { result ≡ may_now act finished filled }
+fn is_timely(act: Act, finished: bool, filled: bool) -> bool
+    ensures { result ≡ is_timely act finished filled }
 {
     match act {
         Act::Step => !finished,

@@ -8,9 +8,9 @@ ghost use Rattle.axp_wbuf.specs.Drains.{oldest_group};
 ghost use Rattle.axp_model.specs.Outcomes.{bank_for};
 ghost use Rattle.axp_base.specs.Lines.{line_of, line_at};
 ghost use Rattle.axp_wbuf.specs.Pending.{takes, stored, store_number};
-ghost use Rattle.axp_lsu.specs.Asking.{act_ask, ask_of, ready};
-ghost use Rattle.axp_lsu.specs.Fitting.{Fits2, IsWantedInSome, ShowsFitting, WantsFitting};
-ghost use Rattle.axp_lsu.specs.Going.{accessed, advanced, brought, delivered, drain_outcome, drained, fenced, filled, fill_outcome, kept_after, outcome_by, outcome_of, place_by, poll_outcome, rewritten, stamp_or_none, step_outcome, stepped, success_by, take_outcome, turn_in};
+ghost use Rattle.axp_lsu.specs.Asking.{act_ask, ask_of, is_ready};
+ghost use Rattle.axp_lsu.specs.Fitting.{ReplyFits, IsWantedInSome, ShowsFitting, WantsFitting};
+ghost use Rattle.axp_lsu.specs.Going.{after_access, advanced, after_line, after_late, drain_outcome, after_drain, after_barrier, after_fill, fill_outcome, after_act, outcome_by, outcome_of, place_by, poll_outcome, after_stored, stamp_or_none, step_outcome, after_step, success_by, take_outcome, turn_in};
 ghost use Rattle.axp_lsu.specs.Keeping.{copies_of, data_copies, nothing, with_copies, with_drop};
 ghost use Rattle.axp_lsu.specs.Within.{IsKeptWithin, IsWantedWithin};
 
@@ -26,7 +26,7 @@ use axp_wbuf::Full;
 impl Lsu {
     /// Does an act that is legal, with the bus's answer where it asked, and tells its outcome.
     pub fn advance(&mut self, act: Act, cpu: Cpu, intent: &Intent, reply: Option<Reply>) -> Outcome
-        requires fits { Fits2 (ask_of act intent.now self.old) reply }
+        requires fits { ReplyFits (ask_of act intent.now self.old) reply }
         requires wanted { IsWantedInSome intent.now.wanted }
         requires few_made { self.old.buffer.made + 1 < 2 ^ 32 }
         ensures outcome { result ≡ outcome_of act cpu intent.now self.old reply }
@@ -40,7 +40,7 @@ impl Lsu {
 
     #[tactic(auto, unfolding(crate::specs::Going::outcome_of, crate::specs::Going::advanced))]
     fn go_on(&mut self, act: Act, cpu: Cpu, intent: &Intent, reply: Option<Reply>) -> Outcome
-        requires fits { Fits2 (ask_of act intent.now self.old) reply }
+        requires fits { ReplyFits (ask_of act intent.now self.old) reply }
         requires wanted { IsWantedInSome intent.now.wanted }
         requires few_made { self.old.buffer.made + 1 < 2 ^ 32 }
         ensures outcome { result ≡ outcome_of act cpu intent.now self.old reply }
@@ -69,12 +69,12 @@ impl Lsu {
 
     /// Makes the wanted access, or none.
     fn step(&mut self, cpu: Cpu, intent: &Intent, reply: Option<Reply>) -> Outcome
-        requires fits { Fits2 (act_ask Step intent.now self.old) reply }
+        requires fits { ReplyFits (act_ask Step intent.now self.old) reply }
         requires wanted { IsWantedInSome intent.now.wanted }
         requires few_made { self.old.buffer.made + 1 < 2 ^ 32 }
         ensures outcome { result ≡ step_outcome cpu intent.now.wanted self.old reply }
         ensures fits { WantsFitting intent.now.wanted → ShowsFitting result }
-        ensures kept { self.new ≡ record (stepped intent.now.wanted reply self.old) { since = nothing } }
+        ensures kept { self.new ≡ record (after_step intent.now.wanted reply self.old) { since = nothing } }
     {
         let outcome = match &intent.wanted {
             None => Outcome::NoAccess,
@@ -86,12 +86,12 @@ impl Lsu {
 
     /// Makes an access.
     fn make(&mut self, cpu: Cpu, wanted: &Wanted, reply: Option<Reply>) -> Outcome
-        requires ready { ready wanted.now.kind (line_of wanted.now.address) self.old ≡ true }
+        requires is_ready { is_ready wanted.now.kind (line_of wanted.now.address) self.old ≡ true }
         requires wanted { IsWantedInSome (Some wanted.now) }
         requires few_made { self.old.buffer.made + 1 < 2 ^ 32 }
         ensures outcome { result ≡ step_outcome cpu (Some wanted.now) self.old reply }
         ensures fits { WantsFitting (Some wanted.now) → ShowsFitting result }
-        ensures kept { self.new ≡ accessed wanted.now.kind wanted.now reply self.old }
+        ensures kept { self.new ≡ after_access wanted.now.kind wanted.now reply self.old }
     {
         let value = self.shown(wanted, reply);
         let place = self.access(wanted, reply);
@@ -108,11 +108,11 @@ impl Lsu {
 
     /// Does what an access does to what is kept, and tells where the access stands.
     fn access(&mut self, wanted: &Wanted, reply: Option<Reply>) -> Place
-        requires ready { ready wanted.now.kind (line_of wanted.now.address) self.old ≡ true }
+        requires is_ready { is_ready wanted.now.kind (line_of wanted.now.address) self.old ≡ true }
         requires wanted { IsWantedInSome (Some wanted.now) }
         requires few_made { self.old.buffer.made + 1 < 2 ^ 32 }
         ensures place { result ≡ place_by wanted.now.kind (line_of wanted.now.address) self.old reply }
-        ensures kept { self.new ≡ accessed wanted.now.kind wanted.now reply self.old }
+        ensures kept { self.new ≡ after_access wanted.now.kind wanted.now reply self.old }
     {
         let line = line_at(wanted.address);
         match wanted.kind {
@@ -174,7 +174,7 @@ impl Lsu {
 
     /// A line comes from the bus: its copy is put into the bank, or refreshed where it is held.
     fn bring(&mut self, bank: Bank, line: Line, reply: Option<Reply>)
-        ensures { self.new ≡ brought bank line reply self.old }
+        ensures { self.new ≡ after_line bank line reply self.old }
     {
         if let Some(Reply::Line { turn, bytes }) = reply {
             self.put(bank, line, turn, bytes);
@@ -194,7 +194,7 @@ impl Lsu {
 
     /// A line was written to memory: its data copy, if there is one, is now the line as written.
     fn rewrite(&mut self, line: Line, reply: Option<Reply>)
-        ensures { self.new ≡ rewritten line reply self.old }
+        ensures { self.new ≡ after_stored line reply self.old }
     {
         if let Some(Reply::Stored { turn, bytes }) = reply {
             self.refresh(line, turn, bytes);
@@ -213,7 +213,7 @@ impl Lsu {
 
     /// A barrier delivers all that was late: the bits are of bank `d0`'s copies, and then of `d1`'s.
     fn fence(&mut self, reply: Option<Reply>)
-        ensures { self.new ≡ fenced reply self.old }
+        ensures { self.new ≡ after_barrier reply self.old }
     {
         if let Some(Reply::Barrier { turn, gone }) = reply {
             let even = self.even.len();
@@ -226,7 +226,7 @@ impl Lsu {
     /// Copies the line of a wanted fetch or plain read into its bank.
     fn fill(&mut self, intent: &Intent, reply: Option<Reply>) -> Outcome
         ensures outcome { result ≡ fill_outcome intent.now.wanted reply }
-        ensures kept { self.new ≡ record (filled intent.now.wanted reply self.old) { since = record self.old.since { filled = true } } }
+        ensures kept { self.new ≡ record (after_fill intent.now.wanted reply self.old) { since = record self.old.since { filled = true } } }
     {
         self.since.filled = true;
         match &intent.wanted {
@@ -248,7 +248,7 @@ impl Lsu {
     fn drain(&mut self, k: u8, reply: Option<Reply>) -> Outcome
         requires { k < length (oldest_group self.old.buffer.kept) }
         ensures outcome { result ≡ drain_outcome (slice_get (oldest_group self.old.buffer.kept) k) reply }
-        ensures kept { self.new ≡ drained k (slice_get (oldest_group self.old.buffer.kept) k) reply self.old }
+        ensures kept { self.new ≡ after_drain k (slice_get (oldest_group self.old.buffer.kept) k) reply self.old }
     {
         let (entry, line, _, _) = self.buffer.oldest(k);
         self.buffer.remove(k);
@@ -263,7 +263,7 @@ impl Lsu {
     /// A delivered pair removes an older copy.
     fn take(&mut self, reply: Option<Reply>) -> Outcome
         ensures outcome { result ≡ take_outcome self.old reply }
-        ensures kept { self.new ≡ delivered reply self.old }
+        ensures kept { self.new ≡ after_late reply self.old }
     {
         match reply {
             Some(Reply::Late { line, turn }) => Outcome::Taken {

@@ -1,5 +1,5 @@
 use Rattle.std.proofs.Common.{Some, refl, ap₂, ◌∙◌}
-use Rattle.axp_line.specs.BusReply.{reply_by, tried}
+use Rattle.axp_line.specs.BusReply.{reply_by, conditional_reply}
 use Rattle.axp_bus.specs.Buses.{front_of}
 use Rattle.axp_bus.proofs.replies.reply_at.Goals as goal
 
@@ -25,5 +25,5 @@ unfolding reply_by
 returns-in-Conditional c = λ m agrees.
     let f = front_of m c.args.turns c.args.lane.now in
     c.tried_reply.ensures m c.args.lane.now agrees
-    ∙ ap₂ (λ w l. tried c.succeeds.result f (Some w) l) c.conditional_write-write.ensures.value c.conditional_write-write.ensures.line
+    ∙ ap₂ (λ w l. conditional_reply c.succeeds.result f (Some w) l) c.conditional_write-write.ensures.value c.conditional_write-write.ensures.line
     ∙ rw (c.in-Conditional.is, c.succeeds.ensures) refl

@@ -4,7 +4,7 @@ use Rattle.axp_base.specs.Cpus.{cpu_number}
 use Rattle.axp_base.specs.declared.lines.TheConstants.{LINE_BYTES}
 use Rattle.axp_base.specs.declared.parts.TheConstants.{QUADWORD_BYTES}
 use Rattle.axp_base.specs.declared.processors.TheConstants.{MAX_CPUS}
-use Rattle.axp_line.specs.BusCalls.{memory, wrote}
+use Rattle.axp_line.specs.BusCalls.{memory, write_made}
 use Rattle.axp_bus.specs.Buses.{State, AreTidy, MayAsk, NotedAll}
 use Rattle.axp_bus.specs.Marks.{Marked}
 use Rattle.axp_bus.specs.BusParts.{state_of}
@@ -62,6 +62,6 @@ returns-clause-stands c = λ image calls stands.
     let replied = c.reply_at-reply.ensures (memory image calls) was.memory ∙ reply_is (state_of b) image calls (cpu_number c.args.cpu) lane c.args.request.now was below here in
     let marks : length c.mark_down.new.marks ≡ length b.touched.items = c.mark_down.ensures.size ∙ ap length c.as_mut_slice-2.ensures.value in
     let touched = with_items_is b.touched c.mark_down.new.marks (omega (arith, marks, b.touched.ok.0)) in
-    let marked = subst (λ ts. Marked (wrote c.args.request.now c.reply_at-reply.result) b.touched.items ts) (sym touched)
-    (subst (λ ts. Marked (wrote c.args.request.now c.reply_at-reply.result) ts c.mark_down.new.marks) c.as_mut_slice-2.ensures.value c.mark_down.ensures) in
+    let marked = subst (λ ts. Marked (write_made c.args.request.now c.reply_at-reply.result) b.touched.items ts) (sym touched)
+    (subst (λ ts. Marked (write_made c.args.request.now c.reply_at-reply.result) ts c.mark_down.new.marks) c.as_mut_slice-2.ensures.value c.mark_down.ensures) in
     stands_after (state_of b) _ image calls c.args.cpu c.args.request.now c.reply_at-reply.result was replied (c.write_down.ensures.bytes (memory image calls) was.memory) marked c.turns_after-self-inside.ensures (subst (λ ls. NotedAll (cpu_number c.args.cpu) (b.turns + 1) c.args.request.now c.reply_at-reply.result b.lanes.items ls) (sym items) noted) (ap length items ∙ size) c.print.ensures.bytes

@@ -1,5 +1,5 @@
 use Rattle.std.proofs.Common.{◌+◌, ◌≤◌, sym, subst}
-use Rattle.axp_lsu.specs.Keeping.{Kept}
+use Rattle.axp_lsu.specs.Keeping.{LocalMemory}
 use Rattle.axp_lsu.specs.Within.{IsKeptWithin}
 use Rattle.axp_lsu.proofs.Goes.{advanced_few, advanced_within}
 use Rattle.axp_lsu.proofs.units.Lsu.advance.Goals as goal
@@ -10,4 +10,4 @@ returns-clause-within c size kept wanted =
 
 pub returns-clause-one_more : goal.returns-clause-one_more
 returns-clause-one_more c =
-    subst (λ (u : Kept). u.buffer.made ≤ c.args.self.now.buffer.made + 1) (sym c.go_on.ensures.kept) (advanced_few c.args.act c.args.intent.now c.args.reply c.args.self.now)
+    subst (λ (u : LocalMemory). u.buffer.made ≤ c.args.self.now.buffer.made + 1) (sym c.go_on.ensures.kept) (advanced_few c.args.act c.args.intent.now c.args.reply c.args.self.now)
