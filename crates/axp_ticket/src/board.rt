@@ -20,7 +20,7 @@ pub struct Own<Ask, Answer> {
 }
 
 /// What a seat of the table is for.
-pub enum Role<T, Ask, Answer> {
+pub enum Role<Value, Ask, Answer> {
     /// Its number and calls went to the seat that gathers.
     Nobody,
     /// Between two calls of its number.
@@ -28,24 +28,24 @@ pub enum Role<T, Ask, Answer> {
     /// With the ticket that was drawn.
     Waits(Own<Ask, Answer>, u64),
     /// With the ticket, and the value as it was taken.
-    Turns(Own<Ask, Answer>, u64, T),
+    Turns(Own<Ask, Answer>, u64, Value),
     /// How many numbers were handed out, and those that came back with their calls.
     Gathers(u64, LinkedList<Own<Ask, Answer>>),
 }
 
 /// What a seat of the table knows: the value that the lock was opened with, and its role. No value
 /// of it is made.
-pub struct View<T, Ask, Answer> {
-    pub opened: Option<T>,
-    pub role: Role<T, Ask, Answer>,
+pub struct View<Value, Ask, Answer> {
+    pub opened: Option<Value>,
+    pub role: Role<Value, Ask, Answer>,
 }
 
 /// What the lock was opened with.
 #[derive(Drop)]
-pub struct Opening<T> {
+pub struct Opening<Value> {
     pub seats: u8,
     pub allowance: u32,
-    pub value: Snapshot<T>,
+    pub value: Snapshot<Value>,
 }
 
 /// The rule of the table.

@@ -11,14 +11,10 @@ mod laws;
 mod lock;
 mod plays;
 mod serving;
-mod sharing;
 
 pub use laws::{callers_are_in_order, each_call_is_right, kept_calls_fix_the_history};
 pub use lock::{TicketLock, TicketSeat, TicketSeats};
 pub use serving::Served;
-pub use sharing::{
-    Wrapper, lock_is_send, lock_is_sync, seat_is_send, seats_are_send, wrapper_is_sync,
-};
 
 #[cfg(test)]
 mod tests;

@@ -1,7 +1,7 @@
 use Rattle.std.proofs.Common.{rules, ℕ, sym, subst}
 use Rattle.axp_ticket.specs.History.{AllBack}
 use Rattle.axp_ticket.specs.Seats.{seats_kept}
-use Rattle.axp_ticket.proofs.Backs.{none_out, one_more_back}
+use Rattle.axp_ticket.proofs.NumbersBack.{none_out, one_more_back}
 use Rattle.axp_ticket.proofs.tests.three_seats_of_one_thread.Goals as goal
 
 pub close-counter-requires-clause-home : goal.close-counter-requires-clause-home

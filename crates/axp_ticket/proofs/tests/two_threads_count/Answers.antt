@@ -1,7 +1,7 @@
 use Rattle.std.proofs.Common.{rules, ℕ, sym, ◌∙◌, subst}
 use Rattle.axp_ticket.specs.History.{own, AllBack}
 use Rattle.axp_ticket.specs.Seats.{seat_calls, seats_kept}
-use Rattle.axp_ticket.proofs.Backs.{none_out, one_more_back}
+use Rattle.axp_ticket.proofs.NumbersBack.{none_out, one_more_back}
 use Rattle.axp_ticket.proofs.tests.two_threads_count.Goals as goal
 
 pub close-counter-requires-clause-home : goal.close-counter-requires-clause-home

@@ -1,5 +1,5 @@
 use Rattle.std.proofs.Common.{rules}
-use Rattle.axp_ticket.proofs.Queueing.{draws}
+use Rattle.axp_ticket.proofs.RuleDraw.{draws}
 use Rattle.axp_ticket.proofs.lock.TicketLock.draw.Goals as goal
 
 pub fetch_add-requires : goal.fetch_add-requires

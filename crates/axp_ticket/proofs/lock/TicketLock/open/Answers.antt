@@ -1,7 +1,7 @@
 use Rattle.std.proofs.Common.{◌≡◌, ◌*◌, ◌≤◌, [], ◌∷◌, ◌++◌, Some, sym, ap, ◌∙◌, subst}
 use Rattle.atomic_table.specs.Table.{opening}
 use Rattle.axp_ticket.specs.Queue.{Queued, gathering}
-use Rattle.axp_ticket.proofs.Ends.{starts}
+use Rattle.axp_ticket.proofs.RuleOpening.{starts}
 use Rattle.axp_ticket.proofs.lock.TicketLock.open.Goals as goal
 
 pub new-requires : goal.new-requires

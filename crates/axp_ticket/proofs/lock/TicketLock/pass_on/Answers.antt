@@ -7,7 +7,7 @@ use Rattle.axp_ticket.specs.declared.board.Role.TheVariants.{Idle}
 use Rattle.axp_ticket.specs.History.{own, placed}
 use Rattle.axp_ticket.specs.Moves.{posed, own_of, passed}
 use Rattle.axp_ticket.specs.Queue.{Queued}
-use Rattle.axp_ticket.proofs.Queueing.{passes}
+use Rattle.axp_ticket.proofs.RulePassOn.{passes}
 use Rattle.axp_ticket.proofs.lock.TicketLock.pass_on.Goals as goal
 
 pub fetch_add-position-requires : goal.fetch_add-position-requires
@@ -22,7 +22,7 @@ fetch_add-position-requires g c =
       search rules,
       subst (λ z. Allows Rule c.args.self.now.table.shared.table_id.slots c.exchange.new.seat.id z 1 (λ n. (n + 1) % 2 ^ 64) (passed g.S.Served.calls (step c.args.self.now.table.shared.table_id.slots 1 1 0 none) z)) (sym is)
           (passes g.S.Served.start g.S.Served.room g.S.Served.calls g.S.Served.Right _ _ _ _ _ (m.0, (0, Some c.args.value) ∷ []) c.args.ticket v c.args.value new.0
-          c.requires.turns.0 (search rules) (new.1.0 ∙ c.requires.whose) new.2 c.requires.same right c.args.self.now.few),
+          c.requires.turns.0 (search rules) (new.1.0 ∙ c.requires.whose) new.2 (c.requires.start, c.requires.room) right c.args.self.now.few),
     )
 
 stepped_on : (g : _) (c : goal.After-wake_all g) → (c.fetch_add-position.new.seat.me ≡ (
