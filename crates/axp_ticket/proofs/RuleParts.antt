@@ -86,7 +86,7 @@ module _ {Value Start Ask Answer : Type 0} (start : Value → Start) (room : Val
     told = told_in;
     whole = whole_in;
     once = once_in;
-    allowed = λ j k v o at e. (r.each_sound j v at).0 k o e;
+    allowed = λ j k v o h. (r.each_sound j v h.0).0 k o h.1;
     begun = r.begun;
     stored = r.stored;
     right = all_right_each Right (start opened) p.log r.right;

@@ -12,7 +12,7 @@ use Rattle.axp_ticket.specs.declared.board.Own.{Own}
 use Rattle.axp_ticket.specs.declared.board.Role.{Role}
 use Rattle.axp_ticket.specs.declared.board.Role.TheVariants.{Nobody, Idle, Waits, Turns, Gathers}
 use Rattle.axp_ticket.specs.declared.board.View.{View}
-use Rattle.axp_ticket.specs.History.{placed, own, IsAmong, AllBefore}
+use Rattle.axp_ticket.specs.History.{placed, with_call, IsAmong, AllBefore}
 use Rattle.axp_ticket.specs.Moves.{Held, own_of, posed, passed}
 use Rattle.axp_ticket.specs.Queue.{rights, total, ticket_of, numbers_of, IsOpened, IsSound, Owns, Holds, Progress, Knows, IsHome, Stands, Queued}
 use Rattle.axp_ticket.proofs.ListPlaces.{last_same}
@@ -76,7 +76,7 @@ module _ {Value Start Ask Answer : Type 0} (start : Value → Start) (room : Val
   -- the calls of the number, with the one that was made
   calls_after : (p : Progress Value Ask Answer) (o : Own Ask Answer) (j position : ℕ) (c : Call Ask Answer) → Owns p.log p.given p.owner j o
       → caller c ≡ o.number → position ≡ length p.log
-      → Owns (p.log ++ c ∷ []) p.given p.owner j (own o.number (o.calls ++ placed position c ∷ []))
+      → Owns (p.log ++ c ∷ []) p.given p.owner j (with_call position c o)
   calls_after p o j position c owns whose is = record {
     below = owns.below;
     mine = owns.mine;
@@ -91,10 +91,10 @@ module _ {Value Start Ask Answer : Type 0} (start : Value → Start) (room : Val
       → (start back ≡ start value) × (room back ≡ room value) → Right (start value) (calls value) (caller c) c.ask c.answer
       → position ≡ length p.log → word ≡ length p.log + 1 → IsHome homes' back
       → Stands start room calls Right seats allowance opened
-      record { words = set s.words 1 word; homes = homes'; views = set s.views id (posed v (Idle (own o.number (o.calls ++ placed position c ∷ [])))) } (after_call c back p)
+      record { words = set s.words 1 word; homes = homes'; views = set s.views id (posed v (Idle (with_call position c o))) } (after_call c back p)
   passed_stands s p r id v o ticket position word value back c homes' at is whose longer same right position_is word_is home =
       let turns : Knows p s.homes id (Turns o ticket value) = known_as s p r id v (Turns o ticket value) at is in
-      let o' : Own Ask Answer = own o.number (o.calls ++ placed position c ∷ []) in
+      let o' : Own Ask Answer = with_call position c o in
       let w : View Value Ask Answer = posed v (Idle o') in
       let log' : List (Call Ask Answer) = p.log ++ c ∷ [] in
       let long : length log' ≡ length p.log + 1 = length-append p.log (c ∷ []) in
@@ -135,13 +135,13 @@ module _ {Value Start Ask Answer : Type 0} (start : Value → Start) (room : Val
   -- what the step tells: the seat is as it says of any call that the value has more, since there is one such call
   passed_tells : (slots : ℕ) (m : Held Value Ask Answer) (n ticket : ℕ) (value back : Value) (c : Call Ask Answer)
       → m.0.role ≡ Turns (own_of m.0.role) ticket value → m.1 ≡ (0, Some back) ∷ [] → calls back ≡ calls value ++ c ∷ [] → n ≡ ticket → AllBefore (own_of m.0.role).calls n
-      → passed calls (step slots 1 1 0 none) m n (posed m.0 (Idle (own (own_of m.0.role).number ((own_of m.0.role).calls ++ placed n c ∷ []))), rest m.1)
+      → passed calls (step slots 1 1 0 none) m n (posed m.0 (Idle (with_call n c (own_of m.0.role))), rest m.1)
   passed_tells slots m n ticket value back c is carried longer now later = λ t₂ v₂ b₂ c₂ is₂ carried₂ longer₂.
       let o : Own Ask Answer = own_of m.0.role in
       let a : value ≡ v₂ = ap (turn_value value) (sym is ∙ is₂) in
       let b : back ≡ b₂ = ap (carried_or back) (sym carried ∙ carried₂) in
       let e : c ≡ c₂ = last_same (calls value) c c₂ (sym longer ∙ (ap calls b ∙ (longer₂ ∙ ap (λ (x : Value). calls x ++ c₂ ∷ []) (sym a)))) in (
-        (λ i. (posed m.0 (Idle (own o.number (o.calls ++ placed n (e i) ∷ []))), ap rest carried i)),
+        (λ i. (posed m.0 (Idle (with_call n (e i) o)), ap rest carried i)),
         now ∙ ap turn_ticket (sym is ∙ is₂),
         later,
       )
@@ -155,7 +155,7 @@ module _ {Value Start Ask Answer : Type 0} (start : Value → Start) (room : Val
       let n : ℕ = get_or s.words 1 0 in
       let n_is : n ≡ length p.log = ap (λ (ws : List ℕ). get_or ws 1 0) r.words in
       let turns : Knows p s.homes id (Turns o ticket value) = known_as s p r id m.0 (Turns o ticket value) at is in
-      let w : View Value Ask Answer = posed m.0 (Idle (own o.number (o.calls ++ placed n c ∷ []))) in
+      let w : View Value Ask Answer = posed m.0 (Idle (with_call n c o)) in
       let tickets : p.next < 2 ^ 32 = few_tickets s p r few in
       let served = r.served in
       let fits' : n + 1 < 2 ^ 64 = omega arith in

@@ -17,10 +17,14 @@ CountRight start calls number ask answer = answer ≡ start + length calls
 
 module _ {Value Start Ask Answer : Type 0} {g : Ghosts Value Start Ask Answer} where
   -- a processor's seat of the lock, without calls
-  abbrev pub IsReady : TicketLock Value Start Ask Answer → TicketSeat Value Start Ask Answer g → Type 0
-  IsReady lock seat = IsSeatOf lock seat × (seat_calls seat ≡ []) × (seat_number seat < MAX_CPUS)
+  abbrev pub IsReady : TicketLock Value Start Ask Answer → TicketSeat Value Start Ask Answer g
+      → Type 0
+  IsReady lock seat =
+      IsSeatOf lock seat × (seat_calls seat ≡ []) × (seat_number seat < MAX_CPUS)
 
   -- the seat after so many calls
-  abbrev pub HasCounted : TicketLock Value Start Ask Answer → TicketSeat Value Start Ask Answer g → TicketSeat Value Start Ask Answer g → ℕ → Type 0
+  abbrev pub HasCounted : TicketLock Value Start Ask Answer → TicketSeat Value Start Ask Answer g
+      → TicketSeat Value Start Ask Answer g → ℕ → Type 0
   HasCounted lock seat after count =
-      IsSeatOf lock after × (seat_number after ≡ seat_number seat) × (length (seat_calls after) ≡ count)
+      IsSeatOf lock after × (seat_number after ≡ seat_number seat)
+      × (length (seat_calls after) ≡ count)

@@ -16,25 +16,33 @@ module _ {Ask Answer : Type 0} where
   abbrev pub own : ℕ → List (Placed Ask Answer) → Own Ask Answer
   own number calls = record { number = number; calls = calls }
 
+  -- the number with one call more
+  abbrev pub with_call : ℕ → Call Ask Answer → Own Ask Answer → Own Ask Answer
+  with_call position c o = own o.number (o.calls ++ placed position c ∷ [])
+
   -- the calls of a number among these, the first of which has the position `first`
   abbrev pub calls_from : ℕ → ℕ → List (Call Ask Answer) → List (Placed Ask Answer)
   calls_from number first [] = []
   calls_from number first (c ∷ cs) =
-      if caller c == number then placed first c ∷ calls_from number (suc first) cs else calls_from number (suc first) cs
+      if caller c == number then placed first c ∷ calls_from number (suc first) cs
+      else calls_from number (suc first) cs
 
   -- the calls of a number, each with its position
   abbrev pub calls_of : ℕ → List (Call Ask Answer) → List (Placed Ask Answer)
   calls_of number log = calls_from number 0 log
 
   -- the second list is the first with one call more, of this number, with this ask and answer
-  abbrev pub IsOneLonger : List (Call Ask Answer) → List (Call Ask Answer) → ℕ → Ask → Answer → Type 0
+  abbrev pub IsOneLonger : List (Call Ask Answer) → List (Call Ask Answer) → ℕ → Ask → Answer
+      → Type 0
   IsOneLonger before after number ask answer =
       (c : Call Ask Answer) × IsCall number ask answer c × (after ≡ before ++ c ∷ [])
 
   -- the second list has one call more: this number's at this position, with this ask and answer
-  abbrev pub HasOneMore : List (Placed Ask Answer) → List (Placed Ask Answer) → ℕ → ℕ → Ask → Answer → Type 0
+  abbrev pub HasOneMore : List (Placed Ask Answer) → List (Placed Ask Answer) → ℕ → ℕ → Ask → Answer
+      → Type 0
   HasOneMore before after number position ask answer =
-      (c : Call Ask Answer) × IsCall number ask answer c × (after ≡ before ++ placed position c ∷ [])
+      (c : Call Ask Answer) × IsCall number ask answer c
+      × (after ≡ before ++ placed position c ∷ [])
 
   -- all positions of these calls are below this one
   abbrev pub AllBefore : List (Placed Ask Answer) → ℕ → Type 0
@@ -43,7 +51,8 @@ module _ {Ask Answer : Type 0} where
 
   -- the number is among these
   abbrev pub IsAmong : ℕ → List (Own Ask Answer) → Type 0
-  IsAmong number os = (k : ℕ) × (o : Own Ask Answer) × (get_elem? os k ≡ some o) × (o.number ≡ number)
+  IsAmong number os =
+      (k : ℕ) × (o : Own Ask Answer) × (get_elem? os k ≡ some o) × (o.number ≡ number)
 
   -- each number is among these once at most
   abbrev pub EachOnce : List (Own Ask Answer) → Type 0
@@ -55,16 +64,20 @@ module _ {Ask Answer : Type 0} where
   abbrev pub AllBack : ℕ → List (Own Ask Answer) → Type 0
   AllBack given kept = (number : ℕ) → number < given → IsAmong number kept
 
-module _ {Start Ask Answer : Type 0} (Right : Start → List (Call Ask Answer) → ℕ → Ask → Answer → Type 0) (start : Start) where
-  -- The answer is right after the calls before it: as many as its position, and among them the number's own are these.
-  pub record IsRightAt (number : ℕ) (own_calls : List (Placed Ask Answer)) (position : ℕ) (ask : Ask) (answer : Answer) : Type 0 where
+module _ {Start Ask Answer : Type 0}
+    (Right : Start → List (Call Ask Answer) → ℕ → Ask → Answer → Type 0) (start : Start) where
+  -- The answer is right after the calls before it: as many as its position, and among them the
+  -- number's own are these.
+  pub record IsRightAt (number : ℕ) (own_calls : List (Placed Ask Answer)) (position : ℕ)
+      (ask : Ask) (answer : Answer) : Type 0 where
     pub before : List (Call Ask Answer)
     pub many : length before ≡ position
     pub mine : calls_of number before ≡ own_calls
     pub right : Right start before number ask answer
 
   -- The calls that are kept stand in this list of calls, and each call of it is right.
-  pub record IsHistoryOf (given : ℕ) (kept : List (Own Ask Answer)) (log : List (Call Ask Answer)) : Type 0 where
+  pub record IsHistoryOf (given : ℕ) (kept : List (Own Ask Answer))
+      (log : List (Call Ask Answer)) : Type 0 where
     -- each call is right after those before it
     pub right : AllRight Right start log
     -- no number is kept twice
@@ -72,14 +85,17 @@ module _ {Start Ask Answer : Type 0} (Right : Start → List (Call Ask Answer) �
     -- a number that was not handed out has no calls
     pub unmade : (number : ℕ) → given ≤ number → calls_of number log ≡ []
     -- a number that is kept has exactly its calls, each with its position
-    pub each : (k : ℕ) (o : Own Ask Answer) → get_elem? kept k ≡ some o → o.calls ≡ calls_of o.number log
+    pub each : (k : ℕ) (o : Own Ask Answer)
+        → get_elem? kept k ≡ some o → o.calls ≡ calls_of o.number log
 
   -- there is such a list
   abbrev pub IsHistory : ℕ → List (Own Ask Answer) → Type 0
   IsHistory given kept = (log : List (Call Ask Answer)) × IsHistoryOf given kept log
 
-  -- The calls that are kept are those of this list: each stands at one position, each position has one of them, and each is right after those before it.
-  pub record IsOneHistory (kept : List (Own Ask Answer)) (log : List (Call Ask Answer)) : Type 0 where
+  -- The calls that are kept are those of this list: each stands at one position, each
+  -- position has one of them, and each is right after those before it.
+  pub record IsOneHistory (kept : List (Own Ask Answer))
+      (log : List (Call Ask Answer)) : Type 0 where
     -- each call is right after those before it
     pub right : EachRight Right start log
     -- a kept call stands in the list at its position, and is a call of its number

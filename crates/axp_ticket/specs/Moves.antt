@@ -10,7 +10,7 @@ use Rattle.axp_ticket.specs.declared.board.Own.{Own}
 use Rattle.axp_ticket.specs.declared.board.Role.{Role}
 use Rattle.axp_ticket.specs.declared.board.Role.TheVariants.{Nobody, Idle, Waits, Turns, Gathers}
 use Rattle.axp_ticket.specs.declared.board.View.{View}
-use Rattle.axp_ticket.specs.History.{placed, own, calls_of, AllBefore, IsHistory}
+use Rattle.axp_ticket.specs.History.{own, with_call, calls_of, AllBefore, IsHistory}
 
 module _ {Value Ask Answer : Type 0} where
   -- the number that the seat is for, with its calls
@@ -76,10 +76,11 @@ module _ {Value Ask Answer : Type 0} where
   -- the same seat after its turn, with this call more
   abbrev pub idling : Held Value Ask Answer → ℕ → Call Ask Answer → Held Value Ask Answer
   idling m position c =
-      (posed m.0 (Idle (own (own_of m.0.role).number ((own_of m.0.role).calls ++ placed position c ∷ []))), [])
+      (posed m.0 (Idle (with_call position c (own_of m.0.role))), [])
 
-  -- the seat is idle again, one call longer: its number's at this position, with this ask and answer
-  abbrev pub HasCalled : ℕ → Ask → Answer → ℕ → Held Value Ask Answer → Held Value Ask Answer → Type 0
+  -- the seat is idle again with one call more: at this position, with this ask and answer
+  abbrev pub HasCalled : ℕ → Ask → Answer → ℕ → Held Value Ask Answer → Held Value Ask Answer
+      → Type 0
   HasCalled number ask answer position m m' =
       (c : Call Ask Answer) × IsCall number ask answer c × (m' ≡ idling m position c)
 
@@ -88,11 +89,14 @@ module _ {Value Ask Answer : Type 0} where
   HasValue m = (value : Value) × (m.1 ≡ (0, Some value) ∷ [])
 
   -- the seat waits with the ticket that it found
-  abbrev pub drawn : Step (Option Value) → Held Value Ask Answer → ℕ → Held Value Ask Answer → Type 0
+  abbrev pub drawn : Step (Option Value) → Held Value Ask Answer → ℕ → Held Value Ask Answer
+      → Type 0
   drawn s m n m' = (m' ≡ (posed m.0 (Waits (own_of m.0.role) n), m.1)) × (n < 2 ^ 32)
 
-  module _ {Start : Type 0} (start : Value → Start) (room : Value → ℕ) (calls : Value → List (Call Ask Answer)) where
-    -- The value has its start, as many calls as the ticket says, the seat's own among them, and room for one more.
+  module _ {Start : Type 0} (start : Value → Start) (room : Value → ℕ)
+      (calls : Value → List (Call Ask Answer)) where
+    -- The value has its start, as many calls as the ticket says, the seat's own among them, and
+    -- room for one more.
     pub record IsTaken (v : View Value Ask Answer) (ticket : ℕ) (value : Value) : Type 0 where
       pub begun : (x : Value) → v.opened ≡ Some x → start value ≡ start x
       pub many : length (calls value) ≡ ticket
@@ -104,19 +108,26 @@ module _ {Value Ask Answer : Type 0} where
     HasTurned ticket m m' =
         (value : Value) × (m' ≡ turning m ticket value (Some value)) × IsTaken m.0 ticket value
 
-    -- where the word is another ticket nothing changed; where it is the seat's own it has its turn, and the value
-    abbrev pub looked : Step (Option Value) → Held Value Ask Answer → ℕ → Held Value Ask Answer → Type 0
-    looked s m n m' = (n < 2 ^ 32) × ((ticket : ℕ) → m.0.role ≡ Waits (own_of m.0.role) ticket
+    -- Where the word is another ticket nothing changed. Where it is the seat's own it has its turn,
+    -- and the value.
+    abbrev pub looked : Step (Option Value) → Held Value Ask Answer → ℕ → Held Value Ask Answer
+        → Type 0
+    looked s m n m' = (n < 2 ^ 32) × ((ticket : ℕ)
+        → m.0.role ≡ Waits (own_of m.0.role) ticket
         → (n ≢ ticket → m' ≡ m) × (n ≡ ticket → HasTurned ticket m m'))
 
-  -- Where the value that is given back has one call more, that call is the seat's, at the position that it found. This was its ticket, and is greater than those of its earlier calls.
-  abbrev pub passed : (Value → List (Call Ask Answer)) → Step (Option Value) → Held Value Ask Answer → ℕ → Held Value Ask Answer → Type 0
+  -- Where the value that is given back has one call more, that call is the seat's, at the position
+  -- that it found. This was its ticket, and is greater than those of its earlier calls.
+  abbrev pub passed : (Value → List (Call Ask Answer)) → Step (Option Value)
+      → Held Value Ask Answer → ℕ → Held Value Ask Answer → Type 0
   passed calls s m n m' = (ticket : ℕ) (value back : Value) (c : Call Ask Answer)
-      → m.0.role ≡ Turns (own_of m.0.role) ticket value → m.1 ≡ (0, Some back) ∷ [] → calls back ≡ calls value ++ c ∷ []
+      → m.0.role ≡ Turns (own_of m.0.role) ticket value → m.1 ≡ (0, Some back) ∷ []
+      → calls back ≡ calls value ++ c ∷ []
       → (m' ≡ idling m n c) × (n ≡ ticket) × AllBefore (own_of m.0.role).calls n
 
   -- the seat that gathers keeps calls of one history
-  abbrev pub settled : {Start : Type 0} → (Value → Start) → (Start → List (Call Ask Answer) → ℕ → Ask → Answer → Type 0)
+  abbrev pub settled : {Start : Type 0} → (Value → Start)
+      → (Start → List (Call Ask Answer) → ℕ → Ask → Answer → Type 0)
       → Step (Option Value) → Held Value Ask Answer → ℕ → Held Value Ask Answer → Type 0
   settled start Right s m n m' = (m' ≡ m) × ((given : ℕ) (x : Value)
       → m.0.role ≡ Gathers given (kept_of m.0.role) → m.0.opened ≡ Some x
@@ -136,24 +147,29 @@ module _ {Value Ask Answer : Type 0} where
   IsPassOf table opened pass = (pass.table_id ≡ table) × (pass.me.0.opened ≡ Some opened)
 
   -- the seat stays the same one of the table
-  abbrev pub IsSame : Seat (Option Value) (View Value Ask Answer) → Seat (Option Value) (View Value Ask Answer) → Type 0
+  abbrev pub IsSame : Seat (Option Value) (View Value Ask Answer)
+      → Seat (Option Value) (View Value Ask Answer) → Type 0
   IsSame before after =
-      (after.table_id ≡ before.table_id) × (after.id ≡ before.id) × (after.me.0.opened ≡ before.me.0.opened)
+      (after.table_id ≡ before.table_id) × (after.id ≡ before.id)
+      × (after.me.0.opened ≡ before.me.0.opened)
 
   -- the seat is this number's, between two calls
   abbrev pub IsIdle : ℕ → Seat (Option Value) (View Value Ask Answer) → Type 0
   IsIdle number pass =
-      (pass.me.0.role ≡ Idle (own_of pass.me.0.role)) × ((own_of pass.me.0.role).number ≡ number) × (pass.me.1 ≡ [])
+      (pass.me.0.role ≡ Idle (own_of pass.me.0.role))
+      × ((own_of pass.me.0.role).number ≡ number) × (pass.me.1 ≡ [])
 
   -- the seat waits with this ticket
   abbrev pub IsWaiting : ℕ → Seat (Option Value) (View Value Ask Answer) → Type 0
   IsWaiting ticket pass = (pass.me.0.role ≡ Waits (own_of pass.me.0.role) ticket) × (pass.me.1 ≡ [])
 
   -- the seat has the turn with this ticket and took this value, and will put this back
-  abbrev pub IsTurning : ℕ → Value → Option Value → Seat (Option Value) (View Value Ask Answer) → Type 0
+  abbrev pub IsTurning : ℕ → Value → Option Value → Seat (Option Value) (View Value Ask Answer)
+      → Type 0
   IsTurning ticket value back pass =
       (pass.me.0.role ≡ Turns (own_of pass.me.0.role) ticket value) × (pass.me.1 ≡ (0, back) ∷ [])
 
   -- the seat gathers, and so many numbers were handed out
   abbrev pub IsGathering : ℕ → Seat (Option Value) (View Value Ask Answer) → Type 0
-  IsGathering given pass = (pass.me.0.role ≡ Gathers given (kept_of pass.me.0.role)) × (pass.me.1 ≡ [])
+  IsGathering given pass =
+      (pass.me.0.role ≡ Gathers given (kept_of pass.me.0.role)) × (pass.me.1 ≡ [])

@@ -48,7 +48,8 @@ module _ {Value Ask Answer : Type 0} where
   -- no number has more calls, made and drawn for, than it is allowed
   abbrev pub IsWithin : ℕ → Role Value Ask Answer → Type 0
   IsWithin allowance role =
-      (k : ℕ) (o : Own Ask Answer) → get_elem? (numbers_of role) k ≡ some o → length o.calls + pending role ≤ allowance
+      (k : ℕ) (o : Own Ask Answer)
+      → get_elem? (numbers_of role) k ≡ some o → length o.calls + pending role ≤ allowance
 
   -- and none stands twice
   abbrev pub IsSound : ℕ → Role Value Ask Answer → Type 0
@@ -72,7 +73,8 @@ pub record Progress (Value Ask Answer : Type 0) : Type 0 where
   pub holder : ℕ → ℕ
 
 -- The number stands in view j, with all its calls.
-pub record Owns {Ask Answer : Type 0} (log : List (Call Ask Answer)) (given_ : ℕ) (owner : ℕ → ℕ) (j : ℕ) (o : Own Ask Answer) : Type 0 where
+pub record Owns {Ask Answer : Type 0} (log : List (Call Ask Answer)) (given_ : ℕ)
+    (owner : ℕ → ℕ) (j : ℕ) (o : Own Ask Answer) : Type 0 where
   pub below : o.number < given_
   pub mine : owner o.number ≡ j
   pub calls : o.calls ≡ calls_of o.number log
@@ -96,29 +98,37 @@ module _ {Value Ask Answer : Type 0} where
   -- view j has the turn, with this value, where so many calls were made
   abbrev pub HasTurn : List (View Value Ask Answer) → ℕ → Value → ℕ → Type 0
   HasTurn views served value j =
-      (v : View Value Ask Answer) × (o : Own Ask Answer) × (get_elem? views j ≡ some v) × (v.role ≡ Turns o served value)
+      (v : View Value Ask Answer) × (o : Own Ask Answer)
+      × (get_elem? views j ≡ some v) × (v.role ≡ Turns o served value)
 
   -- view j has this of its role
   abbrev pub Finds : List (View Value Ask Answer) → ℕ → (Role Value Ask Answer → Type 0) → Type 0
   Finds views j Has = (v : View Value Ask Answer) × (get_elem? views j ≡ some v) × Has v.role
 
-  module _ (p : Progress Value Ask Answer) (homes : List (mathlib.Core.Option.Option (Option Value))) (j : ℕ) where
+  module _ (p : Progress Value Ask Answer)
+      (homes : List (mathlib.Core.Option.Option (Option Value))) (j : ℕ) where
     -- what view j knows, by its role
     abbrev pub Knows : Role Value Ask Answer → Type 0
     Knows Nobody = Unit {0}
     Knows (Idle o) = Owns p.log p.given p.owner j o
-    Knows (Waits o ticket) = Owns p.log p.given p.owner j o × Holds (length p.log) p.next p.holder j ticket
+    Knows (Waits o ticket) =
+        Owns p.log p.given p.owner j o × Holds (length p.log) p.next p.holder j ticket
     Knows (Turns o ticket value) =
         Owns p.log p.given p.owner j o × Holds (length p.log) p.next p.holder j ticket
         × (ticket ≡ length p.log) × (value ≡ p.value) × IsAway homes
     Knows (Gathers given kept) =
         (given ≡ p.given) × (j ≡ p.gatherer)
-        × ((k : ℕ) (o : Own Ask Answer) → get_elem? kept k ≡ some o → Owns p.log p.given p.owner j o)
+        × ((k : ℕ) (o : Own Ask Answer)
+        → get_elem? kept k ≡ some o → Owns p.log p.given p.owner j o)
 
-module _ {Value Start Ask Answer : Type 0} (start : Value → Start) (room : Value → ℕ) (calls : Value → List (Call Ask Answer)) (Right : Start → List (Call Ask Answer) → ℕ → Ask → Answer → Type 0) (seats allowance : ℕ) (opened : Value) where
+module _ {Value Start Ask Answer : Type 0} (start : Value → Start) (room : Value → ℕ)
+    (calls : Value → List (Call Ask Answer))
+    (Right : Start → List (Call Ask Answer) → ℕ → Ask → Answer → Type 0)
+    (seats allowance : ℕ) (opened : Value) where
   -- The table stands where these steps have come to.
-  pub record Stands (s : State (Option Value) (View Value Ask Answer)) (p : Progress Value Ask Answer) : Type 0 where
-    -- the words are the next ticket and the ticket that is served, which is the number of calls so far
+  pub record Stands (s : State (Option Value) (View Value Ask Answer))
+      (p : Progress Value Ask Answer) : Type 0 where
+    -- the words are the next ticket and the ticket that is served: the number of calls so far
     pub words : s.words ≡ p.next ∷ length p.log ∷ []
     pub served : length p.log ≤ p.next
     -- each call is right after those before it
@@ -133,15 +143,21 @@ module _ {Value Start Ask Answer : Type 0} (start : Value → Start) (room : Val
     pub bound : p.next + total (rights seats allowance) s.views ≤ seats * allowance
     pub ample : seats * allowance ≤ room opened
     -- the value is at home, or away where a view has the turn
-    pub home : IsHome s.homes p.value ⊎ (IsAway s.homes × (j : ℕ) × HasTurn s.views (length p.log) p.value j)
+    pub home : IsHome s.homes p.value
+        ⊎ (IsAway s.homes × (j : ℕ) × HasTurn s.views (length p.log) p.value j)
     -- what each view knows
-    pub each_opened : (j : ℕ) (v : View Value Ask Answer) → get_elem? s.views j ≡ some v → IsOpened opened v
-    pub each_knows : (j : ℕ) (v : View Value Ask Answer) → get_elem? s.views j ≡ some v → Knows p s.homes j v.role
-    pub each_sound : (j : ℕ) (v : View Value Ask Answer) → get_elem? s.views j ≡ some v → IsSound allowance v.role
+    pub each_opened : (j : ℕ) (v : View Value Ask Answer)
+        → get_elem? s.views j ≡ some v → IsOpened opened v
+    pub each_knows : (j : ℕ) (v : View Value Ask Answer)
+        → get_elem? s.views j ≡ some v → Knows p s.homes j v.role
+    pub each_sound : (j : ℕ) (v : View Value Ask Answer)
+        → get_elem? s.views j ≡ some v → IsSound allowance v.role
     -- each ticket from the one that is served on is held by a view
-    pub each_ticket : (t : ℕ) → length p.log ≤ t → t < p.next → Finds s.views (p.holder t) (λ role. ticket_of role ≡ Some t)
+    pub each_ticket : (t : ℕ) → length p.log ≤ t → t < p.next
+        → Finds s.views (p.holder t) (λ role. ticket_of role ≡ Some t)
     -- each number that was handed out stands in a view
-    pub each_number : (n : ℕ) → n < p.given → Finds s.views (p.owner n) (λ role. IsAmong n (numbers_of role))
+    pub each_number : (n : ℕ) → n < p.given
+        → Finds s.views (p.owner n) (λ role. IsAmong n (numbers_of role))
 
   -- The rule: there are steps where the table stands.
   abbrev pub Queued : State (Option Value) (View Value Ask Answer) → Type 0

@@ -31,7 +31,8 @@ module _ {Value Start Ask Answer : Type 0} where
       (lock_seats lock ≡ seats) × (lock_allowance lock ≡ allowance) × (lock_value lock ≡ value)
 
   -- a seat of the table is one of the lock's
-  abbrev pub IsPassIn : TicketLock Value Start Ask Answer → Seat (Option Value) (View Value Ask Answer) → Type 0
+  abbrev pub IsPassIn : TicketLock Value Start Ask Answer
+      → Seat (Option Value) (View Value Ask Answer) → Type 0
   IsPassIn lock pass = IsPassOf lock.table.shared.table_id (lock_value lock) pass
 
 module _ {Value Start Ask Answer : Type 0} {g : Ghosts Value Start Ask Answer} where
@@ -44,7 +45,8 @@ module _ {Value Start Ask Answer : Type 0} {g : Ghosts Value Start Ask Answer} w
   seats_kept seats = pass_kept seats.pass
 
   -- these are the lock's seats
-  abbrev pub IsSeatsOf : TicketLock Value Start Ask Answer → TicketSeats Value Start Ask Answer g → Type 0
+  abbrev pub IsSeatsOf : TicketLock Value Start Ask Answer
+      → TicketSeats Value Start Ask Answer g → Type 0
   IsSeatsOf lock seats =
       IsPassIn lock seats.pass × (seats.given ≤ lock_seats lock)
 
@@ -69,15 +71,19 @@ module _ {Value Start Ask Answer : Type 0} {g : Ghosts Value Start Ask Answer} w
   seat_own seat = own (seat_number seat) (seat_calls seat)
 
   -- this is a seat of the lock
-  abbrev pub IsSeatOf : TicketLock Value Start Ask Answer → TicketSeat Value Start Ask Answer g → Type 0
+  abbrev pub IsSeatOf : TicketLock Value Start Ask Answer
+      → TicketSeat Value Start Ask Answer g → Type 0
   IsSeatOf lock seat = IsPassIn lock seat.pass
 
   -- this is the lock's seat of this number, without calls
-  abbrev pub IsNewSeatOf : TicketLock Value Start Ask Answer → ℕ → TicketSeat Value Start Ask Answer g → Type 0
-  IsNewSeatOf lock number seat = IsSeatOf lock seat × (seat_number seat ≡ number) × (seat_calls seat ≡ [])
+  abbrev pub IsNewSeatOf : TicketLock Value Start Ask Answer → ℕ
+      → TicketSeat Value Start Ask Answer g → Type 0
+  IsNewSeatOf lock number seat =
+      IsSeatOf lock seat × (seat_number seat ≡ number) × (seat_calls seat ≡ [])
 
   -- the seat after has one call more: its own, at this position, with this ask and answer
-  abbrev pub HasOneCallMore : TicketSeat Value Start Ask Answer g → TicketSeat Value Start Ask Answer g → ℕ → Ask → Answer → Type 0
+  abbrev pub HasOneCallMore : TicketSeat Value Start Ask Answer g
+      → TicketSeat Value Start Ask Answer g → ℕ → Ask → Answer → Type 0
   HasOneCallMore before after position ask answer =
       HasOneMore (seat_calls before) (seat_calls after) (seat_number before) position ask answer
 
@@ -85,25 +91,32 @@ module _ {Value Start Ask Answer : Type 0} {g : Ghosts Value Start Ask Answer} w
   abbrev pub LaterThan : TicketSeat Value Start Ask Answer g → ℕ → Type 0
   LaterThan seat position = AllBefore (seat_calls seat) position
 
-  -- The answer is right after the calls before this position, of which the seat's own are those that it has made.
-  abbrev pub IsRightInTurn : TicketLock Value Start Ask Answer → TicketSeat Value Start Ask Answer g → ℕ → Ask → Answer → Type 0
+  -- The answer is right after the calls before this position. The seat's own among these are those
+  -- that it has made.
+  abbrev pub IsRightInTurn : TicketLock Value Start Ask Answer → TicketSeat Value Start Ask Answer g
+      → ℕ → Ask → Answer → Type 0
   IsRightInTurn lock seat position ask answer =
-      IsRightAt g.Right (g.start (lock_value lock)) (seat_number seat) (seat_calls seat) position ask answer
+      IsRightAt g.Right (g.start (lock_value lock)) (seat_number seat) (seat_calls seat)
+      position ask answer
 
-  -- the calls that came back stand in this list of calls, each of which is right after those before it
-  abbrev pub KeepsHistoryOf : TicketLock Value Start Ask Answer → TicketSeats Value Start Ask Answer g → List (Call Ask Answer) → Type 0
+  -- the calls that came back stand in this list, each call of which is right after those before it
+  abbrev pub KeepsHistoryOf : TicketLock Value Start Ask Answer
+      → TicketSeats Value Start Ask Answer g → List (Call Ask Answer) → Type 0
   KeepsHistoryOf lock seats log =
       IsHistoryOf g.Right (g.start (lock_value lock)) (seats_given seats) (seats_kept seats) log
 
   -- there is such a list
-  abbrev pub KeepsHistory : TicketLock Value Start Ask Answer → TicketSeats Value Start Ask Answer g → Type 0
+  abbrev pub KeepsHistory : TicketLock Value Start Ask Answer
+      → TicketSeats Value Start Ask Answer g → Type 0
   KeepsHistory lock seats = (log : List (Call Ask Answer)) × KeepsHistoryOf lock seats log
 
-  -- the calls that came back are all calls of this list, each of which is right after those before it
-  abbrev pub KeepsOneHistoryOf : TicketLock Value Start Ask Answer → TicketSeats Value Start Ask Answer g → List (Call Ask Answer) → Type 0
+  -- the calls that came back are all calls of this list, each of which is right after those before
+  abbrev pub KeepsOneHistoryOf : TicketLock Value Start Ask Answer
+      → TicketSeats Value Start Ask Answer g → List (Call Ask Answer) → Type 0
   KeepsOneHistoryOf lock seats log =
       IsOneHistory g.Right (g.start (lock_value lock)) (seats_kept seats) log
 
   -- there is such a list
-  abbrev pub KeepsOneHistory : TicketLock Value Start Ask Answer → TicketSeats Value Start Ask Answer g → Type 0
+  abbrev pub KeepsOneHistory : TicketLock Value Start Ask Answer
+      → TicketSeats Value Start Ask Answer g → Type 0
   KeepsOneHistory lock seats = (log : List (Call Ask Answer)) × KeepsOneHistoryOf lock seats log

@@ -1,4 +1,4 @@
-//! The table that all seats share. Word 0 is the next ticket, and word 1 is the ticket that is served.
+//! The table that all seats share. Word 0 is the next ticket, and word 1 the ticket that is served.
 //! The one slot holds the value.
 use crate::serving::Served;
 use atomic_table::TableRule;
@@ -56,7 +56,8 @@ pub struct InTurn<S> {
 impl<S: Served> TableRule<Option<S>, View<S, S::Ask, S::Answer>, Opening<S>> for InTurn<S> {
     ghost use Rattle.axp_ticket.specs.Queue.{Queued, gathering};
 
-    ghost holds = { λ key. Queued S.start S.room S.calls S.Right key.seats key.allowance key.value.value };
+    ghost holds = { λ key. Queued S.start S.room S.calls S.Right
+        key.seats key.allowance key.value.value };
 
     ghost first = { λ key. gathering key.value.value };
 }

@@ -20,7 +20,8 @@ pub struct TicketLock<S: Served> {
     ghost few: { table.shared.key.seats * table.shared.key.allowance < 2 ^ 32 },
 }
 
-/// The seats of a lock that were not yet handed out, and those that were given back with their calls.
+/// The seats of a lock that were not yet handed out, and those that were given back with their
+/// calls.
 #[derive(Drop)]
 pub struct TicketSeats<S: Served> {
     given: u8,

@@ -28,7 +28,8 @@ pub trait Served: Drop {
     ghost Fits: { Self.Start → ℕ → Self.Ask → Type 0 };
 
     /// Which answer is right at a start, after earlier calls, for the seat of a number and its ask.
-    ghost Right: { Self.Start → List (Call Self.Ask Self.Answer) → ℕ → Self.Ask → Self.Answer → Type 0 };
+    ghost Right: { Self.Start → List (Call Self.Ask Self.Answer)
+        → ℕ → Self.Ask → Self.Answer → Type 0 };
 
     /// Answers the ask, and appends exactly this call. The seat's number is that of a processor.
     fn reply(&mut self, seat: u8, ask: Self::Ask) -> Self::Answer

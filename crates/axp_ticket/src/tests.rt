@@ -1,7 +1,7 @@
 // A counter is served to threads.
-ghost use Rattle.std.specs.Prelude.{◌≤◌};
+ghost use Rattle.std.specs.Prelude.{◌≡◌, ◌≤◌, ◌+◌};
 ghost use Rattle.axp_ticket.specs.Counting.{IsReady, HasCounted};
-ghost use Rattle.axp_ticket.specs.Seats.{lock_allowance};
+ghost use Rattle.axp_ticket.specs.Seats.{lock_allowance, lock_value};
 
 use crate::{TicketLock, TicketSeat};
 use std::sync::Wait;
@@ -31,6 +31,20 @@ fn work<R: Wait>(
         seat = next;
     }
     seat
+}
+
+// One call, whose count is known at once by its position.
+fn count<R: Wait>(
+    rt: &R,
+    lock: &TicketLock<Counter>,
+    seat: TicketSeat<Counter>,
+) -> (TicketSeat<Counter>, u32, u64)
+    requires seat { IsReady lock.now seat }
+    requires few { 1 ≤ lock_allowance lock.now }
+    ensures seat { HasCounted lock.now seat result.0 1 }
+    ensures count { result.2 ≡ (lock_value lock.now).start + result.1 }
+{
+    lock.turn(rt, seat, 0)
 }
 
 fn both<R: Threads + Wait + Sync>(
@@ -97,6 +111,19 @@ fn three_seats_of_one_thread(rt: HostRuntime) -> Result<(), Fail> {
         asks.push((call.cpu.number(), call.ask))?;
     }
     assert_eq!(rt; asks.as_slice(), [(2, 9), (0, 8), (2, 7)].as_slice());
+    Ok(())
+}
+
+#[test]
+fn a_count_is_known_at_once(rt: HostRuntime) -> Result<(), Fail> {
+    let counter = Counter::new(rt.alloc(), 5, 2)?;
+    let (lock, mut seats) = TicketLock::open(rt.alloc(), counter, 2, 1)?;
+    let first = lock.next(&mut seats).unwrap();
+    let second = lock.next(&mut seats).unwrap();
+    let (_second, position, answer) = count(&rt, &lock, second);
+    assert_eq!(rt; (position, answer), (0, 5));
+    let (_first, position, answer) = count(&rt, &lock, first);
+    assert_eq!(rt; (position, answer), (1, 6));
     Ok(())
 }
 

@@ -50,17 +50,17 @@ impl<S: Served> TicketLock<S> {
         }
     }
 
-    /// The seat of the least number that was not handed out, from 0 on, without calls; `None` exactly
-    /// where all were handed out.
+    /// The seat of the least number that was not handed out, from 0 on, without calls; `None`
+    /// exactly where all were handed out.
     pub fn next(&self, seats: &mut TicketSeats<S>) -> Option<TicketSeat<S>>
         requires seats { IsSeatsOf self.now seats.old }
         ensures seats { IsSeatsOf self.now seats.new }
         ensures kept { seats_kept seats.new ≡ seats_kept seats.old }
         ensures all_out { IfNone result (seats_given seats.old ≡ lock_seats self.now) }
         ensures none_given { IfNone result (seats_given seats.new ≡ seats_given seats.old) }
-        ensures some_left { IfSome result (λ seat. seats_given seats.old < lock_seats self.now) }
-        ensures one_given { IfSome result (λ seat. seats_given seats.new ≡ seats_given seats.old + 1) }
-        ensures seat { IfSome result (λ seat. IsNewSeatOf self.now (seats_given seats.old) seat) }
+        ensures some_left { IfSome result (λ s. seats_given seats.old < lock_seats self.now) }
+        ensures one_given { IfSome result (λ s. seats_given seats.new ≡ seats_given seats.old + 1) }
+        ensures seat { IfSome result (λ s. IsNewSeatOf self.now (seats_given seats.old) s) }
     {
         if seats.given >= self.seats {
             return None;
@@ -83,14 +83,15 @@ impl<S: Served> TicketLock<S> {
         self.table.shared.fetch_add::<Draw>(pass, 0, 1)
     }
 
-    // The ticket that is served. Where it is the seat's, the seat has the turn, and the value's slot
-    // is its own.
+    // The ticket that is served. Where it is the seat's, the seat has the turn, and the value's
+    // slot is its own.
     fn look(&self, pass: &mut Seat<Option<S>, View<S, S::Ask, S::Answer>>, ticket: u64) -> u64
         requires own { IsPassIn self.now pass.old }
         requires waits { IsWaiting ticket pass.old }
         ensures same { IsSame pass.old pass.new }
         ensures late { result ≢ ticket → pass.new.me ≡ pass.old.me }
-        ensures turns { result ≡ ticket → HasTurned S.start S.room S.calls ticket pass.old.me pass.new.me }
+        ensures turns { result ≡ ticket
+            → HasTurned S.start S.room S.calls ticket pass.old.me pass.new.me }
         ensures small { result < 2 ^ 32 }
     {
         self.table.shared.load::<Look<S>>(pass, 1)
@@ -107,8 +108,9 @@ impl<S: Served> TicketLock<S> {
         self.table.shared.exchange(pass, 0, None).unwrap()
     }
 
-    // Waits for the turn, and takes the value. It sleeps while the word that is served is the one just
-    // read, and each pass on changes that word before it wakes the sleepers, so no wake is lost.
+    // Waits for the turn, and takes the value. It sleeps while the word that is served is the one
+    // just read, and each pass on changes that word before it wakes the sleepers, so no wake is
+    // lost.
     fn wait<R: Wait>(
         &self,
         rt: &R,
@@ -131,8 +133,8 @@ impl<S: Served> TicketLock<S> {
         unreachable!()
     }
 
-    // Gives the value back, one call longer, and passes the turn on. The snapshots have no bytes: they
-    // name what the value was and what was asked.
+    // Gives the value back, one call longer, and passes the turn on. The snapshots have no bytes:
+    // they name what the value was and what was asked.
     fn pass_on(
         &self,
         pass: &mut Seat<Option<S>, View<S, S::Ask, S::Answer>>,
@@ -146,10 +148,12 @@ impl<S: Served> TicketLock<S> {
         requires own { IsPassIn self.now pass.old }
         requires turns { IsTurning ticket before.now.value None pass.old }
         requires whose { number ≡ (own_of pass.old.me.0.role).number }
-        requires longer { IsOneLonger (S.calls before.now.value) (S.calls value) number ask.now.value answer.now }
+        requires longer { IsOneLonger (S.calls before.now.value) (S.calls value)
+            number ask.now.value answer.now }
         requires start { S.start value ≡ S.start before.now.value }
         requires room { S.room value ≡ S.room before.now.value }
-        requires right { S.Right (S.start before.now.value) (S.calls before.now.value) number ask.now.value answer.now }
+        requires right { S.Right (S.start before.now.value) (S.calls before.now.value)
+            number ask.now.value answer.now }
         ensures same { IsSame pass.old pass.new }
         ensures idle { HasCalled number ask.now.value answer.now result pass.old.me pass.new.me }
         ensures ticket { result ≡ ticket }
@@ -161,10 +165,11 @@ impl<S: Served> TicketLock<S> {
         position
     }
 
-    /// Waits for the turn, and has the value answer the ask. Gives the seat back, one call longer, with
-    /// the call's position among all calls, and the answer. The answer is right after the calls before
-    /// that position, and the seat's own among these are its earlier calls. No order is promised
-    /// between seats, nor that a seat is ever served.
+    /// Waits for the turn, and has the value answer the ask. Gives the seat back, one call longer,
+    /// with the call's position among all calls, from 0 on, and the answer. The answer is right
+    /// after the calls before that position, and the seat's own among these are its earlier calls.
+    /// A seat that waits sleeps. No order is promised between seats, nor that a seat is ever
+    /// served.
     pub fn turn<R: Wait>(
         &self,
         rt: &R,
@@ -215,9 +220,9 @@ impl<S: Served> TicketLock<S> {
         self.table.shared.load::<Settle<S>>(&mut seats.pass, 0);
     }
 
-    /// Takes a seat back with its calls. What the seats keep are calls of one history: each is right
-    /// after those before it. Once every seat that was handed out came back, the calls that are kept
-    /// have the positions from 0 without a gap, each once.
+    /// Takes a seat back with its calls. What the seats keep are calls of one history: each is
+    /// right after those before it. Once every seat that was handed out came back, the calls that
+    /// are kept have the positions from 0 without a gap, each once.
     pub fn give(&self, seats: &mut TicketSeats<S>, seat: TicketSeat<S>)
         requires seats { IsSeatsOf self.now seats.old }
         requires seat { IsSeatOf self.now seat }
@@ -231,8 +236,8 @@ impl<S: Served> TicketLock<S> {
         self.settle(seats);
     }
 
-    /// The value, once every seat that was handed out came back. The calls that it stores are those of
-    /// the seats, each at its position.
+    /// The value, once every seat that was handed out came back. The calls that it stores are those
+    /// of the seats, each at its position.
     pub fn close(self, seats: TicketSeats<S>) -> S
         requires seats { IsSeatsOf self seats }
         requires home { AllHome seats }

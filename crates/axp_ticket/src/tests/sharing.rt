@@ -1,6 +1,6 @@
-// A lock may be shared and its seats may be sent where the value may be sent, and so may what wraps a
-// lock generically. A wrapper at one type alone gets no such proof, so a layer above writes its wrapper
-// over any `S: Served` and names the type by an alias.
+// A lock may be shared and its seats may be sent where the value may be sent, and so may what wraps
+// a lock generically. A wrapper at one type alone gets no such proof, so a layer above writes its
+// wrapper over any `S: Served` and names the type by an alias.
 use crate::{Served, TicketLock, TicketSeat, TicketSeats};
 
 fn is_sync<T: Sync>() {}

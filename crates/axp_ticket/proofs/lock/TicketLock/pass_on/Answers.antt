@@ -1,11 +1,8 @@
-use Rattle.std.proofs.Common.{rules, ◌≡◌, ℕ, ◌+◌, ◌%◌, ◌<◌, ◌^◌, [], ◌∷◌, ◌++◌, Some, sym, refl, ap, ◌∙◌, subst}
+use Rattle.std.proofs.Common.{rules, ◌≡◌, ℕ, ◌+◌, ◌%◌, ◌^◌, [], ◌∷◌, Some, sym, refl, ap, ◌∙◌, subst}
 use Rattle.atomic_table.specs.Table.{step, Allows, rest}
-use mathlib.Core.Option.{none, some}
-use lib.ListN.{get_elem?}
-use Rattle.axp_ticket.specs.declared.board.Placed.{Placed}
-use Rattle.axp_ticket.specs.declared.board.Role.TheVariants.{Idle}
-use Rattle.axp_ticket.specs.History.{own, placed}
-use Rattle.axp_ticket.specs.Moves.{posed, own_of, passed}
+use mathlib.Core.Option.{none}
+use Rattle.axp_ticket.specs.History.{AllBefore}
+use Rattle.axp_ticket.specs.Moves.{idling, pass_calls, passed}
 use Rattle.axp_ticket.specs.Queue.{Queued}
 use Rattle.axp_ticket.proofs.RulePassOn.{passes}
 use Rattle.axp_ticket.proofs.lock.TicketLock.pass_on.Goals as goal
@@ -25,11 +22,10 @@ fetch_add-position-requires g c =
           c.requires.turns.0 (search rules) (new.1.0 ∙ c.requires.whose) new.2 (c.requires.start, c.requires.room) right c.args.self.now.few),
     )
 
-stepped_on : (g : _) (c : goal.After-wake_all g) → (c.fetch_add-position.new.seat.me ≡ (
-  posed c.args.pass.now.me.0 (Idle (own (own_of c.args.pass.now.me.0.role).number ((own_of c.args.pass.now.me.0.role).calls ++ placed c.fetch_add-position.result c.requires.longer.0 ∷ []))),
-  [],
-))
-    × (c.fetch_add-position.result ≡ c.args.ticket) × ((k : ℕ) (p : Placed g.row.S-Ask.Denot g.row.S-Answer.Denot) → get_elem? (own_of c.args.pass.now.me.0.role).calls k ≡ some p → p.position < c.fetch_add-position.result)
+-- what the pass on tells of the seat as it was before the value went back
+stepped_on : (g : _) (c : goal.After-wake_all g)
+    → (c.fetch_add-position.new.seat.me ≡ idling c.args.pass.now.me c.fetch_add-position.result c.requires.longer.0)
+    × (c.fetch_add-position.result ≡ c.args.ticket) × AllBefore (pass_calls c.args.pass.now) c.fetch_add-position.result
 stepped_on g c =
     let m = c.args.pass.now.me in
     let is : c.exchange.new.seat.me ≡ (m.0, (0, Some c.args.value) ∷ []) = c.exchange.ensures.3 ∙ ap (λ cs. (m.0, (0, Some c.args.value) ∷ rest cs)) c.requires.turns.1 in
