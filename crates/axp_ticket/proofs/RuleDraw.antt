@@ -6,14 +6,13 @@ use mathlib.Core.Option.{some, none}
 use native.Mathlib.Decide.{ℕ_discrete}
 use lib.ListN.{get_elem?}
 use Rattle.atomic_table.specs.Table.{State, step, keeps, Allows}
-use Rattle.axp_call.specs.declared.calls.Call.{Call}
 use Rattle.axp_ticket.specs.declared.board.Own.{Own}
 use Rattle.axp_ticket.specs.declared.board.Role.{Role}
 use Rattle.axp_ticket.specs.declared.board.Role.TheVariants.{Nobody, Idle, Waits, Turns, Gathers}
 use Rattle.axp_ticket.specs.declared.board.View.{View}
 use Rattle.axp_ticket.specs.History.{IsAmong}
 use Rattle.axp_ticket.specs.Moves.{Held, own_of, posed, drawn}
-use Rattle.axp_ticket.specs.Queue.{rights, total, ticket_of, numbers_of, IsOpened, IsSound, Owns, Holds, Progress, Knows, Stands, Queued}
+use Rattle.axp_ticket.specs.Queue.{rights, total, ticket_of, numbers_of, IsOpened, IsSound, Owns, Holds, Progress, Knows, Stands, Queued, Terms}
 use Rattle.axp_ticket.proofs.FunctionChanges.{put, put_here, put_else}
 use Rattle.axp_ticket.proofs.ViewChanges.{views_stay, set_there, found_after, home_stays, total_moved, sound_one}
 use Rattle.axp_ticket.proofs.RuleKnowledge.{known_as, few_tickets}
@@ -48,20 +47,20 @@ module _ {Value Ask Answer : Type 0} where
   knows_later p homes id j (Turns o t v) k = (k.0, holds_later p id j t k.1, k.2, k.3, k.4)
   knows_later p homes id j (Gathers given kept) k = k
 
-module _ {Value Start Ask Answer : Type 0} (start : Value → Start) (room : Value → ℕ) (calls : Value → List (Call Ask Answer)) (Right : Start → List (Call Ask Answer) → ℕ → Ask → Answer → Type 0) (seats allowance : ℕ) (opened : Value) where
+module _ {Value Start Ask Answer : Type 0} (terms : Terms Value Start Ask Answer) where
   -- the table stands where view id has the next ticket
-  drawn_stands : (s : State (Option Value) (View Value Ask Answer)) (p : Progress Value Ask Answer) → Stands start room calls Right seats allowance opened s p
+  drawn_stands : (s : State (Option Value) (View Value Ask Answer)) (p : Progress Value Ask Answer) → Stands terms s p
       → (id : ℕ) (v : View Value Ask Answer) (o : Own Ask Answer) (ticket word : ℕ)
-      → get_elem? s.views id ≡ some v → v.role ≡ Idle o → length o.calls < allowance → ticket ≡ p.next → word ≡ p.next + 1
-      → Stands start room calls Right seats allowance opened
+      → get_elem? s.views id ≡ some v → v.role ≡ Idle o → length o.calls < terms.allowance → ticket ≡ p.next → word ≡ p.next + 1
+      → Stands terms
       record { words = set s.words 0 word; homes = s.homes; views = set s.views id (posed v (Waits o ticket)) } (after_draw id p)
   drawn_stands s p r id v o ticket word at is few ticket_is word_is =
       let w : View Value Ask Answer = posed v (Waits o ticket) in
       let owns : Owns p.log p.given p.owner id o = known_as s p r id v (Idle o) at is in
-      let sums : total (rights seats allowance) (set s.views id w) + (allowance - length o.calls) ≡ total (rights seats allowance) s.views + (allowance - (length o.calls + 1)) =
-      total_moved (rights seats allowance) s.views id v w (Idle o) (Waits o ticket) at is refl in
-      let all : ℕ = seats * allowance in
-      let bound : p.next + total (rights seats allowance) s.views ≤ all = r.bound in
+      let sums : total (rights terms.seats terms.allowance) (set s.views id w) + (terms.allowance - length o.calls) ≡ total (rights terms.seats terms.allowance) s.views + (terms.allowance - (length o.calls + 1)) =
+      total_moved (rights terms.seats terms.allowance) s.views id v w (Idle o) (Waits o ticket) at is refl in
+      let all : ℕ = terms.seats * terms.allowance in
+      let bound : p.next + total (rights terms.seats terms.allowance) s.views ≤ all = r.bound in
       let served = r.served in
       let mine : put p.holder p.next id ticket ≡ id = ap (put p.holder p.next id) ticket_is ∙ put_here p.holder p.next id in
       record {
@@ -75,11 +74,11 @@ module _ {Value Start Ask Answer : Type 0} (start : Value → Start) (room : Val
         bound = omega arith;
         ample = r.ample;
         home = home_stays s.homes s.views (length p.log) p.value id v w at (λ o' t x e. let f = e ∙ is in cc) r.home;
-        each_opened = views_stay (λ _ d. IsOpened opened d) s.views id w (r.each_opened id v at) (λ j d _ there. r.each_opened j d there);
+        each_opened = views_stay (λ _ d. IsOpened terms.opened d) s.views id w (r.each_opened id v at) (λ j d _ there. r.each_opened j d there);
         each_knows = views_stay (λ j d. Knows (after_draw id p) s.homes j d.role) s.views id w
             (owns, record { from = omega arith; below = omega arith; mine = mine })
             (λ j d _ there. knows_later p s.homes id j d.role (r.each_knows j d there));
-        each_sound = views_stay (λ _ d. IsSound allowance d.role) s.views id w (sound_one allowance o 1 (omega arith)) (λ j d _ there. r.each_sound j d there);
+        each_sound = views_stay (λ _ d. IsSound terms.allowance d.role) s.views id w (sound_one terms.allowance o 1 (omega arith)) (λ j d _ there. r.each_sound j d there);
         each_ticket = λ t low high. dite (ℕ_discrete t p.next)
             (λ e. (
               w,
@@ -93,8 +92,8 @@ module _ {Value Start Ask Answer : Type 0} (start : Value → Start) (room : Val
             (λ there. subst (IsAmong n) (ap numbers_of is) there) (r.each_number n h);
       }
 
-  pub draws : (slots id : ℕ) (m : Held Value Ask Answer) → m.0.role ≡ Idle (own_of m.0.role) → length (own_of m.0.role).calls < allowance → seats * allowance < 2 ^ 32
-      → Allows (Queued start room calls Right seats allowance opened) slots id m 0 (λ n. (n + 1) % 2 ^ 64) (drawn (step slots 0 1 0 none) m)
+  pub draws : (slots id : ℕ) (m : Held Value Ask Answer) → m.0.role ≡ Idle (own_of m.0.role) → length (own_of m.0.role).calls < terms.allowance → terms.seats * terms.allowance < 2 ^ 32
+      → Allows (Queued terms) slots id m 0 (λ n. (n + 1) % 2 ^ 64) (drawn (step slots 0 1 0 none) m)
   draws slots id m is few small s (p, r) deep at fits =
       let n : ℕ = get_or s.words 0 0 in
       let n_is : n ≡ p.next = ap (λ (ws : List ℕ). get_or ws 0 0) r.words in

@@ -6,14 +6,13 @@ use native.Mathlib.Decide.{ℕ_discrete}
 use lib.ListN.{get_elem?}
 use Rattle.atomic_table.specs.Table.{Splits}
 use Rattle.atomic_table.proofs.Lists.{at_longer, at_last}
-use Rattle.axp_call.specs.declared.calls.Call.{Call}
 use Rattle.axp_ticket.specs.declared.board.Own.{Own}
 use Rattle.axp_ticket.specs.declared.board.Role.{Role}
 use Rattle.axp_ticket.specs.declared.board.Role.TheVariants.{Idle, Gathers}
 use Rattle.axp_ticket.specs.declared.board.View.{View}
 use Rattle.axp_ticket.specs.History.{own, IsAmong}
 use Rattle.axp_ticket.specs.Moves.{kept_of, left_of, right_of, one_given, next_own}
-use Rattle.axp_ticket.specs.Queue.{rights, total, ticket_of, numbers_of, IsOpened, IsSound, Owns, Progress, Knows, IsAway, HasTurn, Finds, Queued}
+use Rattle.axp_ticket.specs.Queue.{rights, total, ticket_of, numbers_of, IsOpened, IsSound, Owns, Progress, Knows, IsAway, HasTurn, Finds, Queued, Terms}
 use Rattle.axp_ticket.proofs.ListPlaces.{at_end}
 use Rattle.axp_ticket.proofs.FunctionChanges.{put, put_here, put_else}
 use Rattle.axp_ticket.proofs.ViewChanges.{views_stay, found_after, found_longer, home_stays, total_moved, total_snoc, one_among, sound_one}
@@ -40,21 +39,21 @@ module _ {Value Ask Answer : Type 0} where
       (λ (h : (j ≡ length vs) × (u ≡ d)). subst (λ (x : ℕ × View Value Ask Answer). K x.0 x.1) (λ i. (sym (h.0 ∙ long) i, h.1 i)) last)
       (at_end vs u d j there)
 
-module _ {Value Start Ask Answer : Type 0} (start : Value → Start) (room : Value → ℕ) (calls : Value → List (Call Ask Answer)) (Right : Start → List (Call Ask Answer) → ℕ → Ask → Answer → Type 0) (seats allowance : ℕ) (opened : Value) where
+module _ {Value Start Ask Answer : Type 0} (terms : Terms Value Start Ask Answer) where
   -- the calls that may still be made are as many as before
   rights_split : (vs : List (View Value Ask Answer)) (id given : ℕ) (kept : List (Own Ask Answer)) (v w u : View Value Ask Answer)
-      → get_elem? vs id ≡ some v → v.role ≡ Gathers given kept → w.role ≡ Gathers (suc given) kept → u.role ≡ Idle (own given []) → given < seats
-      → total (rights seats allowance) (set vs id w ++ u ∷ []) ≡ total (rights seats allowance) vs
+      → get_elem? vs id ≡ some v → v.role ≡ Gathers given kept → w.role ≡ Gathers (suc given) kept → u.role ≡ Idle (own given []) → given < terms.seats
+      → total (rights terms.seats terms.allowance) (set vs id w ++ u ∷ []) ≡ total (rights terms.seats terms.allowance) vs
   rights_split vs id given kept v w u at is w_is u_is few =
-      let sums : total (rights seats allowance) (set vs id w) + (seats - given) * allowance ≡ total (rights seats allowance) vs + (seats - suc given) * allowance =
-      total_moved (rights seats allowance) vs id v w (Gathers given kept) (Gathers (suc given) kept) at is w_is in
-      let more : total (rights seats allowance) (set vs id w ++ u ∷ []) ≡ total (rights seats allowance) (set vs id w) + rights seats allowance u.role = total_snoc (rights seats allowance) (set vs id w) u in
-      let u_now : rights seats allowance u.role ≡ allowance - 0 = ap (rights seats allowance) u_is in
-      let cut : (seats - given) * allowance ≡ (seats - suc given) * allowance + allowance = ap (λ (k : ℕ). k * allowance) (omega arith) ∙ suc-mul (seats - suc given) allowance in
+      let sums : total (rights terms.seats terms.allowance) (set vs id w) + (terms.seats - given) * terms.allowance ≡ total (rights terms.seats terms.allowance) vs + (terms.seats - suc given) * terms.allowance =
+      total_moved (rights terms.seats terms.allowance) vs id v w (Gathers given kept) (Gathers (suc given) kept) at is w_is in
+      let more : total (rights terms.seats terms.allowance) (set vs id w ++ u ∷ []) ≡ total (rights terms.seats terms.allowance) (set vs id w) + rights terms.seats terms.allowance u.role = total_snoc (rights terms.seats terms.allowance) (set vs id w) u in
+      let u_now : rights terms.seats terms.allowance u.role ≡ terms.allowance - 0 = ap (rights terms.seats terms.allowance) u_is in
+      let cut : (terms.seats - given) * terms.allowance ≡ (terms.seats - suc given) * terms.allowance + terms.allowance = ap (λ (k : ℕ). k * terms.allowance) (omega arith) ∙ suc-mul (terms.seats - suc given) terms.allowance in
       omega arith
 
-  pub splits : (id : ℕ) (v : View Value Ask Answer) (given : ℕ) → v.role ≡ Gathers given (kept_of v.role) → given < seats
-      → Splits (Queued start room calls Right seats allowance opened) id v (left_of v) (right_of v)
+  pub splits : (id : ℕ) (v : View Value Ask Answer) (given : ℕ) → v.role ≡ Gathers given (kept_of v.role) → given < terms.seats
+      → Splits (Queued terms) id v (left_of v) (right_of v)
   splits id v given is few s (p, r) at =
       let kept : List (Own Ask Answer) = kept_of v.role in
       let gathers : Knows p s.homes id (Gathers given kept) = known_as s p r id v (Gathers given kept) at is in
@@ -65,7 +64,7 @@ module _ {Value Start Ask Answer : Type 0} (start : Value → Start) (room : Val
       let u : View Value Ask Answer = right_of v in
       let w_role : w.role ≡ Gathers (suc given) kept = ap one_given is in
       let u_role : u.role ≡ Idle (own given []) = ap next_own is in
-      let sums : total (rights seats allowance) (set s.views id w ++ u ∷ []) ≡ total (rights seats allowance) s.views = rights_split s.views id given kept v w u at is w_role u_role few in
+      let sums : total (rights terms.seats terms.allowance) (set s.views id w ++ u ∷ []) ≡ total (rights terms.seats terms.allowance) s.views = rights_split s.views id given kept v w u at is w_role u_role few in
       let bound = r.bound in
       let long : length (set s.views id w) ≡ to = length-set s.views id w in
       let left_knows : Knows (after_hand_out to p) s.homes id w.role = subst (Knows (after_hand_out to p) s.homes id) (sym w_role)
@@ -87,14 +86,14 @@ module _ {Value Start Ask Answer : Type 0} (start : Value → Start) (room : Val
               (λ (t : IsAway s.homes × (j : ℕ) × HasTurn (set s.views id w) (length p.log) p.value j).
               let (d, o, there, turns) = t.2 in inr (t.0, t.1, (d, o, at_longer (set s.views id w) (u ∷ []) t.1 d there, turns)))
               (home_stays s.homes s.views (length p.log) p.value id v w at (λ o' t x e. let f = e ∙ is in cc) r.home);
-          each_opened = views_longer (λ _ d. IsOpened opened d) (set s.views id w) u to long
-              (views_stay (λ _ d. IsOpened opened d) s.views id w (r.each_opened id v at) (λ j d _ there. r.each_opened j d there)) (r.each_opened id v at);
+          each_opened = views_longer (λ _ d. IsOpened terms.opened d) (set s.views id w) u to long
+              (views_stay (λ _ d. IsOpened terms.opened d) s.views id w (r.each_opened id v at) (λ j d _ there. r.each_opened j d there)) (r.each_opened id v at);
           each_knows = views_longer (λ j d. Knows (after_hand_out to p) s.homes j d.role) (set s.views id w) u to long
               (views_stay (λ j d. Knows (after_hand_out to p) s.homes j d.role) s.views id w left_knows
               (λ j d other there. knows_reowned p s.homes j (suc p.given) owner' (λ e. other (e ∙ sym gathers.1)) (owns_more p to j) d.role (r.each_knows j d there))) right_knows;
-          each_sound = views_longer (λ _ d. IsSound allowance d.role) (set s.views id w) u to long
-              (views_stay (λ _ x. IsSound allowance x.role) s.views id w (subst (IsSound allowance) (sym w_role) (subst (IsSound allowance) is (r.each_sound id v at))) (λ i x _ a. r.each_sound i x a))
-              (subst (IsSound allowance) (sym u_role) (sound_one allowance (own given []) 0 (omega arith)));
+          each_sound = views_longer (λ _ d. IsSound terms.allowance d.role) (set s.views id w) u to long
+              (views_stay (λ _ x. IsSound terms.allowance x.role) s.views id w (subst (IsSound terms.allowance) (sym w_role) (subst (IsSound terms.allowance) is (r.each_sound id v at))) (λ i x _ a. r.each_sound i x a))
+              (subst (IsSound terms.allowance) (sym u_role) (sound_one terms.allowance (own given []) 0 (omega arith)));
           each_ticket = λ t low high. found_longer (λ role. ticket_of role ≡ Some t) (set s.views id w) u (p.holder t)
               (found_after (λ role. ticket_of role ≡ Some t) s.views id v w (p.holder t) at (λ h. let f : None ≡ Some t = sym (ap ticket_of is) ∙ h in cc) (r.each_ticket t low high));
           each_number = λ n h. dite (ℕ_discrete n p.given)

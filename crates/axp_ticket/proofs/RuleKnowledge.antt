@@ -3,12 +3,11 @@ use Rattle.std.proofs.Common.{◌≡◌, ◌≢◌, ⊎_elim, ℕ, zero, suc, �
 use mathlib.Core.Option.{some, none, some-injective, some-ne-none}
 use lib.ListN.{get_elem?}
 use Rattle.atomic_table.specs.Table.{State}
-use Rattle.axp_call.specs.declared.calls.Call.{Call}
 use Rattle.axp_ticket.specs.declared.board.Own.{Own}
 use Rattle.axp_ticket.specs.declared.board.Role.{Role}
 use Rattle.axp_ticket.specs.declared.board.Role.TheVariants.{Nobody, Idle, Waits, Turns, Gathers}
 use Rattle.axp_ticket.specs.declared.board.View.{View}
-use Rattle.axp_ticket.specs.Queue.{rights, total, ticket_of, numbers_of, IsOpened, Owns, Holds, Progress, Knows, IsAway, Stands}
+use Rattle.axp_ticket.specs.Queue.{rights, total, ticket_of, numbers_of, IsOpened, Owns, Holds, Progress, Knows, IsAway, Stands, Terms}
 
 module _ {Value Ask Answer : Type 0} where
   -- the same steps, but for how many numbers were handed out and where they stand
@@ -74,16 +73,16 @@ module _ {Value Ask Answer : Type 0} where
     knows_reowned given' owner' other still (Turns o t v) k = (still o k.0, k.1, k.2, k.3, k.4)
     knows_reowned given' owner' other still (Gathers given kept) k = absurd (other k.1)
 
-module _ {Value Start Ask Answer : Type 0} {start : Value → Start} {room : Value → ℕ} {calls : Value → List (Call Ask Answer)} {Right : Start → List (Call Ask Answer) → ℕ → Ask → Answer → Type 0} {seats allowance : ℕ} {opened : Value} where
+module _ {Value Start Ask Answer : Type 0} {terms : Terms Value Start Ask Answer} where
   -- what a view in this role knows
-  pub known_as : (s : State (Option Value) (View Value Ask Answer)) (p : Progress Value Ask Answer) (r : Stands start room calls Right seats allowance opened s p)
+  pub known_as : (s : State (Option Value) (View Value Ask Answer)) (p : Progress Value Ask Answer) (r : Stands terms s p)
       (id : ℕ) (v : View Value Ask Answer) (role : Role Value Ask Answer) → get_elem? s.views id ≡ some v → v.role ≡ role → Knows p s.homes id role
   known_as s p r id v role at is = subst (Knows p s.homes id) is (r.each_knows id v at)
 
   -- no ticket reaches the end of its word
-  pub few_tickets : (s : State (Option Value) (View Value Ask Answer)) (p : Progress Value Ask Answer) → Stands start room calls Right seats allowance opened s p
-      → seats * allowance < 2 ^ 32 → p.next < 2 ^ 32
+  pub few_tickets : (s : State (Option Value) (View Value Ask Answer)) (p : Progress Value Ask Answer) → Stands terms s p
+      → terms.seats * terms.allowance < 2 ^ 32 → p.next < 2 ^ 32
   few_tickets s p r few =
-      let all : ℕ = seats * allowance in
+      let all : ℕ = terms.seats * terms.allowance in
       let few' : all < 2 ^ 32 = few in
-      let bound : p.next + total (rights seats allowance) s.views ≤ all = r.bound in omega arith
+      let bound : p.next + total (rights terms.seats terms.allowance) s.views ≤ all = r.bound in omega arith

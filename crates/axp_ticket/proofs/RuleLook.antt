@@ -7,19 +7,18 @@ use lib.ListN.{get_elem?}
 use lib.Seq.{set-get_or}
 use Rattle.atomic_table.specs.Table.{State, step, keeps, takes, Allows}
 use Rattle.atomic_table.proofs.Lists.{set_again}
-use Rattle.axp_call.specs.declared.calls.Call.{Call}
 use Rattle.axp_ticket.specs.declared.board.Own.{Own}
 use Rattle.axp_ticket.specs.declared.board.Role.TheVariants.{Waits, Turns}
 use Rattle.axp_ticket.specs.declared.board.View.{View}
 use Rattle.axp_ticket.specs.History.{IsAmong, calls_of}
 use Rattle.axp_ticket.specs.Moves.{Held, own_of, posed, looked, IsTaken}
-use Rattle.axp_ticket.specs.Queue.{rights, total, ticket_of, numbers_of, IsOpened, IsSound, Holds, Progress, Knows, IsAway, IsHome, HasTurn, Stands, Queued}
+use Rattle.axp_ticket.specs.Queue.{rights, total, ticket_of, numbers_of, IsOpened, IsSound, Holds, Progress, Knows, IsAway, IsHome, HasTurn, Stands, Queued, Terms}
 use Rattle.axp_ticket.proofs.ViewChanges.{views_stay, set_there, found_after, total_moved, apart}
 use Rattle.axp_ticket.proofs.RuleKnowledge.{known_as, knows_away, opened_is, few_tickets}
 
-module _ {Value Start Ask Answer : Type 0} (start : Value → Start) (room : Value → ℕ) (calls : Value → List (Call Ask Answer)) (Right : Start → List (Call Ask Answer) → ℕ → Ask → Answer → Type 0) (seats allowance : ℕ) (opened : Value) where
+module _ {Value Start Ask Answer : Type 0} (terms : Terms Value Start Ask Answer) where
   -- while a view waits with the ticket that is served, the value is in its slot
-  at_home : (s : State (Option Value) (View Value Ask Answer)) (p : Progress Value Ask Answer) → Stands start room calls Right seats allowance opened s p
+  at_home : (s : State (Option Value) (View Value Ask Answer)) (p : Progress Value Ask Answer) → Stands terms s p
       → (id : ℕ) (v : View Value Ask Answer) (o : Own Ask Answer) (ticket : ℕ)
       → get_elem? s.views id ≡ some v → v.role ≡ Waits o ticket → ticket ≡ length p.log → IsHome s.homes p.value
   at_home s p r id v o ticket at is now = ⊎_elim (λ l. l)
@@ -31,16 +30,16 @@ module _ {Value Start Ask Answer : Type 0} (start : Value → Start) (room : Val
       (sym theirs.mine ∙ (ap p.holder (sym now) ∙ mine.mine)))) r.home
 
   -- the table stands where view id has taken the turn
-  taken_stands : (s : State (Option Value) (View Value Ask Answer)) (p : Progress Value Ask Answer) → Stands start room calls Right seats allowance opened s p
+  taken_stands : (s : State (Option Value) (View Value Ask Answer)) (p : Progress Value Ask Answer) → Stands terms s p
       → (id : ℕ) (v : View Value Ask Answer) (o : Own Ask Answer) (ticket word : ℕ) (homes' : List (mathlib.Core.Option.Option (Option Value)))
       → get_elem? s.views id ≡ some v → v.role ≡ Waits o ticket → ticket ≡ length p.log → word ≡ length p.log → IsAway homes'
-      → Stands start room calls Right seats allowance opened
+      → Stands terms
       record { words = set s.words 1 word; homes = homes'; views = set s.views id (posed v (Turns o ticket p.value)) } p
   taken_stands s p r id v o ticket word homes' at is now word_is away =
       let w : View Value Ask Answer = posed v (Turns o ticket p.value) in
       let waits : Knows p s.homes id (Waits o ticket) = known_as s p r id v (Waits o ticket) at is in
-      let sums : total (rights seats allowance) (set s.views id w) + (allowance - (length o.calls + 1)) ≡ total (rights seats allowance) s.views + (allowance - (length o.calls + 1)) =
-      total_moved (rights seats allowance) s.views id v w (Waits o ticket) (Turns o ticket p.value) at is refl in
+      let sums : total (rights terms.seats terms.allowance) (set s.views id w) + (terms.allowance - (length o.calls + 1)) ≡ total (rights terms.seats terms.allowance) s.views + (terms.allowance - (length o.calls + 1)) =
+      total_moved (rights terms.seats terms.allowance) s.views id v w (Waits o ticket) (Turns o ticket p.value) at is refl in
       let bound = r.bound in
       record {
         words = ap (λ (ws : List ℕ). set ws 1 word) r.words ∙ ap (λ (k : ℕ). p.next ∷ k ∷ []) word_is;
@@ -53,35 +52,35 @@ module _ {Value Start Ask Answer : Type 0} (start : Value → Start) (room : Val
         bound = omega arith;
         ample = r.ample;
         home = inr (away, id, (w, o, set_there s.views id v w at, ap (λ (k : ℕ). Turns o k p.value) now));
-        each_opened = views_stay (λ _ d. IsOpened opened d) s.views id w (r.each_opened id v at) (λ j d _ there. r.each_opened j d there);
+        each_opened = views_stay (λ _ d. IsOpened terms.opened d) s.views id w (r.each_opened id v at) (λ j d _ there. r.each_opened j d there);
         each_knows = views_stay (λ j d. Knows p homes' j d.role) s.views id w
             (waits.0, waits.1, now, refl, away) (λ j d _ there. knows_away p s.homes j homes' away d.role (r.each_knows j d there));
-        each_sound = views_stay (λ _ d. IsSound allowance d.role) s.views id w (subst (IsSound allowance) is (r.each_sound id v at)) (λ j d _ there. r.each_sound j d there);
+        each_sound = views_stay (λ _ d. IsSound terms.allowance d.role) s.views id w (subst (IsSound terms.allowance) is (r.each_sound id v at)) (λ j d _ there. r.each_sound j d there);
         each_ticket = λ t low high. found_after (λ role. ticket_of role ≡ Some t) s.views id v w (p.holder t) at (λ h. sym (ap ticket_of is) ∙ h) (r.each_ticket t low high);
         each_number = λ n h. found_after (λ role. IsAmong n (numbers_of role)) s.views id v w (p.owner n) at (λ there. subst (IsAmong n) (ap numbers_of is) there) (r.each_number n h);
       }
 
   -- what the seat knows of the value that it took
-  value_taken : (s : State (Option Value) (View Value Ask Answer)) (p : Progress Value Ask Answer) → Stands start room calls Right seats allowance opened s p
+  value_taken : (s : State (Option Value) (View Value Ask Answer)) (p : Progress Value Ask Answer) → Stands terms s p
       → (id : ℕ) (v : View Value Ask Answer) (o : Own Ask Answer) (ticket : ℕ)
-      → get_elem? s.views id ≡ some v → v.role ≡ Waits o ticket → ticket ≡ length p.log → IsTaken start room calls v ticket p.value
+      → get_elem? s.views id ≡ some v → v.role ≡ Waits o ticket → ticket ≡ length p.log → IsTaken terms.start terms.room terms.calls v ticket p.value
   value_taken s p r id v o ticket at is now =
       let waits : Knows p s.homes id (Waits o ticket) = known_as s p r id v (Waits o ticket) at is in
-      let all : ℕ = seats * allowance in
-      let ample : all ≤ room opened = r.ample in
-      let bound : p.next + total (rights seats allowance) s.views ≤ all = r.bound in
+      let all : ℕ = terms.seats * terms.allowance in
+      let ample : all ≤ terms.room terms.opened = r.ample in
+      let bound : p.next + total (rights terms.seats terms.allowance) s.views ≤ all = r.bound in
       let same = r.begun.1 in
       let below = waits.1.below in
       let owns : own_of v.role ≡ o = ap own_of is in
       record {
-        begun = λ x e. r.begun.0 ∙ ap start (opened_is opened v x (r.each_opened id v at) e);
+        begun = λ x e. r.begun.0 ∙ ap terms.start (opened_is terms.opened v x (r.each_opened id v at) e);
         many = ap length r.stored ∙ sym now;
         roomy = omega arith;
         mine = ap (calls_of (own_of v.role).number) r.stored ∙ subst (λ (x : Own Ask Answer). calls_of x.number p.log ≡ x.calls) (sym owns) (sym waits.0.calls);
       }
 
-  pub looks : (slots id : ℕ) (m : Held Value Ask Answer) (ticket : ℕ) → m.0.role ≡ Waits (own_of m.0.role) ticket → m.1 ≡ [] → seats * allowance < 2 ^ 32
-      → Allows (Queued start room calls Right seats allowance opened) slots id m 1 (λ n. n) (looked start room calls (step slots 1 0 0 none) m)
+  pub looks : (slots id : ℕ) (m : Held Value Ask Answer) (ticket : ℕ) → m.0.role ≡ Waits (own_of m.0.role) ticket → m.1 ≡ [] → terms.seats * terms.allowance < 2 ^ 32
+      → Allows (Queued terms) slots id m 1 (λ n. n) (looked terms.start terms.room terms.calls (step slots 1 0 0 none) m)
   looks slots id m ticket is bare few s (p, r) deep at fits =
       let o : Own Ask Answer = own_of m.0.role in
       let n : ℕ = get_or s.words 1 0 in
@@ -115,7 +114,7 @@ module _ {Value Start Ask Answer : Type 0} (start : Value → Start) (room : Val
         m.0,
         keeps,
         tt,
-        subst (λ (x : List ℕ × List (View Value Ask Answer)). Queued start room calls Right seats allowance opened record { words = x.0; homes = s.homes; views = x.1 })
+        subst (λ (x : List ℕ × List (View Value Ask Answer)). Queued terms record { words = x.0; homes = s.homes; views = x.1 })
             (λ i. (sym (set-get_or s.words 1 0) i, sym (set_again s.views id m.0 at) i)) (p, r),
         (small, λ t is'. let same = its t is' in ((λ _. refl), λ e. absurd (late (e ∙ same)))),
       ))

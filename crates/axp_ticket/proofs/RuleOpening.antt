@@ -3,9 +3,8 @@ use Rattle.std.proofs.Common.{◌≡◌, inl, inr, ℕ, zero, suc, ◌-◌, ◌*
 use mathlib.Core.Option.{some, none, some-injective, some-ne-none}
 use lib.ListN.{get_elem?}
 use Rattle.atomic_table.specs.Table.{opening}
-use Rattle.axp_call.specs.declared.calls.Call.{Call}
 use Rattle.axp_ticket.specs.declared.board.View.{View}
-use Rattle.axp_ticket.specs.Queue.{IsOpened, IsSound, Progress, Knows, Queued, gathering}
+use Rattle.axp_ticket.specs.Queue.{IsOpened, IsSound, Progress, Knows, Queued, gathering, Terms}
 
 module _ {Value Ask Answer : Type 0} where
   -- no step was made
@@ -26,12 +25,12 @@ module _ {Value Ask Answer : Type 0} where
   only_view K v first zero d a = subst (K 0) (some-injective v d a) first
   only_view K v first (suc j) d a = absurd (some-ne-none d (sym a))
 
-module _ {Value Start Ask Answer : Type 0} (start : Value → Start) (room : Value → ℕ) (calls : Value → List (Call Ask Answer)) (Right : Start → List (Call Ask Answer) → ℕ → Ask → Answer → Type 0) (seats allowance : ℕ) (opened : Value) where
-  pub starts : calls opened ≡ [] → seats * allowance ≤ room opened
-      → Queued start room calls Right seats allowance opened (opening (0 ∷ 0 ∷ []) (Some opened ∷ []) (gathering opened))
+module _ {Value Start Ask Answer : Type 0} (terms : Terms Value Start Ask Answer) where
+  pub starts : terms.calls terms.opened ≡ [] → terms.seats * terms.allowance ≤ terms.room terms.opened
+      → Queued terms (opening (0 ∷ 0 ∷ []) (Some terms.opened ∷ []) (gathering terms.opened))
   starts none_yet ample =
-      let homes : List (mathlib.Core.Option.Option (Option Value)) = some (Some opened) ∷ [] in (
-        no_steps opened,
+      let homes : List (mathlib.Core.Option.Option (Option Value)) = some (Some terms.opened) ∷ [] in (
+        no_steps terms.opened,
         record {
           words = refl;
           served = omega arith;
@@ -40,12 +39,12 @@ module _ {Value Start Ask Answer : Type 0} (start : Value → Start) (room : Val
           stored = none_yet;
           few = omega arith;
           unmade = λ n h. refl;
-          bound = (let e : (seats - 0) * allowance ≡ seats * allowance = ap (λ (k : ℕ). k * allowance) (omega arith) in omega arith);
+          bound = (let e : (terms.seats - 0) * terms.allowance ≡ terms.seats * terms.allowance = ap (λ (k : ℕ). k * terms.allowance) (omega arith) in omega arith);
           ample = ample;
           home = inl refl;
-          each_opened = only_view (λ _ d. IsOpened opened d) (gathering opened) (inr refl);
-          each_knows = only_view (λ j d. Knows (no_steps opened) homes j d.role) (gathering opened) (refl, refl, λ k o e. absurd (some-ne-none o (sym e)));
-          each_sound = only_view (λ _ d. IsSound allowance d.role) (gathering opened)
+          each_opened = only_view (λ _ d. IsOpened terms.opened d) (gathering terms.opened) (inr refl);
+          each_knows = only_view (λ j d. Knows (no_steps terms.opened) homes j d.role) (gathering terms.opened) (refl, refl, λ k o e. absurd (some-ne-none o (sym e)));
+          each_sound = only_view (λ _ d. IsSound terms.allowance d.role) (gathering terms.opened)
               ((λ k o e. absurd (some-ne-none o (sym e))), λ i k x y e. absurd (some-ne-none x (sym e)));
           each_ticket = λ t low high. absurd (omega arith);
           each_number = λ n h. absurd (omega arith);

@@ -3,7 +3,6 @@ use Rattle.std.proofs.Common.{◌≡◌, ⊎_elim, inl, inr, ℕ, ◌<◌, List,
 use mathlib.Core.Option.{some, none, some-injective, some-ne-none}
 use lib.ListN.{get_elem?}
 use Rattle.atomic_table.specs.Table.{State}
-use Rattle.axp_call.specs.declared.calls.Call.{Call}
 use Rattle.axp_call.specs.Calls.{caller}
 use Rattle.axp_call.proofs.Rightness.{all_right_each}
 use Rattle.axp_ticket.specs.declared.board.Placed.{Placed}
@@ -11,13 +10,13 @@ use Rattle.axp_ticket.specs.declared.board.Own.{Own}
 use Rattle.axp_ticket.specs.declared.board.Role.TheVariants.{Turns}
 use Rattle.axp_ticket.specs.declared.board.View.{View}
 use Rattle.axp_ticket.specs.History.{placed, calls_of, IsAmong, IsHistoryOf}
-use Rattle.axp_ticket.specs.Queue.{ticket_of, numbers_of, Owns, Holds, Progress, IsAway, IsHome, HasTurn, Finds, Stands}
+use Rattle.axp_ticket.specs.Queue.{ticket_of, numbers_of, Owns, Holds, Progress, IsAway, IsHome, HasTurn, Finds, Stands, Terms}
 use Rattle.axp_ticket.specs.Parts.{HasView, HasCall, IsInOrder}
 use Rattle.axp_ticket.proofs.NumberCalls.{calls_of-whole}
 use Rattle.axp_ticket.proofs.HistoryKept.{told_at, once_at}
 use Rattle.axp_ticket.proofs.RuleKnowledge.{ticket_known, number_known, known_as}
 
-module _ {Value Start Ask Answer : Type 0} (start : Value → Start) (room : Value → ℕ) (calls : Value → List (Call Ask Answer)) (Right : Start → List (Call Ask Answer) → ℕ → Ask → Answer → Type 0) (seats allowance : ℕ) (opened : Value) (s : State (Option Value) (View Value Ask Answer)) (p : Progress Value Ask Answer) (r : Stands start room calls Right seats allowance opened s p) where
+module _ {Value Start Ask Answer : Type 0} (terms : Terms Value Start Ask Answer) (s : State (Option Value) (View Value Ask Answer)) (p : Progress Value Ask Answer) (r : Stands terms s p) where
   ticket_at : (j t : ℕ) (v : View Value Ask Answer) → HasView s j v → ticket_of v.role ≡ Some t → Holds (length p.log) p.next p.holder j t
   ticket_at j t v at e = ticket_known p s.homes j v.role t (r.each_knows j v at) e
 
@@ -28,7 +27,7 @@ module _ {Value Start Ask Answer : Type 0} (start : Value → Start) (room : Val
   among_at j n v at a = let owns = number_at j a.0 v a.1 at a.2 in subst (λ (m : ℕ). (m < p.given) × (p.owner m ≡ j)) a.3 (owns.below, owns.mine)
 
   -- what stands in a view are calls of the history
-  of_history : (j : ℕ) (v : View Value Ask Answer) → HasView s j v → IsHistoryOf Right (start opened) p.given (numbers_of v.role) p.log
+  of_history : (j : ℕ) (v : View Value Ask Answer) → HasView s j v → IsHistoryOf terms.Right (terms.start terms.opened) p.given (numbers_of v.role) p.log
   of_history j v at = record {
     right = r.right;
     once = (r.each_sound j v at).1;
@@ -37,7 +36,7 @@ module _ {Value Start Ask Answer : Type 0} (start : Value → Start) (room : Val
   }
 
   told_in : (j k i : ℕ) (v : View Value Ask Answer) (o : Own Ask Answer) (c : Placed Ask Answer) → HasCall s j v k o i c → (get_elem? p.log c.position ≡ some c.call) × (caller c.call ≡ o.number)
-  told_in j k i v o c h = told_at Right (start opened) p.given (numbers_of v.role) p.log (of_history j v h.0) k i o c h.1 h.2
+  told_in j k i v o c h = told_at terms.Right (terms.start terms.opened) p.given (numbers_of v.role) p.log (of_history j v h.0) k i o c h.1 h.2
 
   whole_in : (n : ℕ) → n < length p.log → (j k i : ℕ) × (v : View Value Ask Answer) × (o : Own Ask Answer) × (c : Placed Ask Answer) × HasCall s j v k o i c × (c.position ≡ n)
   whole_in n below =
@@ -56,7 +55,7 @@ module _ {Value Start Ask Answer : Type 0} (start : Value → Start) (room : Val
       let j_is : j ≡ j' = sym (number_at j k v o h.0 h.1).mine ∙ (ap p.owner number_is ∙ (number_at j' k' v' o' h'.0 h'.1).mine) in
       let v_is : v' ≡ v = some-injective v' v (sym h'.0 ∙ (ap (λ (n : ℕ). get_elem? s.views n) (sym j_is) ∙ h.0)) in
       let there : get_elem? (numbers_of v.role) k' ≡ some o' = ap (λ (x : View Value Ask Answer). get_elem? (numbers_of x.role) k') (sym v_is) ∙ h'.1 in
-      let same = once_at Right (start opened) p.given (numbers_of v.role) p.log (of_history j v h.0) k k' i i' o o' c c' h.1 there h.2 h'.2 e in
+      let same = once_at terms.Right (terms.start terms.opened) p.given (numbers_of v.role) p.log (of_history j v h.0) k k' i i' o o' c c' h.1 there h.2 h'.2 e in
       (j_is, same.0, same.1)
 
   turn_in : (j t : ℕ) (v : View Value Ask Answer) (o : Own Ask Answer) (x : Value) → HasView s j v → v.role ≡ Turns o t x → (t ≡ length p.log) × IsAway s.homes
@@ -68,7 +67,7 @@ module _ {Value Start Ask Answer : Type 0} (start : Value → Start) (room : Val
       absurd (some-ne-none (Some p.value) (some-injective (some (Some p.value)) none (ap (λ (l : List (mathlib.Core.Option.Option (Option Value))). get_elem? l 0) (sym h ∙ gone)))))
       (λ (h : IsAway s.homes × (j : ℕ) × HasTurn s.views (length p.log) p.value j). let (v, o, at, is) = h.2 in (h.1, v, o, at, is)) r.home
 
-  pub in_order : IsInOrder start room calls Right seats allowance opened s p.next p.given p.value p.log
+  pub in_order : IsInOrder terms s p.next p.given p.value p.log
   in_order = record {
     words = r.words;
     ticket_between = λ j t v at e. let h = ticket_at j t v at e in (h.from, h.below);
@@ -89,5 +88,5 @@ module _ {Value Start Ask Answer : Type 0} (start : Value → Start) (room : Val
     allowed = λ j k v o h. (r.each_sound j v h.0).0 k o h.1;
     begun = r.begun;
     stored = r.stored;
-    right = all_right_each Right (start opened) p.log r.right;
+    right = all_right_each terms.Right (terms.start terms.opened) p.log r.right;
   }

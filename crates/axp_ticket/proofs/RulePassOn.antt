@@ -14,7 +14,7 @@ use Rattle.axp_ticket.specs.declared.board.Role.TheVariants.{Nobody, Idle, Waits
 use Rattle.axp_ticket.specs.declared.board.View.{View}
 use Rattle.axp_ticket.specs.History.{placed, with_call, IsAmong, AllBefore}
 use Rattle.axp_ticket.specs.Moves.{Held, own_of, posed, passed}
-use Rattle.axp_ticket.specs.Queue.{rights, total, ticket_of, numbers_of, IsOpened, IsSound, Owns, Holds, Progress, Knows, IsHome, Stands, Queued}
+use Rattle.axp_ticket.specs.Queue.{rights, total, ticket_of, numbers_of, IsOpened, IsSound, Owns, Holds, Progress, Knows, IsHome, Stands, Queued, Terms}
 use Rattle.axp_ticket.proofs.ListPlaces.{last_same}
 use Rattle.axp_ticket.proofs.NumberCalls.{calls_from-mine, calls_from-other, calls_of-before}
 use Rattle.axp_ticket.proofs.ViewChanges.{views_stay, found_after, total_moved, one_among, among_one, sound_one}
@@ -72,7 +72,7 @@ module _ {Value Ask Answer : Type 0} where
     knows_still homes homes' (Turns o t v) mine first other k = absurd (other (sym k.1.mine ∙ (ap p.holder k.2 ∙ first)))
     knows_still homes homes' (Gathers given kept) mine first other k = (k.0, k.1, λ i o at. owns_still o mine other (k.2 i o at))
 
-module _ {Value Start Ask Answer : Type 0} (start : Value → Start) (room : Value → ℕ) (calls : Value → List (Call Ask Answer)) (Right : Start → List (Call Ask Answer) → ℕ → Ask → Answer → Type 0) (seats allowance : ℕ) (opened : Value) where
+module _ {Value Start Ask Answer : Type 0} (terms : Terms Value Start Ask Answer) where
   -- the calls of the number, with the one that was made
   calls_after : (p : Progress Value Ask Answer) (o : Own Ask Answer) (j position : ℕ) (c : Call Ask Answer) → Owns p.log p.given p.owner j o
       → caller c ≡ o.number → position ≡ length p.log
@@ -85,12 +85,12 @@ module _ {Value Start Ask Answer : Type 0} (start : Value → Start) (room : Val
   }
 
   -- the table stands where the call of view id was made
-  passed_stands : (s : State (Option Value) (View Value Ask Answer)) (p : Progress Value Ask Answer) → Stands start room calls Right seats allowance opened s p
+  passed_stands : (s : State (Option Value) (View Value Ask Answer)) (p : Progress Value Ask Answer) → Stands terms s p
       → (id : ℕ) (v : View Value Ask Answer) (o : Own Ask Answer) (ticket position word : ℕ) (value back : Value) (c : Call Ask Answer) (homes' : List (mathlib.Core.Option.Option (Option Value)))
-      → get_elem? s.views id ≡ some v → v.role ≡ Turns o ticket value → caller c ≡ o.number → calls back ≡ calls value ++ c ∷ []
-      → (start back ≡ start value) × (room back ≡ room value) → Right (start value) (calls value) (caller c) c.ask c.answer
+      → get_elem? s.views id ≡ some v → v.role ≡ Turns o ticket value → caller c ≡ o.number → terms.calls back ≡ terms.calls value ++ c ∷ []
+      → (terms.start back ≡ terms.start value) × (terms.room back ≡ terms.room value) → terms.Right (terms.start value) (terms.calls value) (caller c) c.ask c.answer
       → position ≡ length p.log → word ≡ length p.log + 1 → IsHome homes' back
-      → Stands start room calls Right seats allowance opened
+      → Stands terms
       record { words = set s.words 1 word; homes = homes'; views = set s.views id (posed v (Idle (with_call position c o))) } (after_call c back p)
   passed_stands s p r id v o ticket position word value back c homes' at is whose longer same right position_is word_is home =
       let turns : Knows p s.homes id (Turns o ticket value) = known_as s p r id v (Turns o ticket value) at is in
@@ -99,33 +99,33 @@ module _ {Value Start Ask Answer : Type 0} (start : Value → Start) (room : Val
       let log' : List (Call Ask Answer) = p.log ++ c ∷ [] in
       let long : length log' ≡ length p.log + 1 = length-append p.log (c ∷ []) in
       let long' : length o'.calls ≡ length o.calls + 1 = length-append o.calls (placed position c ∷ []) in
-      let sums : total (rights seats allowance) (set s.views id w) + (allowance - (length o.calls + 1)) ≡ total (rights seats allowance) s.views + (allowance - length o'.calls) =
-      total_moved (rights seats allowance) s.views id v w (Turns o ticket value) (Idle o') at is refl in
+      let sums : total (rights terms.seats terms.allowance) (set s.views id w) + (terms.allowance - (length o.calls + 1)) ≡ total (rights terms.seats terms.allowance) s.views + (terms.allowance - length o'.calls) =
+      total_moved (rights terms.seats terms.allowance) s.views id v w (Turns o ticket value) (Idle o') at is refl in
       let bound = r.bound in
       let below = turns.1.below in let now = turns.2 in
       let value_is : value ≡ p.value = turns.3 in
-      let stored : calls value ≡ p.log = ap calls value_is ∙ r.stored in
-      let begun : start back ≡ start opened = same.0 ∙ (ap start value_is ∙ r.begun.0) in
+      let stored : terms.calls value ≡ p.log = ap terms.calls value_is ∙ r.stored in
+      let begun : terms.start back ≡ terms.start terms.opened = same.0 ∙ (ap terms.start value_is ∙ r.begun.0) in
       let mine : p.owner (caller c) ≡ id = ap p.owner whose ∙ turns.0.mine in
       let first : p.holder (length p.log) ≡ id = ap p.holder (sym now) ∙ turns.1.mine in
       record {
         words = ap (λ (ws : List ℕ). set ws 1 word) r.words ∙ ap (λ (k : ℕ). p.next ∷ k ∷ []) (word_is ∙ sym long);
         served = omega arith;
-        right = right_after_append Right (start opened) [] p.log c r.right
-            (subst (λ (x : Start × List (Call Ask Answer)). Right x.0 x.1 (caller c) c.ask c.answer) (λ i. ((ap start value_is ∙ r.begun.0) i, stored i)) right);
-        begun = (begun, same.1 ∙ (ap room value_is ∙ r.begun.1));
+        right = right_after_append terms.Right (terms.start terms.opened) [] p.log c r.right
+            (subst (λ (x : Start × List (Call Ask Answer)). terms.Right x.0 x.1 (caller c) c.ask c.answer) (λ i. ((ap terms.start value_is ∙ r.begun.0) i, stored i)) right);
+        begun = (begun, same.1 ∙ (ap terms.room value_is ∙ r.begun.1));
         stored = longer ∙ ap (λ (l : List (Call Ask Answer)). l ++ c ∷ []) stored;
         few = r.few;
         unmade = λ n h. calls_from-other n 0 p.log c (λ e. let b = turns.0.below in omega arith) ∙ r.unmade n h;
         bound = omega arith;
         ample = r.ample;
         home = inl home;
-        each_opened = views_stay (λ _ d. IsOpened opened d) s.views id w (r.each_opened id v at) (λ j d _ there. r.each_opened j d there);
+        each_opened = views_stay (λ _ d. IsOpened terms.opened d) s.views id w (r.each_opened id v at) (λ j d _ there. r.each_opened j d there);
         each_knows = views_stay (λ j d. Knows (after_call c back p) homes' j d.role) s.views id w
             (calls_after p o id position c turns.0 whose position_is)
             (λ j d other there. knows_still p c back id j s.homes homes' d.role mine first other (r.each_knows j d there));
-        each_sound = views_stay (λ _ d. IsSound allowance d.role) s.views id w
-            (sound_one allowance o' 0 (let h = (subst (IsSound allowance) is (r.each_sound id v at)).0 0 o refl in omega arith)) (λ j d _ there. r.each_sound j d there);
+        each_sound = views_stay (λ _ d. IsSound terms.allowance d.role) s.views id w
+            (sound_one terms.allowance o' 0 (let h = (subst (IsSound terms.allowance) is (r.each_sound id v at)).0 0 o refl in omega arith)) (λ j d _ there. r.each_sound j d there);
         each_ticket = λ t low high. found_after (λ role. ticket_of role ≡ Some t) s.views id v w (p.holder t) at
             (λ h. let f : Some ticket ≡ Some t = sym (ap ticket_of is) ∙ h in let same_ticket : ticket ≡ t = cc in absurd (omega arith)) (r.each_ticket t (omega arith) high);
         each_number = λ n h. found_after (λ role. IsAmong n (numbers_of role)) s.views id v w (p.owner n) at
@@ -134,22 +134,22 @@ module _ {Value Start Ask Answer : Type 0} (start : Value → Start) (room : Val
 
   -- what the step tells: the seat is as it says of any call that the value has more, since there is one such call
   passed_tells : (slots : ℕ) (m : Held Value Ask Answer) (n ticket : ℕ) (value back : Value) (c : Call Ask Answer)
-      → m.0.role ≡ Turns (own_of m.0.role) ticket value → m.1 ≡ (0, Some back) ∷ [] → calls back ≡ calls value ++ c ∷ [] → n ≡ ticket → AllBefore (own_of m.0.role).calls n
-      → passed calls (step slots 1 1 0 none) m n (posed m.0 (Idle (with_call n c (own_of m.0.role))), rest m.1)
+      → m.0.role ≡ Turns (own_of m.0.role) ticket value → m.1 ≡ (0, Some back) ∷ [] → terms.calls back ≡ terms.calls value ++ c ∷ [] → n ≡ ticket → AllBefore (own_of m.0.role).calls n
+      → passed terms.calls (step slots 1 1 0 none) m n (posed m.0 (Idle (with_call n c (own_of m.0.role))), rest m.1)
   passed_tells slots m n ticket value back c is carried longer now later = λ t₂ v₂ b₂ c₂ is₂ carried₂ longer₂.
       let o : Own Ask Answer = own_of m.0.role in
       let a : value ≡ v₂ = ap (turn_value value) (sym is ∙ is₂) in
       let b : back ≡ b₂ = ap (carried_or back) (sym carried ∙ carried₂) in
-      let e : c ≡ c₂ = last_same (calls value) c c₂ (sym longer ∙ (ap calls b ∙ (longer₂ ∙ ap (λ (x : Value). calls x ++ c₂ ∷ []) (sym a)))) in (
+      let e : c ≡ c₂ = last_same (terms.calls value) c c₂ (sym longer ∙ (ap terms.calls b ∙ (longer₂ ∙ ap (λ (x : Value). terms.calls x ++ c₂ ∷ []) (sym a)))) in (
         (λ i. (posed m.0 (Idle (with_call n (e i) o)), ap rest carried i)),
         now ∙ ap turn_ticket (sym is ∙ is₂),
         later,
       )
 
   pub passes : (slots id : ℕ) (m : Held Value Ask Answer) (ticket : ℕ) (value back : Value) (c : Call Ask Answer) → m.0.role ≡ Turns (own_of m.0.role) ticket value → m.1 ≡ (0, Some back) ∷ []
-      → caller c ≡ (own_of m.0.role).number → calls back ≡ calls value ++ c ∷ [] → (start back ≡ start value) × (room back ≡ room value)
-      → Right (start value) (calls value) (caller c) c.ask c.answer → seats * allowance < 2 ^ 32
-      → Allows (Queued start room calls Right seats allowance opened) slots id m 1 (λ n. (n + 1) % 2 ^ 64) (passed calls (step slots 1 1 0 none) m)
+      → caller c ≡ (own_of m.0.role).number → terms.calls back ≡ terms.calls value ++ c ∷ [] → (terms.start back ≡ terms.start value) × (terms.room back ≡ terms.room value)
+      → terms.Right (terms.start value) (terms.calls value) (caller c) c.ask c.answer → terms.seats * terms.allowance < 2 ^ 32
+      → Allows (Queued terms) slots id m 1 (λ n. (n + 1) % 2 ^ 64) (passed terms.calls (step slots 1 1 0 none) m)
   passes slots id m ticket value back c is carried whose longer same right few s (p, r) deep at fits =
       let o : Own Ask Answer = own_of m.0.role in
       let n : ℕ = get_or s.words 1 0 in
@@ -166,7 +166,7 @@ module _ {Value Start Ask Answer : Type 0} (start : Value → Start) (room : Val
         w,
         gives,
         tt,
-        subst (λ (cs : List (ℕ × Option Value)). Queued start room calls Right seats allowance opened (stepped s 1 ((n + 1) % 2 ^ 64) id cs w gives)) (sym carried)
+        subst (λ (cs : List (ℕ × Option Value)). Queued terms (stepped s 1 ((n + 1) % 2 ^ 64) id cs w gives)) (sym carried)
             (after_call c back p, passed_stands s p r id m.0 o ticket n ((n + 1) % 2 ^ 64) value back c (set s.homes 0 (some (Some back))) at is whose longer same right n_is next home),
         passed_tells slots m n ticket value back c is carried longer (n_is ∙ sym turns.2) later,
       )

@@ -6,14 +6,13 @@ use native.Mathlib.Decide.{ℕ_discrete}
 use lib.ListN.{get_elem?}
 use Rattle.atomic_table.specs.Table.{Joins}
 use Rattle.atomic_table.proofs.Lists.{set_else, at_longer, at_last}
-use Rattle.axp_call.specs.declared.calls.Call.{Call}
 use Rattle.axp_ticket.specs.declared.board.Own.{Own}
 use Rattle.axp_ticket.specs.declared.board.Role.{Role}
 use Rattle.axp_ticket.specs.declared.board.Role.TheVariants.{Nobody, Idle, Gathers}
 use Rattle.axp_ticket.specs.declared.board.View.{View}
 use Rattle.axp_ticket.specs.History.{IsAmong, EachOnce}
 use Rattle.axp_ticket.specs.Moves.{own_of, kept_of, both_of, with_own, nobody}
-use Rattle.axp_ticket.specs.Queue.{rights, total, ticket_of, numbers_of, IsOpened, IsSound, Owns, Progress, Knows, Finds, Queued}
+use Rattle.axp_ticket.specs.Queue.{rights, total, ticket_of, numbers_of, IsOpened, IsSound, Owns, Progress, Knows, Finds, Queued, Terms}
 use Rattle.axp_ticket.proofs.ListPlaces.{at_end}
 use Rattle.axp_ticket.proofs.FunctionChanges.{put, put_here, put_else}
 use Rattle.axp_ticket.proofs.ViewChanges.{views_stay, set_there, found_after, home_stays, total_moved, among_one}
@@ -50,17 +49,17 @@ module _ {Ask Answer : Type 0} where
       (λ (h : (i ≡ length kept) × (o ≡ x)). ⊎_elim (λ h'. absurd (foreign k y h' (sym e ∙ ap number (sym h.1))))
       (λ (h' : (k ≡ length kept) × (o ≡ y)). h.0 ∙ sym h'.0) (at_end kept o y k a')) (at_end kept o x i a)
 
-module _ {Value Start Ask Answer : Type 0} (start : Value → Start) (room : Value → ℕ) (calls : Value → List (Call Ask Answer)) (Right : Start → List (Call Ask Answer) → ℕ → Ask → Answer → Type 0) (seats allowance : ℕ) (opened : Value) where
+module _ {Value Start Ask Answer : Type 0} (terms : Terms Value Start Ask Answer) where
   -- the gathering view is sound with the number that came back
   sound_longer : (kept : List (Own Ask Answer)) (o : Own Ask Answer) (given : ℕ)
-      → IsSound {Value = Value} allowance (Gathers given kept) → IsSound {Value = Value} allowance (Idle o)
+      → IsSound {Value = Value} terms.allowance (Gathers given kept) → IsSound {Value = Value} terms.allowance (Idle o)
       → ((k : ℕ) (x : Own Ask Answer) → get_elem? kept k ≡ some x → x.number ≢ o.number)
-      → IsSound {Value = Value} allowance (Gathers given (kept ++ o ∷ []))
+      → IsSound {Value = Value} terms.allowance (Gathers given (kept ++ o ∷ []))
   sound_longer kept o given sound sound' foreign =
-      (kept_longer (λ x. length x.calls + 0 ≤ allowance) kept o sound.0 (sound'.0 0 o refl), once_longer kept o sound.1 foreign)
+      (kept_longer (λ x. length x.calls + 0 ≤ terms.allowance) kept o sound.0 (sound'.0 0 o refl), once_longer kept o sound.1 foreign)
 
   pub joins : (id other : ℕ) (v w : View Value Ask Answer) (given : ℕ) → v.role ≡ Gathers given (kept_of v.role) → w.role ≡ Idle (own_of w.role)
-      → Joins (Queued start room calls Right seats allowance opened) id v other w (both_of v w) nobody
+      → Joins (Queued terms) id v other w (both_of v w) nobody
   joins id other v w given is is' s (p, r) at apart_ at' =
       let kept : List (Own Ask Answer) = kept_of v.role in
       let o : Own Ask Answer = own_of w.role in
@@ -70,10 +69,10 @@ module _ {Value Start Ask Answer : Type 0} (start : Value → Start) (room : Val
       let gathers : Knows p s.homes id (Gathers given kept) = known_as s p r id v (Gathers given kept) at is in
       let owns : Owns p.log p.given p.owner other o = known_as s p r other w (Idle o) there is' in
       let b_role : b.role ≡ Gathers given (kept ++ o ∷ []) = (λ i. with_own (is i) (is' i)) in
-      let sums : total (rights seats allowance) vs + (seats - given) * allowance ≡ total (rights seats allowance) s.views + (seats - given) * allowance =
-      total_moved (rights seats allowance) s.views id v b (Gathers given kept) (Gathers given (kept ++ o ∷ [])) at is b_role in
-      let more : total (rights seats allowance) (set vs other nobody) + (allowance - length o.calls) ≡ total (rights seats allowance) vs + 0 =
-      total_moved (rights seats allowance) vs other w nobody (Idle o) Nobody at' is' refl in
+      let sums : total (rights terms.seats terms.allowance) vs + (terms.seats - given) * terms.allowance ≡ total (rights terms.seats terms.allowance) s.views + (terms.seats - given) * terms.allowance =
+      total_moved (rights terms.seats terms.allowance) s.views id v b (Gathers given kept) (Gathers given (kept ++ o ∷ [])) at is b_role in
+      let more : total (rights terms.seats terms.allowance) (set vs other nobody) + (terms.allowance - length o.calls) ≡ total (rights terms.seats terms.allowance) vs + 0 =
+      total_moved (rights terms.seats terms.allowance) vs other w nobody (Idle o) Nobody at' is' refl in
       let bound = r.bound in
       let owner' : ℕ → ℕ = put p.owner o.number id in
       let foreign : (k : ℕ) (x : Own Ask Answer) → get_elem? kept k ≡ some x → x.number ≢ o.number = λ k x a e.
@@ -83,8 +82,8 @@ module _ {Value Start Ask Answer : Type 0} (start : Value → Start) (room : Val
       kept_longer (Owns p.log p.given owner' id) kept o (λ k x a. owns_beside p o.number id id x (λ e. apart_ (sym owns.mine ∙ e)) (gathers.2 k x a)) mine in
       let b_knows : Knows (after_take_back o.number id p) s.homes id b.role =
       subst (Knows (after_take_back o.number id p) s.homes id) (sym b_role) (gathers.0, gathers.1, all_mine) in
-      let b_sound : IsSound allowance b.role = subst (IsSound allowance) (sym b_role)
-      (sound_longer kept o given (subst (IsSound allowance) is (r.each_sound id v at)) (subst (IsSound allowance) is' (r.each_sound other w there)) foreign) in (
+      let b_sound : IsSound terms.allowance b.role = subst (IsSound terms.allowance) (sym b_role)
+      (sound_longer kept o given (subst (IsSound terms.allowance) is (r.each_sound id v at)) (subst (IsSound terms.allowance) is' (r.each_sound other w there)) foreign) in (
         after_take_back o.number id p,
         record {
           words = r.words;
@@ -98,14 +97,14 @@ module _ {Value Start Ask Answer : Type 0} (start : Value → Start) (room : Val
           ample = r.ample;
           home = home_stays s.homes vs (length p.log) p.value other w nobody at' (λ o' t x e. let f = e ∙ is' in cc)
               (home_stays s.homes s.views (length p.log) p.value id v b at (λ o' t x e. let f = e ∙ is in cc) r.home);
-          each_opened = views_stay (λ _ d. IsOpened opened d) vs other nobody (inl refl)
-              (λ j d _ a. views_stay (λ _ x. IsOpened opened x) s.views id b (r.each_opened id v at) (λ i x _ a'. r.each_opened i x a') j d a);
+          each_opened = views_stay (λ _ d. IsOpened terms.opened d) vs other nobody (inl refl)
+              (λ j d _ a. views_stay (λ _ x. IsOpened terms.opened x) s.views id b (r.each_opened id v at) (λ i x _ a'. r.each_opened i x a') j d a);
           each_knows = views_stay (λ j d. Knows (after_take_back o.number id p) s.homes j d.role) vs other nobody tt
               (λ j d not_other a. views_stay (λ j d. j ≢ other → Knows (after_take_back o.number id p) s.homes j d.role) s.views id b (λ _. b_knows)
               (λ j d not_id a' not_other. knows_reowned p s.homes j p.given owner' (λ e. not_id (e ∙ sym gathers.1))
               (λ x. owns_beside p o.number id j x (λ e. not_other (sym e ∙ owns.mine))) d.role (r.each_knows j d a')) j d a not_other);
-          each_sound = views_stay (λ _ d. IsSound allowance d.role) vs other nobody ((λ k x a. absurd (some-ne-none x (sym a))), λ i k x y a. absurd (some-ne-none x (sym a)))
-              (λ j d _ a. views_stay (λ _ x. IsSound allowance x.role) s.views id b b_sound (λ i x _ a'. r.each_sound i x a') j d a);
+          each_sound = views_stay (λ _ d. IsSound terms.allowance d.role) vs other nobody ((λ k x a. absurd (some-ne-none x (sym a))), λ i k x y a. absurd (some-ne-none x (sym a)))
+              (λ j d _ a. views_stay (λ _ x. IsSound terms.allowance x.role) s.views id b b_sound (λ i x _ a'. r.each_sound i x a') j d a);
           each_ticket = λ t low high. found_after (λ role. ticket_of role ≡ Some t) vs other w nobody (p.holder t) at' (λ h. let f : None ≡ Some t = sym (ap ticket_of is') ∙ h in cc)
               (found_after (λ role. ticket_of role ≡ Some t) s.views id v b (p.holder t) at (λ h. let f : None ≡ Some t = sym (ap ticket_of is) ∙ h in cc) (r.each_ticket t low high));
           each_number = λ n h. dite (ℕ_discrete n o.number)

@@ -10,7 +10,7 @@ use Rattle.axp_ticket.specs.declared.board.Own.{Own}
 use Rattle.axp_ticket.specs.declared.board.Role.TheVariants.{Turns}
 use Rattle.axp_ticket.specs.declared.board.View.{View}
 use Rattle.axp_ticket.specs.History.{calls_of, IsAmong, EachOnce}
-use Rattle.axp_ticket.specs.Queue.{ticket_of, pending, numbers_of}
+use Rattle.axp_ticket.specs.Queue.{Terms, ticket_of, pending, numbers_of}
 
 module _ {Value Ask Answer : Type 0} (s : State (Option Value) (View Value Ask Answer)) where
   -- seat j of the table has this view
@@ -27,10 +27,7 @@ module _ {Value Ask Answer : Type 0} (s : State (Option Value) (View Value Ask A
   HasCall j v k o i p =
       HasView j v × (get_elem? (numbers_of v.role) k ≡ some o) × (get_elem? o.calls i ≡ some p)
 
-module _ {Value Start Ask Answer : Type 0} (start : Value → Start) (room : Value → ℕ)
-    (calls : Value → List (Call Ask Answer))
-    (Right : Start → List (Call Ask Answer) → ℕ → Ask → Answer → Type 0)
-    (seats allowance : ℕ) (opened : Value) where
+module _ {Value Start Ask Answer : Type 0} (terms : Terms Value Start Ask Answer) where
   pub record IsInOrder (s : State (Option Value) (View Value Ask Answer)) (next given : ℕ)
       (value : Value) (log : List (Call Ask Answer)) : Type 0 where
     -- the words are the next ticket and the ticket that is served: the number of calls so far
@@ -52,7 +49,7 @@ module _ {Value Start Ask Answer : Type 0} (start : Value → Start) (room : Val
     pub home_or_away : (s.homes ≡ some (Some value) ∷ []) ⊎ (s.homes ≡ none ∷ [])
     -- No more numbers are handed out than the lock has seats. Each that was handed out stands in
     -- exactly one view, and there once; no other stands in a view or has calls.
-    pub few : given ≤ seats
+    pub few : given ≤ terms.seats
     pub number_stands : (n : ℕ) → n < given
         → (j : ℕ) × (v : View Value Ask Answer) × HasView s j v × IsAmong n (numbers_of v.role)
     pub number_once : (j j' n : ℕ) (v v' : View Value Ask Answer) → HasView s j v → HasView s j' v'
@@ -73,9 +70,10 @@ module _ {Value Start Ask Answer : Type 0} (start : Value → Start) (room : Val
         (p p' : Placed Ask Answer) → HasCall s j v k o i p → HasCall s j' v' k' o' i' p'
         → p.position ≡ p'.position → (j ≡ j') × (k ≡ k') × (i ≡ i')
     pub allowed : (j k : ℕ) (v : View Value Ask Answer) (o : Own Ask Answer)
-        → HasOwn s j v k o → length o.calls + pending v.role ≤ allowance
+        → HasOwn s j v k o → length o.calls + pending v.role ≤ terms.allowance
     -- The value, at home or as it was taken, has the start and the room of the opening, and stores
     -- the calls so far. Each is right at that start after those before it.
-    pub begun : (start value ≡ start opened) × (room value ≡ room opened)
-    pub stored : calls value ≡ log
-    pub right : EachRight Right (start opened) log
+    pub begun : (terms.start value ≡ terms.start terms.opened)
+        × (terms.room value ≡ terms.room terms.opened)
+    pub stored : terms.calls value ≡ log
+    pub right : EachRight terms.Right (terms.start terms.opened) log

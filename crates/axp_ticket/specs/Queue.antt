@@ -121,10 +121,34 @@ module _ {Value Ask Answer : Type 0} where
         × ((k : ℕ) (o : Own Ask Answer)
         → get_elem? kept k ≡ some o → Owns p.log p.given p.owner j o)
 
-module _ {Value Start Ask Answer : Type 0} (start : Value → Start) (room : Value → ℕ)
-    (calls : Value → List (Call Ask Answer))
-    (Right : Start → List (Call Ask Answer) → ℕ → Ask → Answer → Type 0)
-    (seats allowance : ℕ) (opened : Value) where
+-- What the lock was opened with, and how its value is read.
+pub record Terms (Value Start Ask Answer : Type 0) : Type 1 where
+  -- the value's start, its room, its calls, and which answers are right
+  pub start : Value → Start
+  pub room : Value → ℕ
+  pub calls : Value → List (Call Ask Answer)
+  pub Right : Start → List (Call Ask Answer) → ℕ → Ask → Answer → Type 0
+  -- the number of seats, the calls that each may make, and the value
+  pub seats : ℕ
+  pub allowance : ℕ
+  pub opened : Value
+
+-- these terms
+abbrev pub terms_of : {Value Start Ask Answer : Type 0} → (Value → Start) → (Value → ℕ)
+    → (Value → List (Call Ask Answer))
+    → (Start → List (Call Ask Answer) → ℕ → Ask → Answer → Type 0)
+    → ℕ → ℕ → Value → Terms Value Start Ask Answer
+terms_of start room calls Right seats allowance opened = record {
+  start = start;
+  room = room;
+  calls = calls;
+  Right = Right;
+  seats = seats;
+  allowance = allowance;
+  opened = opened;
+}
+
+module _ {Value Start Ask Answer : Type 0} (terms : Terms Value Start Ask Answer) where
   -- The table stands where these steps have come to.
   pub record Stands (s : State (Option Value) (View Value Ask Answer))
       (p : Progress Value Ask Answer) : Type 0 where
@@ -132,26 +156,28 @@ module _ {Value Start Ask Answer : Type 0} (start : Value → Start) (room : Val
     pub words : s.words ≡ p.next ∷ length p.log ∷ []
     pub served : length p.log ≤ p.next
     -- each call is right after those before it
-    pub right : AllRight Right (start opened) p.log
+    pub right : AllRight terms.Right (terms.start terms.opened) p.log
     -- the value has the start and the room of the opening, and stores the calls
-    pub begun : (start p.value ≡ start opened) × (room p.value ≡ room opened)
-    pub stored : calls p.value ≡ p.log
+    pub begun : (terms.start p.value ≡ terms.start terms.opened)
+        × (terms.room p.value ≡ terms.room terms.opened)
+    pub stored : terms.calls p.value ≡ p.log
     -- no more numbers are handed out than the lock has seats, and one that was not has no calls
-    pub few : p.given ≤ seats
+    pub few : p.given ≤ terms.seats
     pub unmade : (n : ℕ) → p.given ≤ n → calls_of n p.log ≡ []
     -- no more tickets are ever drawn than all seats are allowed, for which the value has room
-    pub bound : p.next + total (rights seats allowance) s.views ≤ seats * allowance
-    pub ample : seats * allowance ≤ room opened
+    pub bound : p.next + total (rights terms.seats terms.allowance) s.views
+        ≤ terms.seats * terms.allowance
+    pub ample : terms.seats * terms.allowance ≤ terms.room terms.opened
     -- the value is at home, or away where a view has the turn
     pub home : IsHome s.homes p.value
         ⊎ (IsAway s.homes × (j : ℕ) × HasTurn s.views (length p.log) p.value j)
     -- what each view knows
     pub each_opened : (j : ℕ) (v : View Value Ask Answer)
-        → get_elem? s.views j ≡ some v → IsOpened opened v
+        → get_elem? s.views j ≡ some v → IsOpened terms.opened v
     pub each_knows : (j : ℕ) (v : View Value Ask Answer)
         → get_elem? s.views j ≡ some v → Knows p s.homes j v.role
     pub each_sound : (j : ℕ) (v : View Value Ask Answer)
-        → get_elem? s.views j ≡ some v → IsSound allowance v.role
+        → get_elem? s.views j ≡ some v → IsSound terms.allowance v.role
     -- each ticket from the one that is served on is held by a view
     pub each_ticket : (t : ℕ) → length p.log ≤ t → t < p.next
         → Finds s.views (p.holder t) (λ role. ticket_of role ≡ Some t)

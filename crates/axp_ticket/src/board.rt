@@ -54,10 +54,10 @@ pub struct InTurn<S> {
 }
 
 impl<S: Served> TableRule<Option<S>, View<S, S::Ask, S::Answer>, Opening<S>> for InTurn<S> {
-    ghost use Rattle.axp_ticket.specs.Queue.{Queued, gathering};
+    ghost use Rattle.axp_ticket.specs.Queue.{Queued, terms_of, gathering};
 
-    ghost holds = { λ key. Queued S.start S.room S.calls S.Right
-        key.seats key.allowance key.value.value };
+    ghost holds = { λ key. Queued (terms_of S.start S.room S.calls S.Right
+        key.seats key.allowance key.value.value) };
 
     ghost first = { λ key. gathering key.value.value };
 }

@@ -7,7 +7,7 @@ ghost use Rattle.axp_call.specs.Calls.{caller, AllRight, EachRight};
 ghost use Rattle.axp_ticket.specs.declared.board.Own.{Own};
 ghost use Rattle.axp_ticket.specs.declared.board.View.{View};
 ghost use Rattle.axp_ticket.specs.History.{IsOneHistory};
-ghost use Rattle.axp_ticket.specs.Queue.{Queued};
+ghost use Rattle.axp_ticket.specs.Queue.{Queued, terms_of};
 ghost use Rattle.axp_ticket.specs.Parts.{IsInOrder};
 
 use crate::serving::Served;
@@ -18,9 +18,10 @@ use crate::serving::Served;
 /// history.
 pub fn callers_are_in_order<S: Served>()
     ensures { (seats allowance : ℕ) (opened : S) (s : State (Option S) (View S S.Ask S.Answer))
-        → Queued S.start S.room S.calls S.Right seats allowance opened s
+        → Queued (terms_of S.start S.room S.calls S.Right seats allowance opened) s
         → (next given : ℕ) × (value : S) × (log : List (Call S.Ask S.Answer))
-        × IsInOrder S.start S.room S.calls S.Right seats allowance opened s next given value log }
+        × IsInOrder (terms_of S.start S.room S.calls S.Right seats allowance opened)
+        s next given value log }
 {}
 
 /// The calls that are kept fix the history in which they stand.

@@ -6,5 +6,5 @@ pub fetch_add-requires : goal.fetch_add-requires
 fetch_add-requires g c = (
   search rules,
   search rules,
-  draws g.S.Served.start g.S.Served.room g.S.Served.calls g.S.Served.Right _ _ _ _ _ _ c.requires.idle.0 c.requires.few c.args.self.now.few,
+  draws _ _ _ _ c.requires.idle.0 c.requires.few c.args.self.now.few,
 )

@@ -6,5 +6,5 @@ pub load-requires : goal.load-requires
 load-requires g c = (
   search rules,
   search rules,
-  looks g.S.Served.start g.S.Served.room g.S.Served.calls g.S.Served.Right _ _ _ _ _ _ c.args.ticket c.requires.waits.0 c.requires.waits.1 c.args.self.now.few,
+  looks _ _ _ _ c.args.ticket c.requires.waits.0 c.requires.waits.1 c.args.self.now.few,
 )

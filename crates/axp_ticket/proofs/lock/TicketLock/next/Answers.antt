@@ -9,5 +9,5 @@ pub split_seat-pass-requires : goal.split_seat-pass-requires
 split_seat-pass-requires g c = (
   c.requires.seats.0.0,
   search rules,
-  splits g.S.Served.start g.S.Served.room g.S.Served.calls g.S.Served.Right _ _ _ _ _ c.args.seats.now.given c.args.seats.now.gathers.0 (let same = c.args.self.now.same in let left = c.if-seats-self.false in omega arith),
+  splits _ _ _ c.args.seats.now.given c.args.seats.now.gathers.0 (let same = c.args.self.now.same in let left = c.if-seats-self.false in omega arith),
 )

@@ -3,7 +3,7 @@ use Rattle.atomic_table.specs.Table.{step, Allows, rest}
 use mathlib.Core.Option.{none}
 use Rattle.axp_ticket.specs.History.{AllBefore}
 use Rattle.axp_ticket.specs.Moves.{idling, pass_calls, passed}
-use Rattle.axp_ticket.specs.Queue.{Queued}
+use Rattle.axp_ticket.specs.Queue.{Queued, terms_of}
 use Rattle.axp_ticket.proofs.RulePassOn.{passes}
 use Rattle.axp_ticket.proofs.lock.TicketLock.pass_on.Goals as goal
 
@@ -11,14 +11,14 @@ pub fetch_add-position-requires : goal.fetch_add-position-requires
 fetch_add-position-requires g c =
     let m = c.args.pass.now.me in
     let is : c.exchange.new.seat.me ≡ (m.0, (0, Some c.args.value) ∷ []) = c.exchange.ensures.3 ∙ ap (λ cs. (m.0, (0, Some c.args.value) ∷ rest cs)) c.requires.turns.1 in
-    let Rule = Queued g.S.Served.start g.S.Served.room g.S.Served.calls g.S.Served.Right c.args.self.now.table.shared.key.seats c.args.self.now.table.shared.key.allowance c.args.self.now.table.shared.key.value.value in
+    let Rule = Queued (terms_of g.S.Served.start g.S.Served.room g.S.Served.calls g.S.Served.Right c.args.self.now.table.shared.key.seats c.args.self.now.table.shared.key.allowance c.args.self.now.table.shared.key.value.value) in
     let new = c.requires.longer in
     let v = c.args.before.now.value in
     let right = subst (λ (x : ℕ × g.row.S-Ask.Denot × g.row.S-Answer.Denot). g.S.Served.Right (g.S.Served.start v) (g.S.Served.calls v) x.0 x.1 x.2) (λ i. (sym new.1.0 i, sym new.1.1 i, sym new.1.2 i)) c.requires.right in (
       c.exchange.ensures.0 ∙ c.requires.own.0,
       search rules,
       subst (λ z. Allows Rule c.args.self.now.table.shared.table_id.slots c.exchange.new.seat.id z 1 (λ n. (n + 1) % 2 ^ 64) (passed g.S.Served.calls (step c.args.self.now.table.shared.table_id.slots 1 1 0 none) z)) (sym is)
-          (passes g.S.Served.start g.S.Served.room g.S.Served.calls g.S.Served.Right _ _ _ _ _ (m.0, (0, Some c.args.value) ∷ []) c.args.ticket v c.args.value new.0
+          (passes _ _ _ (m.0, (0, Some c.args.value) ∷ []) c.args.ticket v c.args.value new.0
           c.requires.turns.0 (search rules) (new.1.0 ∙ c.requires.whose) new.2 (c.requires.start, c.requires.room) right c.args.self.now.few),
     )
 

@@ -9,7 +9,7 @@ pub load-requires : goal.load-requires
 load-requires g c = (
   c.requires.seats.0.0,
   search rules,
-  settles g.S.Served.start g.S.Served.room g.S.Served.calls g.S.Served.Right _ _ _ _ _ _,
+  settles _ _ _ _,
 )
 
 pub returns-clause-history : goal.returns-clause-history

@@ -8,5 +8,5 @@ join_seat-requires g c = (
   search rules,
   search rules,
   search rules,
-  joins g.S.Served.start g.S.Served.room g.S.Served.calls g.S.Served.Right _ _ _ _ _ _ _ c.args.seats.now.given c.args.seats.now.gathers.0 (search rules),
+  joins _ _ _ _ _ c.args.seats.now.given c.args.seats.now.gathers.0 (search rules),
 )
