@@ -2,20 +2,20 @@
 use Rattle.std.proofs.Common.{◌≡◌, ⊎_elim, ℕ, List, length, sym, ap, ◌∙◌, subst, arith, Option, Some}
 use mathlib.Core.Option.{some, some-injective}
 use lib.ListN.{get_elem?}
-use Rattle.atomic_table.specs.Table.{State, Final, Seen}
+use Rattle.atomic_table.specs.Table.{Final, Seen}
 use Rattle.axp_ticket.specs.declared.board.Own.{Own}
 use Rattle.axp_ticket.specs.declared.board.Role.TheVariants.{Turns, Gathers}
 use Rattle.axp_ticket.specs.declared.board.View.{View}
 use Rattle.axp_ticket.specs.History.{IsAmong, IsHistoryOf, AllBack}
 use Rattle.axp_ticket.specs.Moves.{kept_of}
-use Rattle.axp_ticket.specs.Queue.{Progress, Knows, IsAway, IsHome, HasTurn, Stands, Queued, Terms}
+use Rattle.axp_ticket.specs.Queue.{Progress, Knows, IsAway, IsHome, HasTurn, Stands, Queued, Terms, Homes, TableState}
 use Rattle.axp_ticket.proofs.ViewChanges.{apart}
 use Rattle.axp_ticket.proofs.RuleKnowledge.{known_as}
 use Rattle.axp_ticket.proofs.RuleSettle.{gathered}
 
 module _ {Value Start Ask Answer : Type 0} (terms : Terms Value Start Ask Answer) where
   -- where every seat came back, no seat has the turn
-  all_home : (s : State (Option Value) (View Value Ask Answer)) (p : Progress Value Ask Answer) → Stands terms s p
+  all_home : (s : TableState Value Ask Answer) (p : Progress Value Ask Answer) → Stands terms s p
       → (id : ℕ) (v : View Value Ask Answer) (given : ℕ) (kept : List (Own Ask Answer)) → get_elem? s.views id ≡ some v → v.role ≡ Gathers given kept → AllBack given kept
       → IsHome s.homes p.value
   all_home s p r id v given kept at is back =
@@ -35,12 +35,12 @@ module _ {Value Start Ask Answer : Type 0} (terms : Terms Value Start Ask Answer
       → (value : Value) × (got ≡ Some value) × ((u : Value) → got ≡ Some u
       → (terms.start u ≡ terms.start terms.opened) × (terms.room u ≡ terms.room terms.opened) × IsHistoryOf terms.Right (terms.start terms.opened) given (kept_of v.role) (terms.calls u))
   closed words found got id v given last is back there =
-      let s : State (Option Value) (View Value Ask Answer) = last.0 in
+      let s : TableState Value Ask Answer = last.0 in
       let p : Progress Value Ask Answer = last.1.0.0 in
       let r : Stands terms s p = last.1.0.1 in
       let home : IsHome s.homes p.value = all_home s p r id v given (kept_of v.role) last.1.1 is back in
       let same : got ≡ Some p.value = some-injective got (Some p.value)
-      (sym there ∙ last.4 0 (Some p.value) (ap (λ (h : List (mathlib.Core.Option.Option (Option Value))). get_elem? h 0) home)) in (
+      (sym there ∙ last.4 0 (Some p.value) (ap (λ (h : Homes Value). get_elem? h 0) home)) in (
         p.value,
         same,
         λ u e. let value_is : p.value ≡ u = (let f : Some p.value ≡ Some u = sym same ∙ e in cc) in

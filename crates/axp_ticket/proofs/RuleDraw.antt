@@ -1,18 +1,18 @@
 -- Drawing a ticket keeps the rule of the table.
-use Rattle.std.proofs.Common.{◌≡◌, ℕ, ◌+◌, ◌-◌, ◌*◌, ◌%◌, ◌^◌, ◌<◌, ◌≤◌, List, [], ◌∷◌, length, set, get_or, sym, refl, ap, ◌∙◌, subst, arith, Option, Some, None}
+use Rattle.std.proofs.Common.{◌≡◌, ℕ, ◌+◌, ◌-◌, ◌*◌, ◌%◌, ◌^◌, ◌<◌, ◌≤◌, List, [], ◌∷◌, length, set, get_or, sym, refl, ap, ◌∙◌, subst, arith, Some, None}
 use Rattle.std.proofs.Math.Nat.{mod-eq_of_lt}
 use mathlib.Core.Logic.{dite}
 use mathlib.Core.Option.{some, none}
 use native.Mathlib.Decide.{ℕ_discrete}
 use lib.ListN.{get_elem?}
-use Rattle.atomic_table.specs.Table.{State, step, keeps, Allows}
+use Rattle.atomic_table.specs.Table.{step, keeps, Allows}
 use Rattle.axp_ticket.specs.declared.board.Own.{Own}
 use Rattle.axp_ticket.specs.declared.board.Role.{Role}
 use Rattle.axp_ticket.specs.declared.board.Role.TheVariants.{Nobody, Idle, Waits, Turns, Gathers}
 use Rattle.axp_ticket.specs.declared.board.View.{View}
 use Rattle.axp_ticket.specs.History.{IsAmong}
 use Rattle.axp_ticket.specs.Moves.{Held, own_of, posed, drawn}
-use Rattle.axp_ticket.specs.Queue.{rights, total, ticket_of, numbers_of, IsOpened, IsSound, Owns, Holds, Progress, Knows, Stands, Queued, Terms}
+use Rattle.axp_ticket.specs.Queue.{rights, total, ticket_of, numbers_of, IsOpened, IsSound, Owns, Holds, Progress, Knows, Stands, Queued, Terms, Homes, TableState}
 use Rattle.axp_ticket.proofs.FunctionChanges.{put, put_here, put_else}
 use Rattle.axp_ticket.proofs.ViewChanges.{views_stay, set_there, found_after, home_stays, total_moved, sound_one}
 use Rattle.axp_ticket.proofs.RuleKnowledge.{known_as, few_tickets}
@@ -39,7 +39,7 @@ module _ {Value Ask Answer : Type 0} where
   }
 
   -- a view knows as much where a ticket more was drawn
-  knows_later : (p : Progress Value Ask Answer) (homes : List (mathlib.Core.Option.Option (Option Value))) (id j : ℕ) (role : Role Value Ask Answer)
+  knows_later : (p : Progress Value Ask Answer) (homes : Homes Value) (id j : ℕ) (role : Role Value Ask Answer)
       → Knows p homes j role → Knows (after_draw id p) homes j role
   knows_later p homes id j Nobody k = tt
   knows_later p homes id j (Idle o) k = k
@@ -49,7 +49,7 @@ module _ {Value Ask Answer : Type 0} where
 
 module _ {Value Start Ask Answer : Type 0} (terms : Terms Value Start Ask Answer) where
   -- the table stands where view id has the next ticket
-  drawn_stands : (s : State (Option Value) (View Value Ask Answer)) (p : Progress Value Ask Answer) → Stands terms s p
+  drawn_stands : (s : TableState Value Ask Answer) (p : Progress Value Ask Answer) → Stands terms s p
       → (id : ℕ) (v : View Value Ask Answer) (o : Own Ask Answer) (ticket word : ℕ)
       → get_elem? s.views id ≡ some v → v.role ≡ Idle o → length o.calls < terms.allowance → ticket ≡ p.next → word ≡ p.next + 1
       → Stands terms

@@ -1,13 +1,12 @@
 -- What views know, and what they still know when a step was made.
-use Rattle.std.proofs.Common.{◌≡◌, ◌≢◌, ⊎_elim, ℕ, zero, suc, ◌+◌, ◌*◌, ◌^◌, ◌<◌, ◌≤◌, List, [], ◌∷◌, length, sym, ◌∙◌, subst, arith, Option, Some, None}
-use mathlib.Core.Option.{some, none, some-injective, some-ne-none}
+use Rattle.std.proofs.Common.{◌≡◌, ◌≢◌, ⊎_elim, ℕ, zero, suc, ◌+◌, ◌*◌, ◌^◌, ◌<◌, ◌≤◌, [], ◌∷◌, length, sym, ◌∙◌, subst, arith, Some, None}
+use mathlib.Core.Option.{some, some-injective, some-ne-none}
 use lib.ListN.{get_elem?}
-use Rattle.atomic_table.specs.Table.{State}
 use Rattle.axp_ticket.specs.declared.board.Own.{Own}
 use Rattle.axp_ticket.specs.declared.board.Role.{Role}
 use Rattle.axp_ticket.specs.declared.board.Role.TheVariants.{Nobody, Idle, Waits, Turns, Gathers}
 use Rattle.axp_ticket.specs.declared.board.View.{View}
-use Rattle.axp_ticket.specs.Queue.{rights, total, ticket_of, numbers_of, IsOpened, Owns, Holds, Progress, Knows, IsAway, Stands, Terms}
+use Rattle.axp_ticket.specs.Queue.{rights, total, ticket_of, numbers_of, IsOpened, Owns, Holds, Progress, Knows, IsAway, Stands, Terms, Homes, TableState}
 
 module _ {Value Ask Answer : Type 0} where
   -- the same steps, but for how many numbers were handed out and where they stand
@@ -28,7 +27,7 @@ module _ {Value Ask Answer : Type 0} where
       (λ (l : v.opened ≡ None). let f : None ≡ Some x = sym l ∙ e in cc)
       (λ (l : v.opened ≡ Some opened). let f : Some opened ≡ Some x = sym l ∙ e in cc) h
 
-  module _ (p : Progress Value Ask Answer) (homes : List (mathlib.Core.Option.Option (Option Value))) (j : ℕ) where
+  module _ (p : Progress Value Ask Answer) (homes : Homes Value) (j : ℕ) where
     -- a ticket that the role has is held
     pub ticket_known : (role : Role Value Ask Answer) (t : ℕ) → Knows p homes j role → ticket_of role ≡ Some t
         → Holds (length p.log) p.next p.holder j t
@@ -55,7 +54,7 @@ module _ {Value Ask Answer : Type 0} where
     number_known (Gathers given kept) k o h e = h.2 k o e
 
     -- where the value is does not matter, unless the seat has the turn
-    pub knows_away : (homes' : List (mathlib.Core.Option.Option (Option Value))) → IsAway homes'
+    pub knows_away : (homes' : Homes Value) → IsAway homes'
         → (role : Role Value Ask Answer) → Knows p homes j role → Knows p homes' j role
     knows_away homes' away Nobody k = tt
     knows_away homes' away (Idle o) k = k
@@ -75,12 +74,12 @@ module _ {Value Ask Answer : Type 0} where
 
 module _ {Value Start Ask Answer : Type 0} {terms : Terms Value Start Ask Answer} where
   -- what a view in this role knows
-  pub known_as : (s : State (Option Value) (View Value Ask Answer)) (p : Progress Value Ask Answer) (r : Stands terms s p)
+  pub known_as : (s : TableState Value Ask Answer) (p : Progress Value Ask Answer) (r : Stands terms s p)
       (id : ℕ) (v : View Value Ask Answer) (role : Role Value Ask Answer) → get_elem? s.views id ≡ some v → v.role ≡ role → Knows p s.homes id role
   known_as s p r id v role at is = subst (Knows p s.homes id) is (r.each_knows id v at)
 
   -- no ticket reaches the end of its word
-  pub few_tickets : (s : State (Option Value) (View Value Ask Answer)) (p : Progress Value Ask Answer) → Stands terms s p
+  pub few_tickets : (s : TableState Value Ask Answer) (p : Progress Value Ask Answer) → Stands terms s p
       → terms.seats * terms.allowance < 2 ^ 32 → p.next < 2 ^ 32
   few_tickets s p r few =
       let all : ℕ = terms.seats * terms.allowance in

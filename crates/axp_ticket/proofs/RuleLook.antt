@@ -1,24 +1,24 @@
 -- Looking whether a ticket is served, and taking the turn where it is, keeps the rule of the table.
-use Rattle.std.proofs.Common.{◌≡◌, ⊎_elim, inr, ℕ, ◌+◌, ◌-◌, ◌*◌, ◌^◌, ◌<◌, ◌≤◌, List, [], ◌∷◌, length, set, get_or, sym, refl, ap, ◌∙◌, subst, arith, Option, Some}
+use Rattle.std.proofs.Common.{◌≡◌, ⊎_elim, inr, ℕ, ◌+◌, ◌-◌, ◌*◌, ◌^◌, ◌<◌, ◌≤◌, List, [], ◌∷◌, length, set, get_or, sym, refl, ap, ◌∙◌, subst, arith, Some}
 use mathlib.Core.Logic.{dite}
 use mathlib.Core.Option.{some, none}
 use native.Mathlib.Decide.{ℕ_discrete}
 use lib.ListN.{get_elem?}
 use lib.Seq.{set-get_or}
-use Rattle.atomic_table.specs.Table.{State, step, keeps, takes, Allows}
+use Rattle.atomic_table.specs.Table.{step, keeps, takes, Allows}
 use Rattle.atomic_table.proofs.Lists.{set_again}
 use Rattle.axp_ticket.specs.declared.board.Own.{Own}
 use Rattle.axp_ticket.specs.declared.board.Role.TheVariants.{Waits, Turns}
 use Rattle.axp_ticket.specs.declared.board.View.{View}
 use Rattle.axp_ticket.specs.History.{IsAmong, calls_of}
 use Rattle.axp_ticket.specs.Moves.{Held, own_of, posed, looked, IsTaken}
-use Rattle.axp_ticket.specs.Queue.{rights, total, ticket_of, numbers_of, IsOpened, IsSound, Holds, Progress, Knows, IsAway, IsHome, HasTurn, Stands, Queued, Terms}
+use Rattle.axp_ticket.specs.Queue.{rights, total, ticket_of, numbers_of, IsOpened, IsSound, Holds, Progress, Knows, IsAway, IsHome, HasTurn, Stands, Queued, Terms, Homes, TableState}
 use Rattle.axp_ticket.proofs.ViewChanges.{views_stay, set_there, found_after, total_moved, apart}
 use Rattle.axp_ticket.proofs.RuleKnowledge.{known_as, knows_away, opened_is, few_tickets}
 
 module _ {Value Start Ask Answer : Type 0} (terms : Terms Value Start Ask Answer) where
   -- while a view waits with the ticket that is served, the value is in its slot
-  at_home : (s : State (Option Value) (View Value Ask Answer)) (p : Progress Value Ask Answer) → Stands terms s p
+  at_home : (s : TableState Value Ask Answer) (p : Progress Value Ask Answer) → Stands terms s p
       → (id : ℕ) (v : View Value Ask Answer) (o : Own Ask Answer) (ticket : ℕ)
       → get_elem? s.views id ≡ some v → v.role ≡ Waits o ticket → ticket ≡ length p.log → IsHome s.homes p.value
   at_home s p r id v o ticket at is now = ⊎_elim (λ l. l)
@@ -30,8 +30,8 @@ module _ {Value Start Ask Answer : Type 0} (terms : Terms Value Start Ask Answer
       (sym theirs.mine ∙ (ap p.holder (sym now) ∙ mine.mine)))) r.home
 
   -- the table stands where view id has taken the turn
-  taken_stands : (s : State (Option Value) (View Value Ask Answer)) (p : Progress Value Ask Answer) → Stands terms s p
-      → (id : ℕ) (v : View Value Ask Answer) (o : Own Ask Answer) (ticket word : ℕ) (homes' : List (mathlib.Core.Option.Option (Option Value)))
+  taken_stands : (s : TableState Value Ask Answer) (p : Progress Value Ask Answer) → Stands terms s p
+      → (id : ℕ) (v : View Value Ask Answer) (o : Own Ask Answer) (ticket word : ℕ) (homes' : Homes Value)
       → get_elem? s.views id ≡ some v → v.role ≡ Waits o ticket → ticket ≡ length p.log → word ≡ length p.log → IsAway homes'
       → Stands terms
       record { words = set s.words 1 word; homes = homes'; views = set s.views id (posed v (Turns o ticket p.value)) } p
@@ -61,7 +61,7 @@ module _ {Value Start Ask Answer : Type 0} (terms : Terms Value Start Ask Answer
       }
 
   -- what the seat knows of the value that it took
-  value_taken : (s : State (Option Value) (View Value Ask Answer)) (p : Progress Value Ask Answer) → Stands terms s p
+  value_taken : (s : TableState Value Ask Answer) (p : Progress Value Ask Answer) → Stands terms s p
       → (id : ℕ) (v : View Value Ask Answer) (o : Own Ask Answer) (ticket : ℕ)
       → get_elem? s.views id ≡ some v → v.role ≡ Waits o ticket → ticket ≡ length p.log → IsTaken terms.start terms.room terms.calls v ticket p.value
   value_taken s p r id v o ticket at is now =
@@ -93,10 +93,10 @@ module _ {Value Start Ask Answer : Type 0} (terms : Terms Value Start Ask Answer
       (λ now.
       let now' : ticket ≡ length p.log = sym now ∙ n_is in
       let home : IsHome s.homes p.value = at_home s p r id m.0 o ticket at is now' in
-      let away : IsAway (set s.homes 0 none) = ap (λ (h : List (mathlib.Core.Option.Option (Option Value))). set h 0 none) home in (
+      let away : IsAway (set s.homes 0 none) = ap (λ (h : Homes Value). set h 0 none) home in (
         posed m.0 (Turns o ticket p.value),
         takes 0 (Some p.value),
-        ap (λ (h : List (mathlib.Core.Option.Option (Option Value))). get_elem? h 0) home,
+        ap (λ (h : Homes Value). get_elem? h 0) home,
         (p, taken_stands s p r id m.0 o ticket n (set s.homes 0 none) at is now' n_is away),
         (
           small,

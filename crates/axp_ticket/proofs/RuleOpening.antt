@@ -1,10 +1,10 @@
 -- The rule of the table at the opening.
-use Rattle.std.proofs.Common.{◌≡◌, inl, inr, ℕ, zero, suc, ◌-◌, ◌*◌, ◌≤◌, List, [], ◌∷◌, sym, refl, ap, subst, arith, Option, Some}
-use mathlib.Core.Option.{some, none, some-injective, some-ne-none}
+use Rattle.std.proofs.Common.{◌≡◌, inl, inr, ℕ, zero, suc, ◌-◌, ◌*◌, ◌≤◌, [], ◌∷◌, sym, refl, ap, subst, arith, Some}
+use mathlib.Core.Option.{some, some-injective, some-ne-none}
 use lib.ListN.{get_elem?}
 use Rattle.atomic_table.specs.Table.{opening}
 use Rattle.axp_ticket.specs.declared.board.View.{View}
-use Rattle.axp_ticket.specs.Queue.{IsOpened, IsSound, Progress, Knows, Queued, gathering, Terms}
+use Rattle.axp_ticket.specs.Queue.{IsOpened, IsSound, Progress, Knows, Queued, gathering, Terms, Homes}
 
 module _ {Value Ask Answer : Type 0} where
   -- no step was made
@@ -29,7 +29,7 @@ module _ {Value Start Ask Answer : Type 0} (terms : Terms Value Start Ask Answer
   pub starts : terms.calls terms.opened ≡ [] → terms.seats * terms.allowance ≤ terms.room terms.opened
       → Queued terms (opening (0 ∷ 0 ∷ []) (Some terms.opened ∷ []) (gathering terms.opened))
   starts none_yet ample =
-      let homes : List (mathlib.Core.Option.Option (Option Value)) = some (Some terms.opened) ∷ [] in (
+      let homes : Homes Value = some (Some terms.opened) ∷ [] in (
         no_steps terms.opened,
         record {
           words = refl;

@@ -1,8 +1,7 @@
 -- The rule of the table has all its parts.
-use Rattle.std.proofs.Common.{◌≡◌, ⊎_elim, inl, inr, ℕ, ◌<◌, List, length, sym, refl, ap, ◌∙◌, subst, Option, Some}
+use Rattle.std.proofs.Common.{◌≡◌, ⊎_elim, inl, inr, ℕ, ◌<◌, List, length, sym, refl, ap, ◌∙◌, subst, Some}
 use mathlib.Core.Option.{some, none, some-injective, some-ne-none}
 use lib.ListN.{get_elem?}
-use Rattle.atomic_table.specs.Table.{State}
 use Rattle.axp_call.specs.Calls.{caller}
 use Rattle.axp_call.proofs.Rightness.{all_right_each}
 use Rattle.axp_ticket.specs.declared.board.Placed.{Placed}
@@ -10,13 +9,13 @@ use Rattle.axp_ticket.specs.declared.board.Own.{Own}
 use Rattle.axp_ticket.specs.declared.board.Role.TheVariants.{Turns}
 use Rattle.axp_ticket.specs.declared.board.View.{View}
 use Rattle.axp_ticket.specs.History.{placed, calls_of, IsAmong, IsHistoryOf}
-use Rattle.axp_ticket.specs.Queue.{ticket_of, numbers_of, Owns, Holds, Progress, IsAway, IsHome, HasTurn, Finds, Stands, Terms}
+use Rattle.axp_ticket.specs.Queue.{ticket_of, numbers_of, Owns, Holds, Progress, IsAway, IsHome, HasTurn, Finds, Stands, Terms, Homes, TableState}
 use Rattle.axp_ticket.specs.Parts.{HasView, HasCall, IsInOrder}
 use Rattle.axp_ticket.proofs.NumberCalls.{calls_of-whole}
 use Rattle.axp_ticket.proofs.HistoryKept.{told_at, once_at}
 use Rattle.axp_ticket.proofs.RuleKnowledge.{ticket_known, number_known, known_as}
 
-module _ {Value Start Ask Answer : Type 0} (terms : Terms Value Start Ask Answer) (s : State (Option Value) (View Value Ask Answer)) (p : Progress Value Ask Answer) (r : Stands terms s p) where
+module _ {Value Start Ask Answer : Type 0} (terms : Terms Value Start Ask Answer) (s : TableState Value Ask Answer) (p : Progress Value Ask Answer) (r : Stands terms s p) where
   ticket_at : (j t : ℕ) (v : View Value Ask Answer) → HasView s j v → ticket_of v.role ≡ Some t → Holds (length p.log) p.next p.holder j t
   ticket_at j t v at e = ticket_known p s.homes j v.role t (r.each_knows j v at) e
 
@@ -64,7 +63,7 @@ module _ {Value Start Ask Answer : Type 0} (terms : Terms Value Start Ask Answer
   away_in : IsAway s.homes → (j : ℕ) × (v : View Value Ask Answer) × (o : Own Ask Answer) × HasView s j v × (v.role ≡ Turns o (length p.log) p.value)
   away_in gone = ⊎_elim
       (λ (h : IsHome s.homes p.value).
-      absurd (some-ne-none (Some p.value) (some-injective (some (Some p.value)) none (ap (λ (l : List (mathlib.Core.Option.Option (Option Value))). get_elem? l 0) (sym h ∙ gone)))))
+      absurd (some-ne-none (Some p.value) (some-injective (some (Some p.value)) none (ap (λ (l : Homes Value). get_elem? l 0) (sym h ∙ gone)))))
       (λ (h : IsAway s.homes × (j : ℕ) × HasTurn s.views (length p.log) p.value j). let (v, o, at, is) = h.2 in (h.1, v, o, at, is)) r.home
 
   pub in_order : IsInOrder terms s p.next p.given p.value p.log

@@ -3,7 +3,7 @@ use Rattle.std.proofs.Common.{◌≡◌, ◌≢◌, inl, ℕ, ◌+◌, ◌-◌, 
 use Rattle.std.proofs.Math.Nat.{mod-eq_of_lt}
 use mathlib.Core.Option.{some, none}
 use lib.ListN.{get_elem?}
-use Rattle.atomic_table.specs.Table.{State, step, gives, stepped, rest, Allows}
+use Rattle.atomic_table.specs.Table.{step, gives, stepped, rest, Allows}
 use Rattle.axp_call.specs.declared.calls.Call.{Call}
 use Rattle.axp_call.specs.Calls.{caller}
 use Rattle.axp_call.proofs.Rightness.{right_after_append}
@@ -14,7 +14,7 @@ use Rattle.axp_ticket.specs.declared.board.Role.TheVariants.{Nobody, Idle, Waits
 use Rattle.axp_ticket.specs.declared.board.View.{View}
 use Rattle.axp_ticket.specs.History.{placed, with_call, IsAmong, AllBefore}
 use Rattle.axp_ticket.specs.Moves.{Held, own_of, posed, passed}
-use Rattle.axp_ticket.specs.Queue.{rights, total, ticket_of, numbers_of, IsOpened, IsSound, Owns, Holds, Progress, Knows, IsHome, Stands, Queued, Terms}
+use Rattle.axp_ticket.specs.Queue.{rights, total, ticket_of, numbers_of, IsOpened, IsSound, Owns, Holds, Progress, Knows, IsHome, Stands, Queued, Terms, Homes, TableState}
 use Rattle.axp_ticket.proofs.ListPlaces.{last_same}
 use Rattle.axp_ticket.proofs.NumberCalls.{calls_from-mine, calls_from-other, calls_of-before}
 use Rattle.axp_ticket.proofs.ViewChanges.{views_stay, found_after, total_moved, one_among, among_one, sound_one}
@@ -63,7 +63,7 @@ module _ {Value Ask Answer : Type 0} where
         record { from = omega arith; below = k.below; mine = k.mine }
 
     -- a view knows as much where another's call was made
-    knows_still : (homes homes' : List (mathlib.Core.Option.Option (Option Value))) (role : Role Value Ask Answer)
+    knows_still : (homes homes' : Homes Value) (role : Role Value Ask Answer)
         → p.owner (caller c) ≡ id → p.holder (length p.log) ≡ id → j ≢ id
         → Knows p homes j role → Knows (after_call c back p) homes' j role
     knows_still homes homes' Nobody mine first other k = tt
@@ -85,8 +85,8 @@ module _ {Value Start Ask Answer : Type 0} (terms : Terms Value Start Ask Answer
   }
 
   -- the table stands where the call of view id was made
-  passed_stands : (s : State (Option Value) (View Value Ask Answer)) (p : Progress Value Ask Answer) → Stands terms s p
-      → (id : ℕ) (v : View Value Ask Answer) (o : Own Ask Answer) (ticket position word : ℕ) (value back : Value) (c : Call Ask Answer) (homes' : List (mathlib.Core.Option.Option (Option Value)))
+  passed_stands : (s : TableState Value Ask Answer) (p : Progress Value Ask Answer) → Stands terms s p
+      → (id : ℕ) (v : View Value Ask Answer) (o : Own Ask Answer) (ticket position word : ℕ) (value back : Value) (c : Call Ask Answer) (homes' : Homes Value)
       → get_elem? s.views id ≡ some v → v.role ≡ Turns o ticket value → caller c ≡ o.number → terms.calls back ≡ terms.calls value ++ c ∷ []
       → (terms.start back ≡ terms.start value) × (terms.room back ≡ terms.room value) → terms.Right (terms.start value) (terms.calls value) (caller c) c.ask c.answer
       → position ≡ length p.log → word ≡ length p.log + 1 → IsHome homes' back
@@ -160,7 +160,7 @@ module _ {Value Start Ask Answer : Type 0} (terms : Terms Value Start Ask Answer
       let served = r.served in
       let fits' : n + 1 < 2 ^ 64 = omega arith in
       let next : (n + 1) % 2 ^ 64 ≡ length p.log + 1 = mod-eq_of_lt fits' ∙ ap (λ (k : ℕ). k + 1) n_is in
-      let home : IsHome (set s.homes 0 (some (Some back))) back = ap (λ (h : List (mathlib.Core.Option.Option (Option Value))). set h 0 (some (Some back))) turns.4 in
+      let home : IsHome (set s.homes 0 (some (Some back))) back = ap (λ (h : Homes Value). set h 0 (some (Some back))) turns.4 in
       let later : AllBefore o.calls n = λ k x a.
       let h = calls_of-before o.number p.log k x (ap (λ (l : List (Placed Ask Answer)). get_elem? l k) (sym turns.0.calls) ∙ a) in omega arith in (
         w,

@@ -1,8 +1,8 @@
 -- Telling the seat that gathers what it keeps leaves the table as it is.
-use Rattle.std.proofs.Common.{◌≡◌, ℕ, List, sym, refl, subst, arith, Option}
+use Rattle.std.proofs.Common.{◌≡◌, ℕ, List, sym, refl, subst, arith}
 use mathlib.Core.Option.{none}
 use lib.Seq.{set-get_or}
-use Rattle.atomic_table.specs.Table.{State, step, keeps, Allows}
+use Rattle.atomic_table.specs.Table.{step, keeps, Allows}
 use Rattle.atomic_table.proofs.Lists.{set_again}
 use lib.ListN.{get_elem?}
 use mathlib.Core.Option.{some}
@@ -11,12 +11,12 @@ use Rattle.axp_ticket.specs.declared.board.Role.TheVariants.{Gathers}
 use Rattle.axp_ticket.specs.declared.board.View.{View}
 use Rattle.axp_ticket.specs.History.{IsHistoryOf}
 use Rattle.axp_ticket.specs.Moves.{Held, kept_of, settled}
-use Rattle.axp_ticket.specs.Queue.{IsSound, Progress, Knows, Stands, Queued, Terms}
+use Rattle.axp_ticket.specs.Queue.{IsSound, Progress, Knows, Stands, Queued, Terms, TableState}
 use Rattle.axp_ticket.proofs.RuleKnowledge.{known_as, opened_is}
 
 module _ {Value Start Ask Answer : Type 0} (terms : Terms Value Start Ask Answer) where
   -- what the seat that gathers keeps are calls of the history
-  pub gathered : (s : State (Option Value) (View Value Ask Answer)) (p : Progress Value Ask Answer) → Stands terms s p
+  pub gathered : (s : TableState Value Ask Answer) (p : Progress Value Ask Answer) → Stands terms s p
       → (id : ℕ) (v : View Value Ask Answer) (given : ℕ) (kept : List (Own Ask Answer)) → get_elem? s.views id ≡ some v → v.role ≡ Gathers given kept
       → IsHistoryOf terms.Right (terms.start terms.opened) given kept p.log
   gathered s p r id v given kept at is =

@@ -1,5 +1,5 @@
 -- The views of the table after one of them changed.
-use Rattle.std.proofs.Common.{◌≡◌, ◌≢◌, ◌⊎◌, ⊎_elim, inl, inr, ℕ, zero, suc, ◌+◌, ◌≤◌, List, [], ◌∷◌, ◌++◌, length, set, sym, refl, ap, ◌∙◌, subst, arith, Option}
+use Rattle.std.proofs.Common.{◌≡◌, ◌≢◌, ◌⊎◌, ⊎_elim, inl, inr, ℕ, zero, suc, ◌+◌, ◌≤◌, List, [], ◌∷◌, ◌++◌, length, set, sym, refl, ap, ◌∙◌, subst, arith}
 use mathlib.Core.Logic.{dite}
 use mathlib.Core.Option.{some, some-injective, some-ne-none}
 use native.Mathlib.Decide.{ℕ_discrete}
@@ -10,7 +10,7 @@ use Rattle.axp_ticket.specs.declared.board.Role.{Role}
 use Rattle.axp_ticket.specs.declared.board.Role.TheVariants.{Turns}
 use Rattle.axp_ticket.specs.declared.board.View.{View}
 use Rattle.axp_ticket.specs.History.{IsAmong, EachOnce}
-use Rattle.axp_ticket.specs.Queue.{total, IsHome, IsAway, HasTurn, Finds}
+use Rattle.axp_ticket.specs.Queue.{total, IsHome, IsAway, HasTurn, Finds, Homes}
 use Rattle.axp_ticket.proofs.ListPlaces.{below_length}
 
 module _ {Value Ask Answer : Type 0} where
@@ -49,7 +49,7 @@ module _ {Value Ask Answer : Type 0} where
       differ (ap (λ (x : View Value Ask Answer). x.role) (some-injective v m (sym at ∙ (ap (λ (k : ℕ). get_elem? vs k) e ∙ at'))))
 
   -- a seat that has no turn leaves the value where it is
-  pub home_stays : (homes : List (mathlib.Core.Option.Option (Option Value))) (views : List (View Value Ask Answer)) (served : ℕ) (value : Value) (id : ℕ) (m w : View Value Ask Answer)
+  pub home_stays : (homes : Homes Value) (views : List (View Value Ask Answer)) (served : ℕ) (value : Value) (id : ℕ) (m w : View Value Ask Answer)
       → get_elem? views id ≡ some m → ((o : Own Ask Answer) (t : ℕ) (x : Value) → Turns o t x ≢ m.role)
       → IsHome homes value ⊎ (IsAway homes × (j : ℕ) × HasTurn views served value j)
       → IsHome homes value ⊎ (IsAway homes × (j : ℕ) × HasTurn (set views id w) served value j)

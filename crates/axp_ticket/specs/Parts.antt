@@ -1,8 +1,7 @@
 -- The rule of the table part by part: what holds between any two steps.
-use Rattle.std.specs.Prelude.{◌≡◌, ◌⊎◌, ℕ, ◌+◌, ◌<◌, ◌≤◌, List, [], ◌∷◌, length, Option, Some}
+use Rattle.std.specs.Prelude.{◌≡◌, ◌⊎◌, ℕ, ◌+◌, ◌<◌, ◌≤◌, List, [], ◌∷◌, length, Some}
 use mathlib.Core.Option.{some, none}
 use lib.ListN.{get_elem?}
-use Rattle.atomic_table.specs.Table.{State}
 use Rattle.axp_call.specs.declared.calls.Call.{Call}
 use Rattle.axp_call.specs.Calls.{caller, EachRight}
 use Rattle.axp_ticket.specs.declared.board.Placed.{Placed}
@@ -10,9 +9,9 @@ use Rattle.axp_ticket.specs.declared.board.Own.{Own}
 use Rattle.axp_ticket.specs.declared.board.Role.TheVariants.{Turns}
 use Rattle.axp_ticket.specs.declared.board.View.{View}
 use Rattle.axp_ticket.specs.History.{calls_of, IsAmong, EachOnce}
-use Rattle.axp_ticket.specs.Queue.{Terms, ticket_of, pending, numbers_of}
+use Rattle.axp_ticket.specs.Queue.{Terms, ticket_of, pending, numbers_of, TableState}
 
-module _ {Value Ask Answer : Type 0} (s : State (Option Value) (View Value Ask Answer)) where
+module _ {Value Ask Answer : Type 0} (s : TableState Value Ask Answer) where
   -- seat j of the table has this view
   abbrev pub HasView : ℕ → View Value Ask Answer → Type 0
   HasView j v = get_elem? s.views j ≡ some v
@@ -28,7 +27,7 @@ module _ {Value Ask Answer : Type 0} (s : State (Option Value) (View Value Ask A
       HasView j v × (get_elem? (numbers_of v.role) k ≡ some o) × (get_elem? o.calls i ≡ some p)
 
 module _ {Value Start Ask Answer : Type 0} (terms : Terms Value Start Ask Answer) where
-  pub record IsInOrder (s : State (Option Value) (View Value Ask Answer)) (next given : ℕ)
+  pub record IsInOrder (s : TableState Value Ask Answer) (next given : ℕ)
       (value : Value) (log : List (Call Ask Answer)) : Type 0 where
     -- the words are the next ticket and the ticket that is served: the number of calls so far
     pub words : s.words ≡ next ∷ length log ∷ []

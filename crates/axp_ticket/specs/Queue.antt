@@ -11,6 +11,14 @@ use Rattle.axp_ticket.specs.declared.board.Role.TheVariants.{Nobody, Idle, Waits
 use Rattle.axp_ticket.specs.declared.board.View.{View}
 use Rattle.axp_ticket.specs.History.{calls_of, IsAmong, EachOnce}
 
+-- the homes of the slots: one, at home with what is in it or away
+abbrev pub Homes : Type 0 → Type 0
+Homes Value = List (mathlib.Core.Option.Option (Option Value))
+
+-- the table as plain data
+abbrev pub TableState : Type 0 → Type 0 → Type 0 → Type 0
+TableState Value Ask Answer = State (Option Value) (View Value Ask Answer)
+
 module _ {Value Ask Answer : Type 0} where
   -- the calls that this role may still draw tickets for
   abbrev pub rights : ℕ → ℕ → Role Value Ask Answer → ℕ
@@ -87,11 +95,11 @@ pub record Holds (served next : ℕ) (holder : ℕ → ℕ) (j ticket : ℕ) : T
 
 module _ {Value : Type 0} where
   -- the value is away from its slot
-  abbrev pub IsAway : List (mathlib.Core.Option.Option (Option Value)) → Type 0
+  abbrev pub IsAway : Homes Value → Type 0
   IsAway homes = homes ≡ none ∷ []
 
   -- the value is in its slot
-  abbrev pub IsHome : List (mathlib.Core.Option.Option (Option Value)) → Value → Type 0
+  abbrev pub IsHome : Homes Value → Value → Type 0
   IsHome homes value = homes ≡ some (Some value) ∷ []
 
 module _ {Value Ask Answer : Type 0} where
@@ -106,7 +114,7 @@ module _ {Value Ask Answer : Type 0} where
   Finds views j Has = (v : View Value Ask Answer) × (get_elem? views j ≡ some v) × Has v.role
 
   module _ (p : Progress Value Ask Answer)
-      (homes : List (mathlib.Core.Option.Option (Option Value))) (j : ℕ) where
+      (homes : Homes Value) (j : ℕ) where
     -- what view j knows, by its role
     abbrev pub Knows : Role Value Ask Answer → Type 0
     Knows Nobody = Unit {0}
@@ -150,7 +158,7 @@ terms_of start room calls Right seats allowance opened = record {
 
 module _ {Value Start Ask Answer : Type 0} (terms : Terms Value Start Ask Answer) where
   -- The table stands where these steps have come to.
-  pub record Stands (s : State (Option Value) (View Value Ask Answer))
+  pub record Stands (s : TableState Value Ask Answer)
       (p : Progress Value Ask Answer) : Type 0 where
     -- the words are the next ticket and the ticket that is served: the number of calls so far
     pub words : s.words ≡ p.next ∷ length p.log ∷ []
@@ -186,7 +194,7 @@ module _ {Value Start Ask Answer : Type 0} (terms : Terms Value Start Ask Answer
         → Finds s.views (p.owner n) (λ role. IsAmong n (numbers_of role))
 
   -- The rule: there are steps where the table stands.
-  abbrev pub Queued : State (Option Value) (View Value Ask Answer) → Type 0
+  abbrev pub Queued : TableState Value Ask Answer → Type 0
   Queued s = (p : Progress Value Ask Answer) × Stands s p
 
 -- the view of the first seat, which gathers
