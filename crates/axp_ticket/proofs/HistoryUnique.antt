@@ -7,7 +7,8 @@ use Rattle.axp_ticket.specs.declared.board.Own.{Own}
 use Rattle.axp_ticket.specs.History.{IsOneHistory}
 use Rattle.axp_ticket.proofs.ListPlaces.{same_list, below_length}
 
-module _ {Start Ask Answer : Type 0} (Right : Start → List (Call Ask Answer) → ℕ → Ask → Answer → Type 0) (start : Start) (kept : List (Own Ask Answer)) where
+module _ {Start Ask Answer : Type 0} (Right : Start → List (Call Ask Answer) → ℕ → Ask → Answer
+    → Type 0) (start : Start) (kept : List (Own Ask Answer)) where
   told_too : (one other : List (Call Ask Answer))
       → IsOneHistory Right start kept one → IsOneHistory Right start kept other
       → (n : ℕ) (c : Call Ask Answer) → get_elem? one n ≡ some c → get_elem? other n ≡ some c
@@ -15,7 +16,8 @@ module _ {Start Ask Answer : Type 0} (Right : Start → List (Call Ask Answer) �
       let (k, i, o, p, at, at', is) = h.whole n (below_length one n c e) in
       let mine = (h.told k i o p at at').0 in
       let theirs = (h'.told k i o p at at').0 in
-      ap (λ (m : ℕ). get_elem? other m) (sym is) ∙ (theirs ∙ (sym mine ∙ (ap (λ (m : ℕ). get_elem? one m) is ∙ e)))
+      ap (λ (m : ℕ). get_elem? other m) (sym is)
+      ∙ (theirs ∙ (sym mine ∙ (ap (λ (m : ℕ). get_elem? one m) is ∙ e)))
 
   pub one_log : (one other : List (Call Ask Answer))
       → IsOneHistory Right start kept one → IsOneHistory Right start kept other → one ≡ other

@@ -25,7 +25,8 @@ module _ {Item : Type 0} where
   same_list (x ∷ xs) [] there back = absurd (some-ne-none x (sym (there 0 x refl)))
   same_list (x ∷ xs) (y ∷ ys) there back =
       let first : y ≡ x = some-injective y x (there 0 x refl) in
-      let others : xs ≡ ys = same_list xs ys (λ n z e. there (suc n) z e) (λ n z e. back (suc n) z e) in
+      let others : xs ≡ ys = same_list xs ys (λ n z e. there (suc n) z e) (λ n z e.
+      back (suc n) z e) in
       λ i. sym first i ∷ others i
 
   -- an element of a list that is one longer is one of the list, or the last
@@ -35,7 +36,8 @@ module _ {Item : Type 0} where
   at_end [] a b (suc j) e = absurd (some-ne-none b (sym e))
   at_end (x ∷ xs) a b zero e = inl e
   at_end (x ∷ xs) a b (suc j) e =
-      ⊎_elim (λ h. inl h) (λ (h : (j ≡ length xs) × (a ≡ b)). inr (ap suc h.0, h.1)) (at_end xs a b j e)
+      ⊎_elim (λ h. inl h) (λ (h : (j ≡ length xs) × (a ≡ b)). inr (ap suc h.0, h.1))
+      (at_end xs a b j e)
 
   -- lists that differ in their last element alone
   pub last_same : (xs : List Item) (x y : Item) → xs ++ x ∷ [] ≡ xs ++ y ∷ [] → x ≡ y

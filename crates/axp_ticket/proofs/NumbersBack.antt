@@ -15,4 +15,5 @@ module _ {Ask Answer : Type 0} where
       → AllBack given kept → o.number ≡ given → AllBack (suc given) (kept ++ o ∷ [])
   one_more_back given kept o back e n below = dite (ℕ_discrete n given)
       (λ same. (length kept, o, at_last kept o (length kept) refl, e ∙ sym same))
-      (λ other. let b = back n (omega arith) in (b.0, b.1, at_longer kept (o ∷ []) b.0 b.1 b.2, b.3))
+      (λ other. let b = back n (omega arith) in
+      (b.0, b.1, at_longer kept (o ∷ []) b.0 b.1 b.2, b.3))

@@ -6,7 +6,7 @@ use Rattle.axp_ticket.specs.declared.board.Own.{Own}
 use Rattle.axp_ticket.specs.declared.board.Role.{Role}
 use Rattle.axp_ticket.specs.declared.board.Role.TheVariants.{Nobody, Idle, Waits, Turns, Gathers}
 use Rattle.axp_ticket.specs.declared.board.View.{View}
-use Rattle.axp_ticket.specs.Queue.{rights, total, ticket_of, numbers_of, IsOpened, Owns, Holds, Progress, Knows, IsAway, Stands, Terms, Homes, TableState}
+use Rattle.axp_ticket.specs.Queue.{ticket_of, numbers_of, IsOpened, Owns, Holds, Progress, Knows, IsAway, Stands, Terms, Homes, TableState, rights_in}
 
 module _ {Value Ask Answer : Type 0} where
   -- the same steps, but for how many numbers were handed out and where they stand
@@ -22,14 +22,16 @@ module _ {Value Ask Answer : Type 0} where
   }
 
   -- the view knows the value that the lock was opened with
-  pub opened_is : (opened : Value) (v : View Value Ask Answer) (x : Value) → IsOpened opened v → v.opened ≡ Some x → opened ≡ x
+  pub opened_is : (opened : Value) (v : View Value Ask Answer) (x : Value) → IsOpened opened v
+      → v.opened ≡ Some x → opened ≡ x
   opened_is opened v x h e = ⊎_elim
       (λ (l : v.opened ≡ None). let f : None ≡ Some x = sym l ∙ e in cc)
       (λ (l : v.opened ≡ Some opened). let f : Some opened ≡ Some x = sym l ∙ e in cc) h
 
   module _ (p : Progress Value Ask Answer) (homes : Homes Value) (j : ℕ) where
     -- a ticket that the role has is held
-    pub ticket_known : (role : Role Value Ask Answer) (t : ℕ) → Knows p homes j role → ticket_of role ≡ Some t
+    pub ticket_known : (role : Role Value Ask Answer) (t : ℕ) → Knows p homes j role
+        → ticket_of role ≡ Some t
         → Holds (length p.log) p.next p.holder j t
     ticket_known Nobody t k e = let f : None ≡ Some t = e in absurd (cc)
     ticket_known (Idle o) t k e = let f : None ≡ Some t = e in absurd (cc)
@@ -45,7 +47,8 @@ module _ {Value Ask Answer : Type 0} where
     the_one o o' (suc k) e h = absurd (some-ne-none o' (sym e))
 
     -- a number that stands in the role is owned
-    pub number_known : (role : Role Value Ask Answer) (k : ℕ) (o : Own Ask Answer) → Knows p homes j role
+    pub number_known : (role : Role Value Ask Answer) (k : ℕ) (o : Own Ask Answer)
+        → Knows p homes j role
         → get_elem? (numbers_of role) k ≡ some o → Owns p.log p.given p.owner j o
     number_known Nobody k o h e = absurd (some-ne-none o (sym e))
     number_known (Idle own) k o h e = the_one own o k e h
@@ -65,7 +68,8 @@ module _ {Value Ask Answer : Type 0} where
     -- so do the numbers of other views, unless the seat gathers
     pub knows_reowned : (given' : ℕ) (owner' : ℕ → ℕ) → j ≢ p.gatherer
         → ((o : Own Ask Answer) → Owns p.log p.given p.owner j o → Owns p.log given' owner' j o)
-        → (role : Role Value Ask Answer) → Knows p homes j role → Knows (reowned given' owner' p) homes j role
+        → (role : Role Value Ask Answer) → Knows p homes j role
+        → Knows (reowned given' owner' p) homes j role
     knows_reowned given' owner' other still Nobody k = tt
     knows_reowned given' owner' other still (Idle o) k = still o k
     knows_reowned given' owner' other still (Waits o t) k = (still o k.0, k.1)
@@ -74,14 +78,18 @@ module _ {Value Ask Answer : Type 0} where
 
 module _ {Value Start Ask Answer : Type 0} {terms : Terms Value Start Ask Answer} where
   -- what a view in this role knows
-  pub known_as : (s : TableState Value Ask Answer) (p : Progress Value Ask Answer) (r : Stands terms s p)
-      (id : ℕ) (v : View Value Ask Answer) (role : Role Value Ask Answer) → get_elem? s.views id ≡ some v → v.role ≡ role → Knows p s.homes id role
+  pub known_as : (s : TableState Value Ask Answer) (p : Progress Value Ask Answer)
+      (r : Stands terms s p)
+      (id : ℕ) (v : View Value Ask Answer) (role : Role Value Ask Answer)
+      → get_elem? s.views id ≡ some v → v.role ≡ role → Knows p s.homes id role
   known_as s p r id v role at is = subst (Knows p s.homes id) is (r.each_knows id v at)
 
   -- no ticket reaches the end of its word
-  pub few_tickets : (s : TableState Value Ask Answer) (p : Progress Value Ask Answer) → Stands terms s p
+  pub few_tickets : (s : TableState Value Ask Answer) (p : Progress Value Ask Answer)
+      → Stands terms s p
       → terms.seats * terms.allowance < 2 ^ 32 → p.next < 2 ^ 32
   few_tickets s p r few =
       let all : ℕ = terms.seats * terms.allowance in
       let few' : all < 2 ^ 32 = few in
-      let bound : p.next + total (rights terms.seats terms.allowance) s.views ≤ all = r.bound in omega arith
+      let bound : p.next + rights_in terms s.views ≤ all = r.bound in
+      omega arith

@@ -26,7 +26,8 @@ module _ {Value Ask Answer : Type 0} where
   only_view K v first (suc j) d a = absurd (some-ne-none d (sym a))
 
 module _ {Value Start Ask Answer : Type 0} (terms : Terms Value Start Ask Answer) where
-  pub starts : terms.calls terms.opened ≡ [] → terms.seats * terms.allowance ≤ terms.room terms.opened
+  pub starts : terms.calls terms.opened ≡ []
+      → terms.seats * terms.allowance ≤ terms.room terms.opened
       → Queued terms (opening (0 ∷ 0 ∷ []) (Some terms.opened ∷ []) (gathering terms.opened))
   starts none_yet ample =
       let homes : Homes Value = some (Some terms.opened) ∷ [] in (
@@ -39,13 +40,19 @@ module _ {Value Start Ask Answer : Type 0} (terms : Terms Value Start Ask Answer
           stored = none_yet;
           few = omega arith;
           unmade = λ n h. refl;
-          bound = (let e : (terms.seats - 0) * terms.allowance ≡ terms.seats * terms.allowance = ap (λ (k : ℕ). k * terms.allowance) (omega arith) in omega arith);
+          bound = (let e : (terms.seats - 0) * terms.allowance ≡ terms.seats * terms.allowance =
+              ap (λ (k : ℕ). k * terms.allowance) (omega arith) in omega arith);
           ample = ample;
           home = inl refl;
-          each_opened = only_view (λ _ d. IsOpened terms.opened d) (gathering terms.opened) (inr refl);
-          each_knows = only_view (λ j d. Knows (no_steps terms.opened) homes j d.role) (gathering terms.opened) (refl, refl, λ k o e. absurd (some-ne-none o (sym e)));
-          each_sound = only_view (λ _ d. IsSound terms.allowance d.role) (gathering terms.opened)
-              ((λ k o e. absurd (some-ne-none o (sym e))), λ i k x y e. absurd (some-ne-none x (sym e)));
+          each_opened = only_view (λ _ d. IsOpened terms.opened d) (gathering terms.opened)
+              (inr refl);
+          each_knows = only_view (λ j d. Knows (no_steps terms.opened) homes j d.role)
+              (gathering terms.opened) (refl, refl, λ k o e. absurd (some-ne-none o (sym e)));
+          each_sound = only_view (λ _ d. IsSound terms.allowance d.role) (gathering terms.opened) (
+            (λ k o e. absurd (some-ne-none o (sym e))),
+            λ i k x y e.
+                absurd (some-ne-none x (sym e)),
+          );
           each_ticket = λ t low high. absurd (omega arith);
           each_number = λ n h. absurd (omega arith);
         },

@@ -27,6 +27,7 @@ module _ {Value Ask Answer : Type 0} (s : TableState Value Ask Answer) where
       HasView j v × (get_elem? (numbers_of v.role) k ≡ some o) × (get_elem? o.calls i ≡ some p)
 
 module _ {Value Start Ask Answer : Type 0} (terms : Terms Value Start Ask Answer) where
+  -- The table is in order, with these numbers, this value and these calls so far.
   pub record IsInOrder (s : TableState Value Ask Answer) (next given : ℕ)
       (value : Value) (log : List (Call Ask Answer)) : Type 0 where
     -- the words are the next ticket and the ticket that is served: the number of calls so far

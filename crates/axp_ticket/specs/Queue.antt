@@ -141,7 +141,7 @@ pub record Terms (Value Start Ask Answer : Type 0) : Type 1 where
   pub allowance : ℕ
   pub opened : Value
 
--- these terms
+-- the terms with these parts
 abbrev pub terms_of : {Value Start Ask Answer : Type 0} → (Value → Start) → (Value → ℕ)
     → (Value → List (Call Ask Answer))
     → (Start → List (Call Ask Answer) → ℕ → Ask → Answer → Type 0)
@@ -157,6 +157,10 @@ terms_of start room calls Right seats allowance opened = record {
 }
 
 module _ {Value Start Ask Answer : Type 0} (terms : Terms Value Start Ask Answer) where
+  -- the calls that all views may still draw tickets for
+  abbrev pub rights_in : List (View Value Ask Answer) → ℕ
+  rights_in views = total (rights terms.seats terms.allowance) views
+
   -- The table stands where these steps have come to.
   pub record Stands (s : TableState Value Ask Answer)
       (p : Progress Value Ask Answer) : Type 0 where
@@ -173,7 +177,7 @@ module _ {Value Start Ask Answer : Type 0} (terms : Terms Value Start Ask Answer
     pub few : p.given ≤ terms.seats
     pub unmade : (n : ℕ) → p.given ≤ n → calls_of n p.log ≡ []
     -- no more tickets are ever drawn than all seats are allowed, for which the value has room
-    pub bound : p.next + total (rights terms.seats terms.allowance) s.views
+    pub bound : p.next + rights_in s.views
         ≤ terms.seats * terms.allowance
     pub ample : terms.seats * terms.allowance ≤ terms.room terms.opened
     -- the value is at home, or away where a view has the turn

@@ -7,7 +7,7 @@ use std::collections::LinkedList;
 use std::marker::PhantomData;
 use std::snapshot::Snapshot;
 
-/// A call and its position among all calls.
+/// A call and its position among all calls, from 0 on.
 pub struct Placed<Ask, Answer> {
     pub position: u64,
     pub call: Call<Ask, Answer>,

@@ -16,5 +16,6 @@ pub returns-clause-history : goal.returns-clause-history
 returns-clause-history g c =
     let lock = c.args.self.now in
     let given = c.args.seats.now.given in
-    subst (λ m. IsHistory g.S.Served.Right (g.S.Served.start (lock_value lock)) given (kept_of m.0.role)) (sym c.load.ensures.2.0)
+    subst (λ m. IsHistory g.S.Served.Right (g.S.Served.start (lock_value lock)) given
+    (kept_of m.0.role)) (sym c.load.ensures.2.0)
     (c.load.ensures.2.1 given (lock_value lock) c.args.seats.now.gathers.0 c.requires.seats.0.1)
