@@ -1,9 +1,7 @@
 //! What a lock and its seats do.
-ghost use Rattle.std.specs.Prelude.{◌≡◌, ◌≢◌, ℕ, ◌+◌, ◌*◌, ◌<◌, ◌≤◌, ◌^◌, List, [], ◌∷◌, ◌++◌, length, IfOk, IfSome, IfNone, Some, None};
-ghost use Rattle.axp_call.specs.declared.calls.Call.{Call};
-ghost use Rattle.axp_call.specs.Calls.{IsCall};
+ghost use Rattle.std.specs.Prelude.{◌≡◌, ◌≢◌, ◌+◌, ◌*◌, ◌<◌, ◌≤◌, ◌^◌, [], ◌∷◌, ◌++◌, length, IfOk, IfSome, IfNone, Some, None};
 ghost use Rattle.axp_ticket.specs.History.{AllBefore, IsOneLonger};
-ghost use Rattle.axp_ticket.specs.Moves.{IsPassOf, IsIdle, IsWaiting, IsTurning, IsGathering, IsSame, IsTaken, HasTurned, HasValue, HasCalled, waiting, turning, idling, own_of, pass_calls, pass_kept};
+ghost use Rattle.axp_ticket.specs.Moves.{IsIdle, IsWaiting, IsTurning, IsSame, IsTaken, HasTurned, HasValue, HasCalled, waiting, turning, own_of, pass_calls};
 ghost use Rattle.axp_ticket.specs.Seats.{lock_seats, lock_allowance, lock_value, IsLockOf, IsSeatsOf, IsSeatOf, IsNewSeatOf, IsPassIn, AreAllThere, AllHome, seats_given, seats_kept, seat_number, seat_calls, seat_own, HasOneCallMore, LaterThan, IsRightInTurn, KeepsHistory, KeepsHistoryOf, KeepsOneHistory, KeepsOneHistoryOf};
 
 use super::{TicketLock, TicketSeat, TicketSeats};
@@ -18,7 +16,9 @@ use std::sync::Wait;
 
 impl<S: Served> TicketLock<S> {
     /// A lock round a value without calls, for so many seats with so many calls each, and all its
-    /// seats. [`NoMemory`] where memory was not found for the table; the value is dropped then.
+    /// seats. There is at least one seat, all seats together make fewer than 2^32 calls, and the
+    /// value has room for these. [`NoMemory`] where memory was not found for the table; the value
+    /// is dropped then.
     pub fn open(
         alloc: Global,
         value: S,
@@ -168,8 +168,9 @@ impl<S: Served> TicketLock<S> {
     /// Waits for the turn, and has the value answer the ask. Gives the seat back, one call longer,
     /// with the call's position among all calls, from 0 on, and the answer. The answer is right
     /// after the calls before that position, and the seat's own among these are its earlier calls.
-    /// A seat that waits sleeps. No order is promised between seats, nor that a seat is ever
-    /// served.
+    /// The ask has to fit the seat at the lock's start, and the seat to have made fewer calls than
+    /// it is allowed. A seat that waits sleeps. No order is promised between seats, nor that a seat
+    /// is ever served.
     pub fn turn<R: Wait>(
         &self,
         rt: &R,
