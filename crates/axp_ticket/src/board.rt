@@ -1,4 +1,4 @@
-//! The table that all seats share. Word 0 is the next ticket, and word 1 is the ticket that is served.
+//! The table that all seats share. Word 0 is the next ticket, and word 1 the ticket that is served.
 //! The one slot holds the value.
 use crate::serving::Served;
 use atomic_table::TableRule;
@@ -7,7 +7,7 @@ use std::collections::LinkedList;
 use std::marker::PhantomData;
 use std::snapshot::Snapshot;
 
-/// A call and its position among all calls.
+/// A call and its position among all calls, from 0 on.
 pub struct Placed<Ask, Answer> {
     pub position: u64,
     pub call: Call<Ask, Answer>,
@@ -20,7 +20,7 @@ pub struct Own<Ask, Answer> {
 }
 
 /// What a seat of the table is for.
-pub enum Role<T, Ask, Answer> {
+pub enum Role<Value, Ask, Answer> {
     /// Its number and calls went to the seat that gathers.
     Nobody,
     /// Between two calls of its number.
@@ -28,24 +28,24 @@ pub enum Role<T, Ask, Answer> {
     /// With the ticket that was drawn.
     Waits(Own<Ask, Answer>, u64),
     /// With the ticket, and the value as it was taken.
-    Turns(Own<Ask, Answer>, u64, T),
+    Turns(Own<Ask, Answer>, u64, Value),
     /// How many numbers were handed out, and those that came back with their calls.
     Gathers(u64, LinkedList<Own<Ask, Answer>>),
 }
 
 /// What a seat of the table knows: the value that the lock was opened with, and its role. No value
 /// of it is made.
-pub struct View<T, Ask, Answer> {
-    pub opened: Option<T>,
-    pub role: Role<T, Ask, Answer>,
+pub struct View<Value, Ask, Answer> {
+    pub opened: Option<Value>,
+    pub role: Role<Value, Ask, Answer>,
 }
 
 /// What the lock was opened with.
 #[derive(Drop)]
-pub struct Opening<T> {
+pub struct Opening<Value> {
     pub seats: u8,
     pub allowance: u32,
-    pub value: Snapshot<T>,
+    pub value: Snapshot<Value>,
 }
 
 /// The rule of the table.
@@ -54,9 +54,10 @@ pub struct InTurn<S> {
 }
 
 impl<S: Served> TableRule<Option<S>, View<S, S::Ask, S::Answer>, Opening<S>> for InTurn<S> {
-    ghost use Rattle.axp_ticket.specs.Queue.{Queued, gathering};
+    ghost use Rattle.axp_ticket.specs.Queue.{Queued, terms_of, gathering};
 
-    ghost holds = { λ key. Queued S.start S.room S.calls S.Right key.seats key.allowance key.value.value };
+    ghost holds = { λ key. Queued (terms_of S.start S.room S.calls S.Right
+        key.seats key.allowance key.value.value) };
 
     ghost first = { λ key. gathering key.value.value };
 }

@@ -1,9 +1,10 @@
 //! A lock that serves its callers in one order, and keeps one history of their calls.
 //!
 //! The lock is generic over the value that it serves ([`Served`]). Each call of a seat has one
-//! position in the history; the value's answer is right after the calls before it. A seat that waits
-//! for its turn sleeps on the word of the ticket that is served, and each pass on wakes the sleepers:
-//! a sleep begins only while that word is the one that the seat has just read, so no wake is lost.
+//! position in the history; the value's answer is right after the calls before it. A seat that
+//! waits for its turn sleeps on the word of the ticket that is served, and each pass on wakes the
+//! sleepers: a sleep begins only while that word is the one that the seat has just read, so no wake
+//! is lost. A lock is `Sync`, and it and its seats are `Send`, where the value is `Send`.
 #![tactic(auto)]
 
 mod board;
@@ -11,14 +12,10 @@ mod laws;
 mod lock;
 mod plays;
 mod serving;
-mod sharing;
 
 pub use laws::{callers_are_in_order, each_call_is_right, kept_calls_fix_the_history};
 pub use lock::{TicketLock, TicketSeat, TicketSeats};
 pub use serving::Served;
-pub use sharing::{
-    Wrapper, lock_is_send, lock_is_sync, seat_is_send, seats_are_send, wrapper_is_sync,
-};
 
 #[cfg(test)]
 mod tests;

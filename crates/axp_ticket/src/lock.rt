@@ -1,5 +1,5 @@
 //! The lock and its seats.
-ghost use Rattle.std.specs.Prelude.{◌≡◌, ℕ, ◌*◌, ◌<◌, ◌^◌};
+ghost use Rattle.std.specs.Prelude.{◌≡◌, ◌*◌, ◌<◌, ◌^◌};
 ghost use Rattle.axp_ticket.specs.Moves.{IsIdle, IsGathering};
 
 use crate::board::{InTurn, Opening, View};
@@ -20,7 +20,8 @@ pub struct TicketLock<S: Served> {
     ghost few: { table.shared.key.seats * table.shared.key.allowance < 2 ^ 32 },
 }
 
-/// The seats of a lock that were not yet handed out, and those that were given back with their calls.
+/// The seats of a lock that were not yet handed out, and those that were given back with their
+/// calls.
 #[derive(Drop)]
 pub struct TicketSeats<S: Served> {
     given: u8,

@@ -9,7 +9,7 @@ use std::marker::PhantomData;
 // Draws the next ticket.
 pub(crate) struct Draw;
 
-impl<T, A, R> Play<Option<T>, View<T, A, R>> for Draw {
+impl<Value, Ask, Answer> Play<Option<Value>, View<Value, Ask, Answer>> for Draw {
     ghost then = { drawn };
 }
 
@@ -43,7 +43,7 @@ impl<S: Served> Play<Option<S>, View<S, S::Ask, S::Answer>> for Settle<S> {
 // Hands out the next number.
 pub(crate) struct HandOut;
 
-impl<T, A, R> Split<View<T, A, R>> for HandOut {
+impl<Value, Ask, Answer> Split<View<Value, Ask, Answer>> for HandOut {
     ghost left = { left_of };
 
     ghost right = { right_of };
@@ -52,7 +52,7 @@ impl<T, A, R> Split<View<T, A, R>> for HandOut {
 // Takes back a number with its calls.
 pub(crate) struct TakeBack;
 
-impl<T, A, R> Join<View<T, A, R>> for TakeBack {
+impl<Value, Ask, Answer> Join<View<Value, Ask, Answer>> for TakeBack {
     ghost both = { both_of };
 
     ghost spent = { nobody };

@@ -1,6 +1,7 @@
-ghost use Rattle.std.specs.Prelude.{◌≡◌, ℕ, ◌<◌, List, [], ◌∷◌, ◌++◌, length};
+ghost use Rattle.std.specs.Prelude.{◌≡◌, ℕ, ◌<◌, List, length};
 ghost use Rattle.axp_call.specs.declared.calls.Call.{Call};
-ghost use Rattle.axp_call.specs.Calls.{IsCall, EachRight};
+ghost use Rattle.axp_call.specs.Calls.{EachRight};
+ghost use Rattle.axp_ticket.specs.History.{IsOneLonger};
 
 /// A value that answers asks of numbered seats, and stores the list of its calls. It has a start,
 /// plain data that no call changes, and room for so many calls.
@@ -27,15 +28,17 @@ pub trait Served: Drop {
     ghost Fits: { Self.Start → ℕ → Self.Ask → Type 0 };
 
     /// Which answer is right at a start, after earlier calls, for the seat of a number and its ask.
-    ghost Right: { Self.Start → List (Call Self.Ask Self.Answer) → ℕ → Self.Ask → Self.Answer → Type 0 };
+    ghost Right: { Self.Start → List (Call Self.Ask Self.Answer)
+        → ℕ → Self.Ask → Self.Answer → Type 0 };
 
     /// Answers the ask, and appends exactly this call. The seat's number is that of a processor.
     fn reply(&mut self, seat: u8, ask: Self::Ask) -> Self::Answer
         requires fits { Fits (start self.old) seat ask }
         requires room { length (calls self.old) < room self.old }
         ensures right { Right (start self.old) (calls self.old) seat ask result }
-        ensures calls { (c : Call Self.Ask Self.Answer) × IsCall seat ask result c × (calls self.new ≡ calls self.old ++ c ∷ []) }
-        ensures same { (start self.new ≡ start self.old) × (room self.new ≡ room self.old) };
+        ensures calls { IsOneLonger (calls self.old) (calls self.new) seat ask result }
+        ensures start { start self.new ≡ start self.old }
+        ensures room { room self.new ≡ room self.old };
 
     /// Each stored call is right after those before it.
     ghost each_right: { (x : Self) → EachRight Right (start x) (calls x) };

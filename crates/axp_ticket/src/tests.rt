@@ -1,9 +1,8 @@
 // A counter is served to threads.
-ghost use Rattle.std.specs.Prelude.{◌≡◌, ◌≤◌, ◌<◌, ◌+◌, length, []};
-ghost use Rattle.axp_base.specs.declared.processors.TheConstants.{MAX_CPUS};
-ghost use Rattle.axp_ticket.specs.Seats.{lock_allowance, IsSeatOf, seat_number, seat_calls};
+ghost use Rattle.std.specs.Prelude.{◌≡◌, ◌≤◌, ◌+◌};
+ghost use Rattle.axp_ticket.specs.Counting.{IsReady, HasCounted};
+ghost use Rattle.axp_ticket.specs.Seats.{lock_allowance, lock_value};
 
-use crate::sharing::{seat_is_send, wrapper_is_sync};
 use crate::{TicketLock, TicketSeat};
 use std::sync::Wait;
 use std::test::*;
@@ -11,8 +10,10 @@ use std::thread;
 use std::thread::Threads;
 
 mod counter;
+mod sharing;
 
 use counter::Counter;
+use sharing::{lock_is_send, lock_is_sync, seats_are_send};
 
 // A hundred calls of one seat.
 fn work<R: Wait>(
@@ -20,9 +21,9 @@ fn work<R: Wait>(
     lock: &TicketLock<Counter>,
     seat: TicketSeat<Counter>,
 ) -> TicketSeat<Counter>
-    requires seat { IsSeatOf lock.now seat × (seat_calls seat ≡ []) × (seat_number seat < MAX_CPUS) }
+    requires seat { IsReady lock.now seat }
     requires few { 100 ≤ lock_allowance lock.now }
-    ensures { IsSeatOf lock.now result × (seat_number result ≡ seat_number seat) × (length (seat_calls result) ≡ 100) }
+    ensures { HasCounted lock.now seat result 100 }
 {
     let mut seat = seat;
     for i in 0..100u32 {
@@ -32,17 +33,31 @@ fn work<R: Wait>(
     seat
 }
 
+// One call, whose count is known at once by its position.
+fn count<R: Wait>(
+    rt: &R,
+    lock: &TicketLock<Counter>,
+    seat: TicketSeat<Counter>,
+) -> (TicketSeat<Counter>, u32, u64)
+    requires seat { IsReady lock.now seat }
+    requires few { 1 ≤ lock_allowance lock.now }
+    ensures seat { HasCounted lock.now seat result.0 1 }
+    ensures count { result.2 ≡ (lock_value lock.now).start + result.1 }
+{
+    lock.turn(rt, seat, 0)
+}
+
 fn both<R: Threads + Wait + Sync>(
     rt: &R,
     lock: &TicketLock<Counter>,
     one: TicketSeat<Counter>,
     other: TicketSeat<Counter>,
 ) -> (TicketSeat<Counter>, TicketSeat<Counter>)
-    requires one { IsSeatOf lock.now one × (seat_calls one ≡ []) × (seat_number one < MAX_CPUS) }
-    requires other { IsSeatOf lock.now other × (seat_calls other ≡ []) × (seat_number other < MAX_CPUS) }
+    requires one { IsReady lock.now one }
+    requires other { IsReady lock.now other }
     requires few { 100 ≤ lock_allowance lock.now }
-    ensures one { IsSeatOf lock.now result.0 × (seat_number result.0 ≡ seat_number one) × (length (seat_calls result.0) ≡ 100) }
-    ensures other { IsSeatOf lock.now result.1 × (seat_number result.1 ≡ seat_number other) × (length (seat_calls result.1) ≡ 100) }
+    ensures one { HasCounted lock.now one result.0 100 }
+    ensures other { HasCounted lock.now other result.1 100 }
 {
     thread::join(rt, || work(rt, lock, one), || work(rt, lock, other))
 }
@@ -100,7 +115,21 @@ fn three_seats_of_one_thread(rt: HostRuntime) -> Result<(), Fail> {
 }
 
 #[test]
+fn a_count_is_known_at_once(rt: HostRuntime) -> Result<(), Fail> {
+    let counter = Counter::new(rt.alloc(), 5, 2)?;
+    let (lock, mut seats) = TicketLock::open(rt.alloc(), counter, 2, 1)?;
+    let first = lock.next(&mut seats).unwrap();
+    let second = lock.next(&mut seats).unwrap();
+    let (_second, position, answer) = count(&rt, &lock, second);
+    assert_eq!(rt; (position, answer), (0, 5));
+    let (_first, position, answer) = count(&rt, &lock, first);
+    assert_eq!(rt; (position, answer), (1, 6));
+    Ok(())
+}
+
+#[test]
 fn a_lock_is_shared_and_its_seats_are_sent(_rt: HostRuntime) {
-    wrapper_is_sync::<Counter>();
-    seat_is_send::<Counter>();
+    lock_is_sync::<Counter>();
+    lock_is_send::<Counter>();
+    seats_are_send::<Counter>();
 }

@@ -1,5 +1,5 @@
 // The smallest value to serve: it answers how many calls it has had, counted from its start.
-ghost use Rattle.std.specs.Prelude.{◌≡◌, ℕ, ◌≤◌, [], IfOk, vec_capacity};
+ghost use Rattle.std.specs.Prelude.{◌≡◌, ◌≤◌, [], IfOk, vec_capacity};
 ghost use Rattle.axp_call.specs.Calls.{EachRight};
 ghost use Rattle.axp_ticket.specs.Counting.{CountFits, CountRight};
 

@@ -1,5 +1,11 @@
-use Rattle.axp_ticket.proofs.FiveParts.{in_order}
+use Rattle.axp_ticket.proofs.RuleParts.{in_order}
 use Rattle.axp_ticket.proofs.laws.callers_are_in_order.Goals as goal
 
 pub returns : goal.returns
-returns g c seats allowance opened s rule = (rule.next, rule.given, rule.value, rule.log, in_order g.S.Served.start g.S.Served.room g.S.Served.calls g.S.Served.Right seats allowance opened s rule)
+returns g c seats allowance opened s rule = (
+  rule.0.next,
+  rule.0.given,
+  rule.0.value,
+  rule.0.log,
+  in_order _ s rule.0 rule.1,
+)

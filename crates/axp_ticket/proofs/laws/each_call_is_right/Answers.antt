@@ -5,4 +5,5 @@ pub returns-clause-each : goal.returns-clause-each
 returns-clause-each g c start calls all = all_right_each g.S.Served.Right start calls all
 
 pub returns-clause-longer : goal.returns-clause-longer
-returns-clause-longer g c start calls d all now = each_right_append g.S.Served.Right start calls d all now
+returns-clause-longer g c start calls d all now =
+    each_right_append g.S.Served.Right start calls d all now

@@ -1,4 +1,4 @@
-use Rattle.axp_ticket.proofs.OneLog.{one_log}
+use Rattle.axp_ticket.proofs.HistoryUnique.{one_log}
 use Rattle.axp_ticket.proofs.laws.kept_calls_fix_the_history.Goals as goal
 
 pub returns : goal.returns

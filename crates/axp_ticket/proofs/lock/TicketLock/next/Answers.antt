@@ -1,13 +1,15 @@
 use Rattle.std.proofs.Common.{rules, arith}
-use Rattle.axp_ticket.proofs.Seating.{splits}
+use Rattle.axp_ticket.proofs.RuleHandOut.{splits}
 use Rattle.axp_ticket.proofs.lock.TicketLock.next.Goals as goal
 
-pub returns-then-seats-self-clause-none : goal.returns-then-seats-self-clause-none
-returns-then-seats-self-clause-none g c = let same = c.args.self.now.same in let full = c.if-seats-self.true in let most = c.requires.1 in (omega arith, search rules)
+pub returns-then-seats-self-clause-all_out : goal.returns-then-seats-self-clause-all_out
+returns-then-seats-self-clause-all_out g c = let same = c.args.self.now.same in
+    let full = c.if-seats-self.true in let most = c.requires.seats.1 in omega arith
 
 pub split_seat-pass-requires : goal.split_seat-pass-requires
 split_seat-pass-requires g c = (
-  c.requires.0.0,
+  c.requires.seats.0.0,
   search rules,
-  splits g.S.Served.start g.S.Served.room g.S.Served.calls g.S.Served.Right _ _ _ _ _ c.args.seats.now.given c.args.seats.now.gathers.0 (let same = c.args.self.now.same in let left = c.if-seats-self.false in omega arith),
+  splits _ _ _ c.args.seats.now.given c.args.seats.now.gathers.0 (let same = c.args.self.now.same in
+      let left = c.if-seats-self.false in omega arith),
 )

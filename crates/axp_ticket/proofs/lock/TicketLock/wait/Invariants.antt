@@ -2,4 +2,5 @@ use Rattle.std.proofs.Common.{◌≡◌}
 use Rattle.axp_ticket.proofs.lock.TicketLock.wait.Given as goal
 
 abbrev pub invariant-loop : goal.invariant-loop
-invariant-loop g l = (l.pass.table_id ≡ l.fn.pass.table_id) × (l.pass.id ≡ l.fn.pass.id) × (l.pass.me ≡ l.fn.pass.me)
+invariant-loop g l = (l.pass.table_id ≡ l.fn.pass.table_id) × (l.pass.id ≡ l.fn.pass.id)
+    × (l.pass.me ≡ l.fn.pass.me)

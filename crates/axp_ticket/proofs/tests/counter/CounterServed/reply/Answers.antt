@@ -7,7 +7,8 @@ use Rattle.axp_ticket.proofs.tests.counter.CounterServed.reply.Goals as goal
 pub invariant_of-self : goal.invariant_of-self
 invariant_of-self c = record {
   right = subst (EachRight CountRight c.args.self.now.start) (sym c.push_reserved.ensures.items)
-      (each_right_append CountRight c.args.self.now.start c.args.self.now.calls.items _ c.args.self.now.right (search rules));
+      (each_right_append CountRight c.args.self.now.start c.args.self.now.calls.items _
+      c.args.self.now.right (search rules));
   roomy = search rules;
 }
 
