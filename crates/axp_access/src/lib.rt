@@ -78,9 +78,9 @@ pub struct Intent {
     /// Whether it is at a boundary: between two groups of accesses.
     pub boundary: bool,
     /// Whether its interrupt level is below 5, so that it takes interrupts.
-    pub low: bool,
+    pub takes_interrupts: bool,
     /// Whether its lock flag is set.
-    pub armed: bool,
+    pub lock_flag: bool,
     /// The access that it wants; none where its next group makes none.
     pub wanted: Option<Wanted>,
 }

@@ -25,7 +25,7 @@ never_empty (x ∷ vs) v = refl
 
 -- the parts of a processor's state that its seat has
 pub intent_is : (p : Sequencer) (s : Seat) (finished boundary low armed : Bool) (o : Option Wanted) → Stands p s → finished ≡ is_finished s → boundary ≡ is_none p.making → low ≡ nat_lt (ps_of p.table.state % 8) 5 → armed ≡ locked_of p.table.state → o ≡ wanted s
-    → record { finished = finished; boundary = boundary; low = low; armed = armed; wanted = o } ≡ intent_of s
+    → record { finished = finished; boundary = boundary; takes_interrupts = low; lock_flag = armed; wanted = o } ≡ intent_of s
 intent_is p s finished boundary low armed o stands is_f is_b is_l is_a is_w =
     let state : uncounted p.table.state ≡ uncounted s.start.state = ap (λ t. t.state) stands.core in
     let ps : ps_of p.table.state ≡ ps_of s.start.state = ap ps_of state in

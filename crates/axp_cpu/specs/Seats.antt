@@ -77,7 +77,7 @@ abbrev pub intent_of : Seat → Intent
 intent_of s = record {
   finished = is_finished s;
   boundary = is_empty s.values;
-  low = nat_lt (interrupt_level s.start.state) 5;
-  armed = locked_of s.start.state;
+  takes_interrupts = nat_lt (interrupt_level s.start.state) 5;
+  lock_flag = locked_of s.start.state;
   wanted = wanted s;
 }

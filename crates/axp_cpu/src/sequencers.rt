@@ -102,8 +102,8 @@ impl Sequencer {
         Intent {
             finished: self.finished(),
             boundary: self.making.is_none(),
-            low: self.table.state.ps() % 8 < 5,
-            armed: self.table.state.locked(),
+            takes_interrupts: self.table.state.ps() % 8 < 5,
+            lock_flag: self.table.state.locked(),
             wanted: self.wanted(),
         }
     }

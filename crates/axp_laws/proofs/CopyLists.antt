@@ -176,7 +176,7 @@ fill_room _ p a s v h low e = absurd (false≢true e)
 
 by_room : (a : Act) (image : ℕ → ℕ) (i : Intent) (o : Option Wanted) (c : Cpu) (h : List Record) → i.wanted ≡ o → WantsInLine o → is_enabled a i (cpu_number c) h ≡ true → HaveRoom (cpu_number c) (outcome_by a image i c h) h
 by_room act.Step image i None c h is inside e = rw is (λ l e. cc, λ l e. cc)
-by_room act.Step image i (Some w) c h is inside e = rw is (step_room w.kind image i.armed c w.address w.size w.value h (rw is at e))
+by_room act.Step image i (Some w) c h is inside e = rw is (step_room w.kind image i.lock_flag c w.address w.size w.value h (rw is at e))
 by_room act.Fill image i None c h is inside e = rw is (λ l e. cc, λ l e. cc)
 by_room act.Fill image i (Some w) c h is inside e = rw is (fill_room w.kind (cpu_number c) w.address w.size w.value h inside.addressed (rw is at e))
 by_room (act.Drain k) image i o c h is inside e = drain_room (cpu_number c) h (slice_get (oldest (buffer (cpu_number c) h).waiting) k)

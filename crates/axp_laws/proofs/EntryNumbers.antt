@@ -259,7 +259,7 @@ fill_shows c None h = refl
 fill_shows c (Some a) h = refl
 
 by_shows : (a : Act) (image : ℕ → ℕ) (i : Intent) (c : Cpu) (h : List Record) → is_some (access_in c (outcome_by a image i c h)) ≡ (is_poll_act a || (is_step a && is_some i.wanted))
-by_shows act.Step image i c h = want_shows image i.armed i.wanted c h
+by_shows act.Step image i c h = want_shows image i.lock_flag i.wanted c h
 by_shows act.Fill image i c h = fill_shows c i.wanted h
 by_shows (act.Drain k) image i c h = drain_shows c h (slice_get (oldest (buffer c.number h).waiting) k)
 by_shows (act.Take b) image i c h = take_shows c c.number h (late c.number b h)

@@ -455,15 +455,15 @@ fill_shows : (low : Bool) (o : Option Wanted) (h : List Record) → EntersIf low
 fill_shows low None h = tt
 fill_shows low (Some a) h = tt
 
-by_shows : (a : Act) (image : ℕ → ℕ) (i : Intent) (c : Cpu) (h : List Record) → EntersIf i.low (outcome_by a image i c h)
-by_shows act.Step image i c h = want_shows image i.armed i.low i.wanted c h
-by_shows act.Fill image i c h = fill_shows i.low i.wanted h
-by_shows (act.Drain k) image i c h = drain_shows i.low h (slice_get (oldest (buffer c.number h).waiting) k)
-by_shows (act.Take b) image i c h = take_shows i.low c.number h (late c.number b h)
+by_shows : (a : Act) (image : ℕ → ℕ) (i : Intent) (c : Cpu) (h : List Record) → EntersIf i.takes_interrupts (outcome_by a image i c h)
+by_shows act.Step image i c h = want_shows image i.lock_flag i.takes_interrupts i.wanted c h
+by_shows act.Fill image i c h = fill_shows i.takes_interrupts i.wanted h
+by_shows (act.Drain k) image i c h = drain_shows i.takes_interrupts h (slice_get (oldest (buffer c.number h).waiting) k)
+by_shows (act.Take b) image i c h = take_shows i.takes_interrupts c.number h (late c.number b h)
 by_shows (act.Drop b l) image i c h = tt
 by_shows act.Poll image i c h = refl
 by_shows act.Tick image i c h = tt
 
-pub entered_exactly : (image : ℕ → ℕ) (ps : Processors) (e : Event) (pending entered : Bool) (turn : ℕ) (h : List Record) → IsRun image ps (polled e pending entered turn ∷ h) → entered ≡ (pending && (ps.intent e.cpu.number h).low)
+pub entered_exactly : (image : ℕ → ℕ) (ps : Processors) (e : Event) (pending entered : Bool) (turn : ℕ) (h : List Record) → IsRun image ps (polled e pending entered turn ∷ h) → entered ≡ (pending && (ps.intent e.cpu.number h).takes_interrupts)
 unfolding outcome_of
-entered_exactly image ps e pending entered turn h run = subst (λ o. EntersIf (ps.intent e.cpu.number h).low o) (sym run.1) (by_shows e.act image (ps.intent e.cpu.number h) e.cpu h)
+entered_exactly image ps e pending entered turn h run = subst (λ o. EntersIf (ps.intent e.cpu.number h).takes_interrupts o) (sym run.1) (by_shows e.act image (ps.intent e.cpu.number h) e.cpu h)

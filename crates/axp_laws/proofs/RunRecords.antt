@@ -119,7 +119,7 @@ fill_fits p (Some a) h = tt
 by_fits : (a : Act) (image : ℕ → ℕ) (i : Intent) (o : Option Wanted) (c : Cpu) (h : List Record) → i.wanted ≡ o → WantsInLine o → is_enabled a i (cpu_number c) h ≡ true
     → FitsOutcome (cpu_number c) (outcome_by a image i c h) h
 by_fits act.Step image i None c h is inside e = rw is tt
-by_fits act.Step image i (Some w) c h is inside e = rw is (step_fits w.kind image i.armed c w.address w.size w.value h inside (rw is at e))
+by_fits act.Step image i (Some w) c h is inside e = rw is (step_fits w.kind image i.lock_flag c w.address w.size w.value h inside (rw is at e))
 by_fits act.Fill image i o c h is inside e = fill_fits (cpu_number c) i.wanted h
 by_fits (act.Drain k) image i o c h is inside e = drain_fits k (cpu_number c) h (slice_get (oldest (buffer (cpu_number c) h).waiting) k) refl
 by_fits (act.Take b) image i o c h is inside e = take_fits (cpu_number c) b h (late (cpu_number c) b h) refl (late_in (cpu_number c) b h)

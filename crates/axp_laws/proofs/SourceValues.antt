@@ -71,7 +71,7 @@ want_valued image armed None c h = tt
 want_valued image armed (Some a) c h = step_valued a.kind image armed c a.address a.size a.value h
 
 by_valued : (a : Act) (image : ℕ → ℕ) (i : Intent) (c : Cpu) (h : List Record) → IsValued image (outcome_by a image i c h) h
-by_valued act.Step image i c h = want_valued image i.armed i.wanted c h
+by_valued act.Step image i c h = want_valued image i.lock_flag i.wanted c h
 by_valued act.Fill image i c h = fill_valued image i.wanted h
 by_valued (act.Drain k) image i c h = drain_valued image h (slice_get (oldest (buffer c.number h).waiting) k)
 by_valued (act.Take b) image i c h = take_valued image c.number h (late c.number b h)

@@ -26,5 +26,5 @@ pub fn poll_rule()
         → Contains (accesses h) u → is_signal_or_poll u ≡ true → Contains (accesses h) v → is_signal_or_poll v ≡ true
         → before (times (later ++ h)) u v ≡ before (times h) u v }
     ensures entered { (image : ℕ → ℕ) (ps : Processors) (e : Event) (pending entered : Bool) (turn : ℕ) (h : List Record)
-        → IsRun image ps (polled e pending entered turn ∷ h) → entered ≡ (pending && (ps.intent (cpu_number e.cpu) h).low) }
+        → IsRun image ps (polled e pending entered turn ∷ h) → entered ≡ (pending && (ps.intent (cpu_number e.cpu) h).takes_interrupts) }
 {}

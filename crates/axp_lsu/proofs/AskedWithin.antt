@@ -110,12 +110,12 @@ take_within size Odd = tt
 take_within size Code = tt
 
 act_within : (size : ℕ) (a : Act) (i : Intent) (u : LocalMemory) → IsKeptWithin size u → IsWantedWithin size i.wanted → Within size (act_ask a i u)
-act_within size act.Step i u kept wanted = step_within size i.boundary i.wanted i.armed u wanted
+act_within size act.Step i u kept wanted = step_within size i.boundary i.wanted i.lock_flag u wanted
 act_within size act.Fill i u kept wanted = fill_within size i.wanted u wanted
 act_within size (act.Drain k) i u kept wanted = drain_within size (slice_get (oldest_group u.buffer.kept) k) (oldest_within size u k kept)
 act_within size (act.Take b) i u kept wanted = take_within size b
 act_within size (act.Drop b line) i u kept wanted = if_asked size _ (Some ask.Private) tt
-act_within size act.Poll i u kept wanted = if_asked size (i.boundary && not u.since.polled) (Some (ask.Bus (request.Poll i.low))) tt
+act_within size act.Poll i u kept wanted = if_asked size (i.boundary && not u.since.polled) (Some (ask.Bus (request.Poll i.takes_interrupts))) tt
 act_within size act.Tick i u kept wanted = if_asked size _ (Some ask.Private) tt
 
 pub asks_within : (size : ℕ) (a : Act) (i : Intent) (u : LocalMemory) → IsKeptWithin size u → IsWantedWithin size i.wanted → Within size (ask_of a i u)

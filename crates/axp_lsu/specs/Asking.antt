@@ -84,13 +84,13 @@ take_ask Odd = Some (ask.Bus (request.Take Odd))
 take_ask Code = None
 
 abbrev pub act_ask : Act → Intent → LocalMemory → Option Ask2
-act_ask act.Step i u = step_ask i.boundary i.wanted i.armed u
+act_ask act.Step i u = step_ask i.boundary i.wanted i.lock_flag u
 act_ask act.Fill i u = fill_ask i.wanted u
 act_ask (act.Drain k) i u = drain_ask (slice_get (oldest_group u.buffer.kept) k)
 act_ask (act.Take b) i u = take_ask b
 act_ask (act.Drop b line) i u = if is_held (line_number line) (copies_of b u) && not (has_dropped b u.since) then Some ask.Private else None
-act_ask act.Poll i u = if i.boundary && not u.since.polled then Some (ask.Bus (request.Poll i.low)) else None
-act_ask act.Tick i u = if i.boundary && (i.low && not u.since.ticked) then Some ask.Private else None
+act_ask act.Poll i u = if i.boundary && not u.since.polled then Some (ask.Bus (request.Poll i.takes_interrupts)) else None
+act_ask act.Tick i u = if i.boundary && (i.takes_interrupts && not u.since.ticked) then Some ask.Private else None
 
 -- what an act asks; None exactly where it is not legal, but for a Take where nothing is late, which the
 -- bus alone knows

@@ -129,7 +129,7 @@ outcome_by act.Fill cpu i u r = fill_outcome i.wanted r
 outcome_by (act.Drain k) cpu i u r = drain_outcome (slice_get (oldest_group u.buffer.kept) k) r
 outcome_by (act.Take b) cpu i u r = take_outcome u r
 outcome_by (act.Drop b line) cpu i u r = outcome.Done
-outcome_by act.Poll cpu i u r = poll_outcome i.low r
+outcome_by act.Poll cpu i u r = poll_outcome i.takes_interrupts r
 outcome_by act.Tick cpu i u r = outcome.Done
 
 unfoldable pub outcome_of : Act → Cpu → Intent → LocalMemory → Option Reply → Outcome

@@ -224,8 +224,8 @@ fn wants(kind: Kind, address: u64, size: u8, value: u64) -> Intent {
     Intent {
         finished: false,
         boundary: false,
-        low: true,
-        armed: false,
+        takes_interrupts: true,
+        lock_flag: false,
         wanted: Some(Wanted {
             kind,
             address,

@@ -84,12 +84,12 @@ take_no_signal Odd = refl
 take_no_signal Code = tt
 
 act_no_signal : (a : Act) (size : ℕ) (i : Intent) (u : LocalMemory) → IsWantedSound size i.wanted → HasNoSignal (act_ask a i u)
-act_no_signal act.Step size i u sound = step_no_signal i.wanted size i.boundary i.armed u sound
+act_no_signal act.Step size i u sound = step_no_signal i.wanted size i.boundary i.lock_flag u sound
 act_no_signal act.Fill size i u sound = fill_no_signal i.wanted u
 act_no_signal (act.Drain k) size i u sound = drain_no_signal (slice_get (oldest_group u.buffer.kept) k)
 act_no_signal (act.Take b) size i u sound = take_no_signal b
 act_no_signal (act.Drop b line) size i u sound = if_some _ ask.Private refl
-act_no_signal act.Poll size i u sound = if_some _ (ask.Bus (request.Poll i.low)) refl
+act_no_signal act.Poll size i u sound = if_some _ (ask.Bus (request.Poll i.takes_interrupts)) refl
 act_no_signal act.Tick size i u sound = if_some _ ask.Private refl
 
 now_no_signal : (now : Bool) (o : Option Ask2) → HasNoSignal o → HasNoSignal (cond now o None)

@@ -224,7 +224,7 @@ outcome_printed size (act.Drain k) cpu e i u r own knows turn wants fits shows =
     drain_printed size k (slice_get (oldest_group u.buffer.kept) k) e u r knows turn (oldest_within size u k knows.kept) (sym (oldest_at u.buffer.kept k inside)) fits
 outcome_printed size (act.Take b) cpu e i u r own knows turn wants fits shows = take_printed size b e u r knows fits
 outcome_printed size (act.Drop b line) cpu e i u r own knows turn wants fits shows = tt
-outcome_printed size act.Poll cpu e i u r own knows turn wants fits shows = poll_printed i.low e r (fits_if (i.boundary && not u.since.polled) (Some (ask.Bus (request.Poll i.low))) r fits)
+outcome_printed size act.Poll cpu e i u r own knows turn wants fits shows = poll_printed i.takes_interrupts e r (fits_if (i.boundary && not u.since.polled) (Some (ask.Bus (request.Poll i.takes_interrupts))) r fits)
 outcome_printed size act.Tick cpu e i u r own knows turn wants fits shows = tt
 
 -- and the act

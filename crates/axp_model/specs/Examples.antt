@@ -182,8 +182,8 @@ abbrev pub intent : Programs → ℕ → List Record → Intent
 intent programs p h = record {
   finished = length (programs p) == steps p h;
   boundary = false;
-  low = false;
-  armed = lock_flag p h;
+  takes_interrupts = false;
+  lock_flag = lock_flag p h;
   wanted = slice_get (programs p) (steps p h);
 }
 

@@ -78,7 +78,7 @@ is_enabled (act.Drain k) i p h = nat_lt k (length (oldest (buffer p h).waiting))
 is_enabled (act.Take b) i p h = not (is_empty (late p b h))
 is_enabled (act.Drop b line) i p h = holds_in b (line_number line) p h && not (since_step (is_drop_of b) p h)
 is_enabled act.Poll i p h = i.boundary && not (since_step is_poll_act p h)
-is_enabled act.Tick i p h = i.boundary && (i.low && not (since_step is_tick p h))
+is_enabled act.Tick i p h = i.boundary && (i.takes_interrupts && not (since_step is_tick p h))
 
 -- a finished processor may drain alone; after a Fill only the Step is left
 abbrev pub is_timely : Act → Bool → Bool → Bool

@@ -86,12 +86,12 @@ take_outcome p [] h = outcome.NoAccess
 take_outcome p ((line, turn) ∷ pairs) h = outcome.Taken line turn (held p (line_number line) h && nat_lt (stamp p (line_number line) h) turn)
 
 abbrev pub outcome_by : Act → (ℕ → ℕ) → Intent → Cpu → List Record → Outcome
-outcome_by act.Step image i cpu h = step_outcome image i.armed cpu i.wanted h
+outcome_by act.Step image i cpu h = step_outcome image i.lock_flag cpu i.wanted h
 outcome_by act.Fill image i cpu h = fill_outcome i.wanted h
 outcome_by (act.Drain k) image i cpu h = drain_outcome (slice_get (oldest (buffer (cpu_number cpu) h).waiting) k) h
 outcome_by (act.Take b) image i cpu h = take_outcome (cpu_number cpu) (late (cpu_number cpu) b h) h
 outcome_by (act.Drop b line) image i cpu h = outcome.Done
-outcome_by act.Poll image i cpu h = outcome.Polled (is_signalled (cpu_number cpu) h) (is_signalled (cpu_number cpu) h && i.low) (turns h)
+outcome_by act.Poll image i cpu h = outcome.Polled (is_signalled (cpu_number cpu) h) (is_signalled (cpu_number cpu) h && i.takes_interrupts) (turns h)
 outcome_by act.Tick image i cpu h = outcome.Done
 
 -- the outcome of an event after a history, where the image has these bytes

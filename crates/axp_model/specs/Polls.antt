@@ -53,7 +53,7 @@ pub record IsAwaited (h : List Record) (v : NumberedAccess) : Type 0 where
 -- enters exactly where it shows one and its processor takes interrupts
 pub record IsPollKept (ps : Processors) (k : List Record) (e : Event) (pending entered : Bool) (turn : ℕ) (h : List Record) : Type 0 where
   pub shown : (pending ≡ true) ↔ IsAwaited k (poll_item e pending turn h)
-  pub taken : entered ≡ (pending && (ps.intent (cpu_number e.cpu) h).low)
+  pub taken : entered ≡ (pending && (ps.intent (cpu_number e.cpu) h).takes_interrupts)
 
 -- so it is with each Poll of a history
 abbrev pub KeepsPolls : Processors → List Record → Type 0

@@ -64,8 +64,8 @@ allowed a (act.Drop b line) q h =
     let asks = some_if _ (Some ask.Private) q h.asks in
     ((now_left a.seat a.kept.since.filled h.now).0, not-true (has_dropped b a.kept.since) (and_parts _ (not (has_dropped b a.kept.since)) asks.0).1)
 allowed a act.Poll q h =
-    let asks = some_if _ (Some (ask.Bus (request.Poll (actor_intent a).low))) q h.asks in
+    let asks = some_if _ (Some (ask.Bus (request.Poll (actor_intent a).takes_interrupts))) q h.asks in
     ((now_left a.seat a.kept.since.filled h.now).0, not-true a.kept.since.polled (and_parts _ (not a.kept.since.polled) asks.0).1)
 allowed a act.Tick q h =
     let asks = some_if _ (Some ask.Private) q h.asks in
-    ((now_left a.seat a.kept.since.filled h.now).0, not-true a.kept.since.ticked (and_parts (actor_intent a).low (not a.kept.since.ticked) (and_parts _ ((actor_intent a).low && not a.kept.since.ticked) asks.0).1).1)
+    ((now_left a.seat a.kept.since.filled h.now).0, not-true a.kept.since.ticked (and_parts (actor_intent a).takes_interrupts (not a.kept.since.ticked) (and_parts _ ((actor_intent a).takes_interrupts && not a.kept.since.ticked) asks.0).1).1)

@@ -67,7 +67,7 @@ aside_quiet image cs p act.Fill i u q aside h = wanted_quiet image cs p i.wanted
 aside_quiet image cs p (act.Drain k) i u q aside h = cc
 aside_quiet image cs p (act.Take b) i u q aside h = take_quiet image cs p b q h
 aside_quiet image cs p (act.Drop b line) i u q aside h = quiet_if image cs p _ ask.Private q refl h
-aside_quiet image cs p act.Poll i u q aside h = quiet_if image cs p _ (ask.Bus (request.Poll i.low)) q refl h
+aside_quiet image cs p act.Poll i u q aside h = quiet_if image cs p _ (ask.Bus (request.Poll i.takes_interrupts)) q refl h
 aside_quiet image cs p act.Tick i u q aside h = quiet_if image cs p _ ask.Private q refl h
 
 -- a Take that is answered with something takes a late pair of its bank

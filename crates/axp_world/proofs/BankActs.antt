@@ -350,7 +350,7 @@ poll_goes _ image cpu h u low was = idle image cpu act.Poll outcome.NoAccess h u
 -- each act
 pub act_goes : (a : Act) (image : ℕ → ℕ) (cpu maker : Cpu) (h : List Record) (i : Intent) (u : LocalMemory) (cs : List BusCall) (q : Ask2) → WantsInLine i.wanted → BusAgrees image h cs → act_ask a i u ≡ Some q
     → Goes image cpu (of_act cpu a (outcome_by a maker i u (reply_for image cs (cpu_number cpu) (Ok q)))) h u (after_act a i (reply_for image cs (cpu_number cpu) (Ok q)) u) (calls_for image cs cpu (Ok q))
-act_goes act.Step image cpu maker h i u cs q inside before asks = step_goes i.wanted image cpu maker h u cs i.boundary i.armed q before asks
+act_goes act.Step image cpu maker h i u cs q inside before asks = step_goes i.wanted image cpu maker h u cs i.boundary i.lock_flag q before asks
 act_goes act.Fill image cpu maker h i u cs q inside before asks = fill_goes i.wanted image cpu h u cs q inside asks
 act_goes (act.Drain k) image cpu maker h i u cs q inside before asks = drain_goes (slice_get (oldest_group u.buffer.kept) k) image cpu h u cs k q asks
 act_goes (act.Take b) image cpu maker h i u cs q inside before asks = λ fit bus was. take_goes (reply_for image cs (cpu_number cpu) (Ok q)) image cpu h u b was
@@ -358,5 +358,5 @@ act_goes (act.Drop b line) image cpu maker h i u cs q inside before asks = λ fi
     let both = asked_if (is_held (line_number line) (copies_of b u) && not (has_dropped b u.since)) ask.Private q asks in
     let there = (and_parts (is_held (line_number line) (copies_of b u)) (not (has_dropped b u.since)) both.0).0 in
     drop_goes b image cpu h u line there was
-act_goes act.Poll image cpu maker h i u cs q inside before asks = λ fit bus was. poll_goes (reply_for image cs (cpu_number cpu) (Ok q)) image cpu h u i.low was
+act_goes act.Poll image cpu maker h i u cs q inside before asks = λ fit bus was. poll_goes (reply_for image cs (cpu_number cpu) (Ok q)) image cpu h u i.takes_interrupts was
 act_goes act.Tick image cpu maker h i u cs q inside before asks = λ fit bus was. idle image cpu act.Tick outcome.Done h u (λ l. refl) (λ l. refl) (λ l. refl) (λ l. refl) (λ l. refl) (λ l. refl) refl refl (λ l s. refl) was

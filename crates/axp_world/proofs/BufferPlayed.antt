@@ -148,12 +148,12 @@ drained_step k (Some f) t u q e h at is fits was =
 -- each act
 act_step : (a : Act) (cpu : Cpu) (i : Intent) (t : Option Reply) (u : LocalMemory) (q : Ask2) (e : Event) (h : List Record) → act_ask a i u ≡ Some q → Fitting (by_event e (outcome_by a cpu i u t) ∷ h) → IsBuffered (cpu_number e.cpu) h u.buffer
     → IsBuffered (cpu_number e.cpu) (by_event e (outcome_by a cpu i u t) ∷ h) (after_act a i t u).buffer
-act_step act.Step cpu i t u q e h is fits was = step_step i.wanted i.boundary i.armed cpu t u q e h is fits was
+act_step act.Step cpu i t u q e h is fits was = step_step i.wanted i.boundary i.lock_flag cpu t u q e h is fits was
 act_step act.Fill cpu i t u q e h is fits was = still e _ h u.buffer _ (filled_buffer i.wanted t u) (quiet_fill i.wanted t) fits was
 act_step (act.Drain k) cpu i t u q e h is fits was = drained_step k (slice_get (oldest_group u.buffer.kept) k) t u q e h refl is fits was
 act_step (act.Take b) cpu i t u q e h is fits was = still e _ h u.buffer _ (delivered_buffer t u) (quiet_take u t) fits was
 act_step (act.Drop b line) cpu i t u q e h is fits was = still e _ h u.buffer _ (with_copies_buffer b _ u) tt fits was
-act_step act.Poll cpu i t u q e h is fits was = still e _ h u.buffer u.buffer refl (quiet_poll i.low t) fits was
+act_step act.Poll cpu i t u q e h is fits was = still e _ h u.buffer u.buffer refl (quiet_poll i.takes_interrupts t) fits was
 act_step act.Tick cpu i t u q e h is fits was = still e _ h u.buffer u.buffer refl tt fits was
 
 -- the same of one processor whole

@@ -384,16 +384,16 @@ done_leads image cs e h k fit = record {
 -- every act
 act_leads : (a : Act) (image : ℕ → ℕ) (cs : List BusCall) (e : Event) (c : Cpu) (i : Intent) (u : LocalMemory) (h : List Record) (z : Ask2) → Fitting h → BufferAgrees (cpu_number e.cpu) h u.buffer → BusAgrees image h cs
     → (answered image cs e z ≡ Some reply.Nothing → ⊥) → act_ask a i u ≡ Some z → Leads image cs e h (going.outcome_by a c i u) z
-act_leads act.Step image cs e c i u h z before buffers bus something is = wanted_leads i.boundary i.wanted i.armed image cs e c u h z (kept h before) is
+act_leads act.Step image cs e c i u h z before buffers bus something is = wanted_leads i.boundary i.wanted i.lock_flag image cs e c u h z (kept h before) is
 act_leads act.Fill image cs e c i u h z before buffers bus something is = fill_leads i.wanted image cs e u h z (kept h before) is
 act_leads (act.Drain n) image cs e c i u h z before buffers bus something is = drain_leads (slice_get (oldest_group u.buffer.kept) n) image cs e n u.buffer h z before buffers refl is
 act_leads (act.Take b) image cs e c i u h z before buffers bus something is = take_leads b image cs e u h z (kept h before) (λ b. bus.pairs (cpu_number e.cpu) b) something is
 act_leads (act.Drop b line) image cs e c i u h z before buffers bus something is =
     subst (Leads image cs e h (λ r. outcome.Done)) (some_if (is_held (line_number line) (copies_of b u) && not (has_dropped b u.since)) ask.Private z is) (done_leads image cs e h (kept h before))
 act_leads act.Poll image cs e c i u h z before buffers bus something is =
-    subst (Leads image cs e h (going.poll_outcome i.low)) (some_if (i.boundary && not u.since.polled) (ask.Bus (request.Poll i.low)) z is) (poll_leads i.low image cs e h (kept h before) (bus.requested (cpu_number e.cpu)))
+    subst (Leads image cs e h (going.poll_outcome i.takes_interrupts)) (some_if (i.boundary && not u.since.polled) (ask.Bus (request.Poll i.takes_interrupts)) z is) (poll_leads i.takes_interrupts image cs e h (kept h before) (bus.requested (cpu_number e.cpu)))
 act_leads act.Tick image cs e c i u h z before buffers bus something is =
-    subst (Leads image cs e h (λ r. outcome.Done)) (some_if (i.boundary && (i.low && not u.since.ticked)) ask.Private z is) (done_leads image cs e h (kept h before))
+    subst (Leads image cs e h (λ r. outcome.Done)) (some_if (i.boundary && (i.takes_interrupts && not u.since.ticked)) ask.Private z is) (done_leads image cs e h (kept h before))
 
 -- the bus after a record that made no call
 stays_after : (image : ℕ → ℕ) (cs : List BusCall) (e : Event) (o : Outcome) (h : List Record) → Stays image e o h → BusAgrees image h cs → BusAgrees image (record { event = e; outcome = o } ∷ h) cs

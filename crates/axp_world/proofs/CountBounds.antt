@@ -141,7 +141,7 @@ aside_drained image cs p e i u q t own aside asks was =
 are_drained : (image : ℕ → ℕ) (cs : List BusCall) (p : ℕ) (e : Act) (i : Intent) (u : LocalMemory) (q : Ask2) (t : Tally) (own : ℕ) → act_ask e i u ≡ Some q → AreDrained t own (length u.buffer.kept)
     → AreDrained (counted e t) (own + turned (reply_for image cs p (Ok q))) (length (after_act e i (reply_for image cs p (Ok q)) u).buffer.kept)
 are_drained image cs p act.Step i u q t own asks was =
-    let one = stepped_one i.wanted i.boundary i.armed (reply_for image cs p (Ok q)) u q asks (λ private. subst (λ x. IsQuiet image cs p x) (sym private) refl) in
+    let one = stepped_one i.wanted i.boundary i.lock_flag (reply_for image cs p (Ok q)) u q asks (λ private. subst (λ x. IsQuiet image cs p x) (sym private) refl) in
     record { drained = omega (arith, was.drained, one.entries); turned = omega (arith, was.turned, one.turns) }
 are_drained image cs p (act.Drain k) i u q t own asks was =
     let one = drained_one k (slice_get (oldest_group u.buffer.kept) k) (reply_for image cs p (Ok q)) u q refl asks in

@@ -32,7 +32,7 @@ use Rattle.axp_world.proofs.CountKept.{since_is}
 
 -- a processor that is not finished and has just filled may make its wanted access
 abbrev pub IsReady : Intent → LocalMemory → Type 0
-IsReady i u = u.since.filled ≡ true → i.finished ≡ false → is_some (step_ask i.boundary i.wanted i.armed u) ≡ true
+IsReady i u = u.since.filled ≡ true → i.finished ≡ false → is_some (step_ask i.boundary i.wanted i.lock_flag u) ≡ true
 
 -- what is filled is held
 data_fills : (b : Bool) (l turn : ℕ) (line : Line) → fills l (outcome.Filled (cond b Even Odd) line turn) ≡ is_line l line
@@ -78,7 +78,7 @@ pub act_ready : (e : Act) (a : Actor) (t : Option Reply) (image : ℕ → ℕ) (
     → IsReady (actor_intent (advanced a e t)) (advanced a e t).kept
 unfolding advanced going.advanced outcome_of going.outcome_of
 act_ready act.Step a t image p r h q asked own is inside banks = λ filled on. cc
-act_ready act.Fill a t image p r h q asked own is inside banks = λ filled on. filled_ready (actor_intent a).wanted (actor_intent a).boundary (actor_intent a).armed t image p r h a.kept _ q asked.asks own is inside banks
+act_ready act.Fill a t image p r h q asked own is inside banks = λ filled on. filled_ready (actor_intent a).wanted (actor_intent a).boundary (actor_intent a).lock_flag t image p r h a.kept _ q asked.asks own is inside banks
 act_ready (act.Drain k) a t image p r h q asked own is inside banks = λ filled on.
     absurd (drain_not_filled (actor_intent a).finished a.kept.since.filled asked.now on (same_filled (act.Drain k) (actor_intent a) t a.kept a.kept.since (since_is (act.Drain k) (actor_intent a) t a.kept) filled))
 act_ready (act.Take b) a t image p r h q asked own is inside banks = λ filled on.

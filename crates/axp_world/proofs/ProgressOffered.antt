@@ -32,7 +32,7 @@ pub record Offer (i : Intent) (u : LocalMemory) : Type 0 where
   pub now : is_timely chosen i.finished u.since.filled ≡ true
   pub asks : is_some (act_ask chosen i u) ≡ true
 
-step_offer : (i : Intent) (u : LocalMemory) → i.finished ≡ false → is_some (step_ask i.boundary i.wanted i.armed u) ≡ true → Offer i u
+step_offer : (i : Intent) (u : LocalMemory) → i.finished ≡ false → is_some (step_ask i.boundary i.wanted i.lock_flag u) ≡ true → Offer i u
 step_offer i u on asks = record { chosen = act.Step; goes = refl; now = rw on refl; asks = asks }
 
 fill_offer : (i : Intent) (u : LocalMemory) → i.finished ≡ false → u.since.filled ≡ false → is_some (fill_ask i.wanted u) ≡ true → Offer i u

@@ -156,15 +156,15 @@ take_agrees Code image p h cs bus = rw (none_of_code (late p Code h) (late_in p 
 
 -- every act
 may_agrees : (a : Act) (image : ℕ → ℕ) (p : ℕ) (h : List Record) (i : Intent) (u : LocalMemory) (cs : List BusCall) → BufferAgrees p h u.buffer → BanksAgree image p h u → SinceAgrees p h u → BusAgrees image h cs → (is_some (act_ask a i u) && has_late a cs p) ≡ is_enabled a i p h
-may_agrees act.Step image p h i u cs buffers banks since bus = and_true (is_some (step_ask i.boundary i.wanted i.armed u)) ∙ step_agrees i.wanted i.boundary i.armed image p h u buffers banks
+may_agrees act.Step image p h i u cs buffers banks since bus = and_true (is_some (step_ask i.boundary i.wanted i.lock_flag u)) ∙ step_agrees i.wanted i.boundary i.lock_flag image p h u buffers banks
 may_agrees act.Fill image p h i u cs buffers banks since bus = and_true (is_some (fill_ask i.wanted u)) ∙ fill_agrees i.wanted image p h u banks
 may_agrees (act.Drain k) image p h i u cs buffers banks since bus =
     and_true (is_some (drain_ask (slice_get (oldest_group u.buffer.kept) k))) ∙ drain_asks (slice_get (oldest_group u.buffer.kept) k) ∙ entries_listed (oldest_group u.buffer.kept) (oldest (buffer p h).waiting) k buffers.oldest
 may_agrees (act.Take b) image p h i u cs buffers banks since bus = take_agrees b image p h cs bus
 may_agrees (act.Drop b line) image p h i u cs buffers banks since bus =
     and_true (is_some (act_ask (act.Drop b line) i u)) ∙ asked_if (is_held (line_number line) (copies_of b u) && not (has_dropped b u.since)) ask.Private ∙ rw (drop_held b image p (line_number line) h u banks, drop_since b p h u since) refl
-may_agrees act.Poll image p h i u cs buffers banks since bus = and_true (is_some (act_ask act.Poll i u)) ∙ asked_if (i.boundary && not u.since.polled) (ask.Bus (request.Poll i.low)) ∙ rw since.polled refl
-may_agrees act.Tick image p h i u cs buffers banks since bus = and_true (is_some (act_ask act.Tick i u)) ∙ asked_if (i.boundary && (i.low && not u.since.ticked)) ask.Private ∙ rw since.ticked refl
+may_agrees act.Poll image p h i u cs buffers banks since bus = and_true (is_some (act_ask act.Poll i u)) ∙ asked_if (i.boundary && not u.since.polled) (ask.Bus (request.Poll i.takes_interrupts)) ∙ rw since.polled refl
+may_agrees act.Tick image p h i u cs buffers banks since bus = and_true (is_some (act_ask act.Tick i u)) ∙ asked_if (i.boundary && (i.takes_interrupts && not u.since.ticked)) ask.Private ∙ rw since.ticked refl
 
 -- an act is asked, and not answered that nothing is late, exactly where it is legal
 pub legal_agrees : (image : ℕ → ℕ) (p : ℕ) (h : List Record) (i : Intent) (u : LocalMemory) (cs : List BusCall) (a : Act) → BufferAgrees p h u.buffer → BanksAgree image p h u → SinceAgrees p h u → BusAgrees image h cs

@@ -197,11 +197,11 @@ poll_gives low image cs c h bus = ap (λ b. outcome.Polled b (b && low) (calls.t
 pub outcome_agrees : (image : ℕ → ℕ) (h : List Record) (a : Act) (c : Cpu) (i : Intent) (u : LocalMemory) (cs : List BusCall) (z : Ask2) → Fitting h → BufferAgrees (cpu_number c) h u.buffer → BanksAgree image (cpu_number c) h u → BusAgrees image h cs
     → WantsInLine i.wanted → WantsTarget i.wanted → (answer image cs c z ≡ Some reply.Nothing → ⊥) → act_ask a i u ≡ Some z → is_enabled a i (cpu_number c) h ≡ true
     → going.outcome_by a c i u (answer image cs c z) ≡ outcome_by a image i c h
-outcome_agrees image h act.Step c i u cs z fit buffers banks bus inside target something is able = wanted_gives i.wanted i.boundary image cs c i.armed u h z fit buffers banks bus inside target is able
+outcome_agrees image h act.Step c i u cs z fit buffers banks bus inside target something is able = wanted_gives i.wanted i.boundary image cs c i.lock_flag u h z fit buffers banks bus inside target is able
 outcome_agrees image h act.Fill c i u cs z fit buffers banks bus inside target something is able = fill_gives i.wanted image cs c u h z bus is
 outcome_agrees image h (act.Drain k) c i u cs z fit buffers banks bus inside target something is able = drain_gives (slice_get (oldest_group u.buffer.kept) k) image cs c k u.buffer h z buffers bus refl is
 outcome_agrees image h (act.Take b) c i u cs z fit buffers banks bus inside target something is able = take_gives b image cs c u h z banks bus something is
 outcome_agrees image h (act.Drop b line) c i u cs z fit buffers banks bus inside target something is able = refl
 outcome_agrees image h act.Poll c i u cs z fit buffers banks bus inside target something is able =
-    ap (λ y. going.poll_outcome i.low (answer image cs c y)) (sym (some_if (i.boundary && not u.since.polled) (ask.Bus (request.Poll i.low)) z is)) ∙ poll_gives i.low image cs c h bus
+    ap (λ y. going.poll_outcome i.takes_interrupts (answer image cs c y)) (sym (some_if (i.boundary && not u.since.polled) (ask.Bus (request.Poll i.takes_interrupts)) z is)) ∙ poll_gives i.takes_interrupts image cs c h bus
 outcome_agrees image h act.Tick c i u cs z fit buffers banks bus inside target something is able = refl

@@ -116,12 +116,12 @@ take_nothing Code image cs c z is = cc
 
 act_nothing : (a : Act) (i : Intent) (u : LocalMemory) (image : ℕ → ℕ) (cs : List BusCall) (c : Cpu) (z : Ask2) → act_ask a i u ≡ Some z → is_nothing (answer image cs c z) ≡ not (has_late a cs (cpu_number c))
 act_nothing (act.Take b) i u image cs c z is = take_nothing b image cs c z is
-act_nothing act.Step i u image cs c z is = only_takes z image cs c (step_no_take i.wanted i.boundary i.armed u z is)
+act_nothing act.Step i u image cs c z is = only_takes z image cs c (step_no_take i.wanted i.boundary i.lock_flag u z is)
 act_nothing act.Fill i u image cs c z is = only_takes z image cs c (fill_no_take i.wanted u z is)
 act_nothing (act.Drain k) i u image cs c z is = only_takes z image cs c (drain_no_take (slice_get (oldest_group u.buffer.kept) k) z is)
 act_nothing (act.Drop b line) i u image cs c z is = only_takes z image cs c (ap is_take (sym (some_if (is_held (line_number line) (copies_of b u) && not (has_dropped b u.since)) ask.Private z is)))
-act_nothing act.Poll i u image cs c z is = only_takes z image cs c (ap is_take (sym (some_if (i.boundary && not u.since.polled) (ask.Bus (request.Poll i.low)) z is)))
-act_nothing act.Tick i u image cs c z is = only_takes z image cs c (ap is_take (sym (some_if (i.boundary && (i.low && not u.since.ticked)) ask.Private z is)))
+act_nothing act.Poll i u image cs c z is = only_takes z image cs c (ap is_take (sym (some_if (i.boundary && not u.since.polled) (ask.Bus (request.Poll i.takes_interrupts)) z is)))
+act_nothing act.Tick i u image cs c z is = only_takes z image cs c (ap is_take (sym (some_if (i.boundary && (i.takes_interrupts && not u.since.ticked)) ask.Private z is)))
 
 -- a Take is built
 unbuilt_late : (a : Act) (who : Actor) (cs : List BusCall) (p : ℕ) → is_built a who ≡ false → has_late a cs p ≡ true

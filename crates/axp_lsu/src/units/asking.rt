@@ -56,25 +56,25 @@ impl Lsu {
             }
             Act::Poll => {
                 if intent.boundary && !self.since.polled {
-                    Some(Ask2::Bus(Request::Poll { below: intent.low }))
+                    Some(Ask2::Bus(Request::Poll { below: intent.takes_interrupts }))
                 } else {
                     None
                 }
             }
-            Act::Tick => private_if(intent.boundary && (intent.low && !self.since.ticked)),
+            Act::Tick => private_if(intent.boundary && (intent.takes_interrupts && !self.since.ticked)),
         }
     }
 
     /// A step makes the wanted access, or none at a boundary that wants none.
     fn step_ask(&self, intent: &Intent) -> Option<Ask2>
         requires { IsWithinSome self.now }
-        ensures { result ≡ step_ask intent.now.boundary intent.now.wanted intent.now.armed self.now }
+        ensures { result ≡ step_ask intent.now.boundary intent.now.wanted intent.now.lock_flag self.now }
     {
         match &intent.wanted {
             None => private_if(intent.boundary),
             Some(wanted) => {
                 if self.is_ready(wanted.kind, Line::of(wanted.address)) {
-                    Some(self.access_ask(wanted, intent.armed))
+                    Some(self.access_ask(wanted, intent.lock_flag))
                 } else {
                     None
                 }

@@ -58,7 +58,7 @@ impl Lsu {
             }
             Act::Poll => {
                 self.since.polled = true;
-                polled(intent.low, reply)
+                polled(intent.takes_interrupts, reply)
             }
             Act::Tick => {
                 self.since.ticked = true;
