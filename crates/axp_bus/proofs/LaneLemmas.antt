@@ -17,8 +17,8 @@ any_default xs p d e below = get_or_from_slice_get xs p (get_or xs p e) d (slice
 below_next : (p n : ℕ) → p < n + 1 → (p ≡ n → ⊥) → p < n
 below_next p n less other = omega (arith, less, other)
 
-apart : (p n : ℕ) → n + 1 ≤ p → p ≡ n → ⊥
-apart p n from back = omega arith
+later_is_another : (p n : ℕ) → n + 1 ≤ p → p ≡ n → ⊥
+later_is_another p n from back = omega arith
 
 pub noted_start : (cpu turn : ℕ) (q : Request) (a : Reply) (old : List Lane) → NotedBelow 0 cpu turn q a old old
 noted_start cpu turn q a old = record { size = refl; done = λ p d none below. absurd (omega arith); left = λ p d from. refl }
@@ -35,7 +35,7 @@ noted_step n cpu turn q a old mid d0 y sofar below noted =
           (rw (get_or-set_at mid n n y d refl within) (subst (λ x. Noted (eqb cpu n) n turn q a x y) (any_default mid n d0 d within ∙ sofar.left n d (omega arith)) noted)))
           (λ other. rw (get_or-set_other mid n p y d other) (sofar.done p d (below_next p n less other) here))
           (cases_eq p n);
-      left = λ p d from. get_or-set_other mid n p y d (apart p n from) ∙ sofar.left p d (omega arith);
+      left = λ p d from. get_or-set_other mid n p y d (later_is_another p n from) ∙ sofar.left p d (omega arith);
     }
 
 pub room_at : (n cpu turn : ℕ) (q : Request) (a : Reply) (old mid : List Lane) (d : Lane) → NotedBelow n cpu turn q a old mid → n < length old → HaveRoom turn old → LaneHasRoom turn (get_or mid n d)

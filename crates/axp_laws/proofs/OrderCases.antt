@@ -123,14 +123,14 @@ abbrev pub mark : Access → Bool
 mark u = not (is_write u)
 
 -- the overlap, of what it computes to
-pub case_1 : (b : Bool) → (b || false) ≡ true → b ≡ true
-case_1 true e = refl
-case_1 false e = e
+pub true_or_false : (b : Bool) → (b || false) ≡ true → b ≡ true
+true_or_false true e = refl
+true_or_false false e = e
 
 -- a fetch
 new_fetch : (k : Kind) (turn : Times) (h : List Record) (g : ℕ) (c d : Cpu) (a s x b t z nu nv : ℕ) (y w : Bool) (at : Place) → c.number ≡ d.number → nu < nv → IsInLine a s → IsInLine b t → Known k c.number (line_of a) g at h → code_held d.number (line_of b) h ≡ true → is_demanded (acc c k a s x y at) (acc d kind.Fetch b t z w (At (code_stamp d.number (line_of b) h))) ≡ true → key_before (key_at turn c.number at (mark (acc c k a s x y at)) nu) (at_key (code_stamp d.number (line_of b) h) true d.number nv) ≡ true
 new_fetch kind.Fetch turn h g c d a s x b t z nu nv y w at same later i j known has dem =
-    let line : line_of a ≡ line_of b = overlap_line a s b t i j (case_1 (share_a_byte a s b t) dem) in
+    let line : line_of a ≡ line_of b = overlap_line a s b t i j (true_or_false (share_a_byte a s b t) dem) in
     upto_v turn c.number d.number at (code_stamp c.number (line_of a) h) (code_stamp d.number (line_of b) h) nu nv true same known (rw (same, line) (omega arith)) later
 new_fetch kind.CodeBarrier turn h g c d a s x b t z nu nv y w at same later i j known has dem =
     upto_v turn c.number d.number at (code_barrier c.number h) (code_stamp d.number (line_of b) h) nu nv true same known.1 (rw same (code_held_after d.number (line_of b) h has)) later
@@ -139,10 +139,10 @@ new_fetch _ turn h g c d a s x b t z nu nv y w at same later i j known has dem =
 -- a plain read
 new_read : (k : Kind) (turn : Times) (h : List Record) (g : ℕ) (c d : Cpu) (a s x b t z nu nv : ℕ) (y w : Bool) (at : Place) → c.number ≡ d.number → nu < nv → IsInLine a s → IsInLine b t → Known k c.number (line_of a) g at h → is_demanded (acc c k a s x y at) (acc d kind.Read b t z w (At (read_place d.number (line_of b) h))) ≡ true → key_before (key_at turn c.number at (mark (acc c k a s x y at)) nu) (at_key (read_place d.number (line_of b) h) true d.number nv) ≡ true
 new_read kind.Read turn h g c d a s x b t z nu nv y w at same later i j known dem =
-    let line : line_of a ≡ line_of b = overlap_line a s b t i j (case_1 (share_a_byte a s b t) dem) in
+    let line : line_of a ≡ line_of b = overlap_line a s b t i j (true_or_false (share_a_byte a s b t) dem) in
     upto_v turn c.number d.number at (read_place c.number (line_of a) h) (read_place d.number (line_of b) h) nu nv true same known (rw (same, line) (omega arith)) later
 new_read kind.Locked turn h g c d a s x b t z nu nv y w at same later i j known dem =
-    let line : line_of a ≡ line_of b = overlap_line a s b t i j (case_1 (share_a_byte a s b t) dem) in
+    let line : line_of a ≡ line_of b = overlap_line a s b t i j (true_or_false (share_a_byte a s b t) dem) in
     upto_v turn c.number d.number at (stamp c.number (line_of a) h) (read_place d.number (line_of b) h) nu nv true same known (rw (same, line) (omega arith)) later
 new_read kind.Barrier turn h g c d a s x b t z nu nv y w at same later i j known dem =
     upto_v turn c.number d.number at (barrier c.number h) (read_place d.number (line_of b) h) nu nv true same known (rw same (omega arith)) later
@@ -173,7 +173,7 @@ drained_line p l g n h goes none e = false≢true (sym none ∙ waits_line n l g
 -- an STx_C that succeeds
 new_swap : (k : Kind) (h : List Record) (g : ℕ) (c d : Cpu) (a s x b t z nu nv : ℕ) (y : Bool) (at vat : Place) → c.number ≡ d.number → nu < nv → IsInLine a s → IsInLine b t → Known k c.number (line_of a) g at h → has_line (line_of b) (buffer d.number h).waiting ≡ false → is_demanded (acc c k a s x y at) (acc d kind.Conditional b t z true vat) ≡ true → key_before (key_at (times h) c.number at (mark (acc c k a s x y at)) nu) (at_key (turns h + 1) false d.number nv) ≡ true
 new_swap kind.Write h g c d a s x b t z nu nv y (Entry n) vat same later i j known none dem =
-    let line : line_of a ≡ line_of b = overlap_line a s b t i j (case_1 (share_a_byte a s b t) dem) in
+    let line : line_of a ≡ line_of b = overlap_line a s b t i j (true_or_false (share_a_byte a s b t) dem) in
     done_less c.number d.number (turns h) (drained h c.number n) (turns h + 1) nu nv false (drained_most c.number n h) (drained_line c.number (line_of a) g n h known (rw (line, same) none)) (omega arith)
 new_swap kind.Write h g c d a s x b t z nu nv y (At n) vat same later i j known none dem = absurd known
 new_swap kind.Write h g c d a s x b t z nu nv y Absent vat same later i j known none dem = absurd known

@@ -286,8 +286,8 @@ pub contains_of : {X : Type 0} (xs : List X) (y : X) → Among y xs → Contains
 contains_of xs y a = among_all (λ z. Contains xs z) xs y (recursion_from_All (λ z. Contains xs z) xs (All-contains_itself xs)) a
 
 -- two accesses of which one is a signal and the other a Poll are not the same
-apart : (u v : NumberedAccess) → is_signal u.access.kind ≡ true → is_poll v.access.kind ≡ true → u ≡ v → ⊥
-apart u v su pv same = never_both v.access.kind (subst (λ z. is_signal z.access.kind ≡ true) same su) pv
+signal_is_no_poll : (u v : NumberedAccess) → is_signal u.access.kind ≡ true → is_poll v.access.kind ≡ true → u ≡ v → ⊥
+signal_is_no_poll u v su pv same = never_both v.access.kind (subst (λ z. is_signal z.access.kind ≡ true) same su) pv
 
 abbrev Stands : List Record → NumberedAccess → NumberedAccess → Type 0
 Stands h u v = PairOk (times h) u v × Told u v
@@ -299,7 +299,7 @@ stands h fit = pairs_both (PairOk (times h)) Told (accesses h) (kept h fit).pair
 signal_before : (h : List Record) (u v : NumberedAccess) → AllPairs (Stands h) (accesses h) → Among u (accesses h) → Among v (accesses h) → is_signal u.access.kind ≡ true → is_poll v.access.kind ≡ true → u.number < v.number → before (times h) u v ≡ true
 signal_before h u v pairs a b su pv less =
     ⊎_elim
-    (λ (same : u ≡ v). absurd (apart u v su pv same))
+    (λ (same : u ≡ v). absurd (signal_is_no_poll u v su pv same))
     (λ either. ⊎_elim
     (λ (first : Stands h u v). first.1.heard su pv (times h))
     (λ (later : Stands h v u). absurd (omega (arith, less, later.0.first)))
@@ -309,7 +309,7 @@ signal_before h u v pairs a b su pv less =
 signal_number : (h : List Record) (u v : NumberedAccess) → AllPairs (Stands h) (accesses h) → Among u (accesses h) → Among v (accesses h) → is_signal u.access.kind ≡ true → is_poll v.access.kind ≡ true → before (times h) u v ≡ true → u.number < v.number
 signal_number h u v pairs a b su pv seen =
     ⊎_elim
-    (λ (same : u ≡ v). absurd (apart u v su pv same))
+    (λ (same : u ≡ v). absurd (signal_is_no_poll u v su pv same))
     (λ either. ⊎_elim
     (λ (first : Stands h u v). first.0.first)
     (λ (later : Stands h v u). absurd (false≢true (sym (later.1.missed pv su (times h)) ∙ seen)))
@@ -398,7 +398,7 @@ pending_of later e pending entered turn h fit is =
           let inside = entered_later p later (polled e pending entered turn ∷ h) w (entered_more p (polled e pending entered turn) h w a) in
           let wv = poll_before all w v pairs aw av w_is.polls refl w_is.own (omega (arith, most)) in
           ⊎_elim
-          (λ (same : u ≡ w). absurd (apart u w su w_is.polls same))
+          (λ (same : u ≡ w). absurd (signal_is_no_poll u w su w_is.polls same))
           (λ either. ⊎_elim
           (λ (first : Stands all u w). absurd (is.alone w (contains_of (entered_polls p all) w inside) (first.1.heard su w_is.polls (times all)) wv))
           (λ (later_ : Stands all w u). later_.0.first)

@@ -24,7 +24,7 @@ use Rattle.axp_model.specs.Issue.{share_a_byte, is_demanded, issue_demands, barr
 use Rattle.axp_laws.proofs.RunFacts.{Fits, FitsOutcome, Fitting, RunFacts, waits, Goes, Known, KnownItem, SoundBuffer, PairOk, Named}
 use Rattle.axp_laws.proofs.OrderCounts.{drained_most}
 use Rattle.axp_laws.proofs.OrderKeys.{at_key, last_key}
-use Rattle.axp_laws.proofs.OrderCases.{acc, key_at, mark, overlap_line, most_of, less_v, last_v, wait_v, done_less, keeps, case_1}
+use Rattle.axp_laws.proofs.OrderCases.{acc, key_at, mark, overlap_line, most_of, less_v, last_v, wait_v, done_less, keeps, true_or_false}
 use Rattle.std.specs.List.{AllByRecursion}
 use Rattle.axp_model.specs.Outcomes.{IsRun}
 use Rattle.axp_model.specs.Processors.{Processors, IsInLine, AreInLine}
@@ -90,7 +90,7 @@ stays h p n l u v sound named ku kv ok same here dem m um vn none apart =
     ⊎_elim
     (λ issue.
     let both : is_demanded u.access v.access ≡ true = (and_parts (precedes u v) (is_demanded u.access v.access) issue).1 in
-    let met : share_a_byte u.access.address u.access.size v.access.address v.access.size ≡ true = case_1 (share_a_byte u.access.address u.access.size v.access.address v.access.size) (rw (xu, xv) at both) in
+    let met : share_a_byte u.access.address u.access.size v.access.address v.access.size ≡ true = true_or_false (share_a_byte u.access.address u.access.size v.access.address v.access.size) (rw (xu, xv) at both) in
     let line : line_of u.access.address ≡ line_of v.access.address = overlap_line u.access.address u.access.size v.access.address v.access.size ku.inside kv.inside met in
     let age : u.parts ≡ v.parts = omega arith in
     apart (sound.unique m n (line_of u.access.address) u.parts wu (rw (line, age) wv)))
@@ -223,11 +223,11 @@ access_step e o a h shows low parts kept =
     let none = turn_same r h shows.4 in
     let listed : accesses (r ∷ h) ≡ new_item h a ∷ accesses h = rw shows.0 refl in
     let more : length (accesses h) ≤ length (accesses (r ∷ h)) = rw listed (omega arith) in
-    let itself : KnownItem (r ∷ h) (new_item h a) = record { number = rw listed (omega arith); parts = omega (arith, kept.age a.cpu.number, age_grows a.cpu.number r h); inside = shows.2; known = rw (shows.1, kept.age e.cpu.number) shows.5 } in
+    let new_is_known : KnownItem (r ∷ h) (new_item h a) = record { number = rw listed (omega arith); parts = omega (arith, kept.age a.cpu.number, age_grows a.cpu.number r h); inside = shows.2; known = rw (shows.1, kept.age e.cpu.number) shows.5 } in
     record {
       sound = λ p. sound_step p r h low (λ m own d. absurd (false≢true (sym (shows.4 m) ∙ d))) (kept.sound p);
       age = λ p. rw listed (age_access p e o a h shows.1 parts (kept.age p));
-      items = rw listed (itself, each_map (KnownItem h) (KnownItem (r ∷ h)) (accesses h) (item_step r h more) kept.items);
+      items = rw listed (new_is_known, each_map (KnownItem h) (KnownItem (r ∷ h)) (accesses h) (item_step r h more) kept.items);
       pairs = rw listed (
         each_pair (KnownItem h) (λ u v. Unit {0}) (PairOk (times (r ∷ h))) (new_item h a) (accesses h) (λ u ku _. pair_same (times h) (times (r ∷ h)) u (new_item h a) none (pair_new h e o a u (new_item h a) kept shows refl ku)) kept.items (each_unit (accesses h)),
         pairs_map (KnownItem h) (PairOk (times h)) (PairOk (times (r ∷ h))) (accesses h) (λ u v ku kv ok. pair_same (times h) (times (r ∷ h)) u v none ok) kept.items kept.pairs,

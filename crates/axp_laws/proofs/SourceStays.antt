@@ -56,8 +56,8 @@ or_right_true : (a : Bool) → (a || true) ≡ true
 or_right_true true = refl
 or_right_true false = refl
 
-third : (u v : Access) → is_memory_write u ≡ true → is_memory_write v ≡ true → overlap u v ≡ true → is_demanded u v ≡ true
-third u v wu wv share_a_byte =
+writes_are_ordered : (u v : Access) → is_memory_write u ≡ true → is_memory_write v ≡ true → overlap u v ≡ true → is_demanded u v ≡ true
+writes_are_ordered u v wu wv share_a_byte =
     or_right ((is_fetch u.kind && is_fetch v.kind) && overlap u v) _ (or_right ((is_read u.kind && (is_read v.kind || is_memory_write v)) && overlap u v) _ (or_left ((is_memory_write v && is_memory_write u) && overlap u v) _ (and_from (is_memory_write v && is_memory_write u) (overlap u v) (and_from (is_memory_write v) (is_memory_write u) wv wu) share_a_byte)))
 
 in_memory_of : (a : Access) → is_memory_write a ≡ true → in_memory a ≡ true
@@ -73,7 +73,7 @@ same_byte b y x same first wy wx by_ bx =
     let x1 : x.access.address ≤ b = leb-true x.access.address b px.0 in
     let x2 : b < x.access.address + x.access.size = ltb-true b (x.access.address + x.access.size) px.1 in
     let share_a_byte : overlap y.access x.access ≡ true = and_from (in_memory y.access && in_memory x.access) (ltb y.access.address (x.access.address + x.access.size) && ltb x.access.address (y.access.address + y.access.size)) (and_from (in_memory y.access) (in_memory x.access) (in_memory_of y.access wy) (in_memory_of x.access wx)) (and_from (ltb y.access.address (x.access.address + x.access.size)) (ltb x.access.address (y.access.address + y.access.size)) (lt-ltb y.access.address (x.access.address + x.access.size) (omega arith)) (lt-ltb x.access.address (y.access.address + y.access.size) (omega arith))) in
-    and_from (precedes y x) (is_demanded y.access x.access) (and_from (eqb y.access.cpu.number x.access.cpu.number) (ltb y.number x.number) (eq-eqb y.access.cpu.number x.access.cpu.number same) (lt-ltb y.number x.number first)) (third y.access x.access wy wx share_a_byte)
+    and_from (precedes y x) (is_demanded y.access x.access) (and_from (eqb y.access.cpu.number x.access.cpu.number) (ltb y.number x.number) (eq-eqb y.access.cpu.number x.access.cpu.number same) (lt-ltb y.number x.number first)) (writes_are_ordered y.access x.access wy wx share_a_byte)
 
 last_not_before : (o w : Bool) (c n s d m : ℕ) → key_before (last_key o c n) (at_key s w d m) ≡ false
 unfolding key_before

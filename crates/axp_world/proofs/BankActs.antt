@@ -61,8 +61,8 @@ of_act cpu a o = record { event = record { cpu = cpu; act = a }; outcome = o }
 abbrev pub Goes : (ℕ → ℕ) → Cpu → Record → List Record → LocalMemory → LocalMemory → List BusCall → Type 0
 Goes image cpu r h u v cs = Fitting (r ∷ h) → BusAgrees image (r ∷ h) cs → KeptShows image (r ∷ h) (cpu_number cpu) h u → KeptShows image (r ∷ h) (cpu_number cpu) (r ∷ h) v
 
-itself : (cpu : Cpu) → eqb (cpu_number cpu) (cpu_number cpu) ≡ true
-itself cpu = eq-eqb (cpu_number cpu) (cpu_number cpu) refl
+cpu_is_own : (cpu : Cpu) → eqb (cpu_number cpu) (cpu_number cpu) ≡ true
+cpu_is_own cpu = eq-eqb (cpu_number cpu) (cpu_number cpu) refl
 
 -- an ask that was made under a condition
 asked_if : (b : Bool) (x q : Ask2) → cond b (Some x) None ≡ Some q → (b ≡ true) × (x ≡ q)
@@ -70,14 +70,14 @@ asked_if true x q e = (refl, cc)
 asked_if false x q e = cc
 
 -- an access that moves no line
-still : (image : ℕ → ℕ) (cpu : Cpu) (h : List Record) (u : LocalMemory) (x : Access) → is_locked x.kind ≡ false → is_success x ≡ false → is_barrier x.kind ≡ false → is_code_barrier x.kind ≡ false
+leaves_copies : (image : ℕ → ℕ) (cpu : Cpu) (h : List Record) (u : LocalMemory) (x : Access) → is_locked x.kind ≡ false → is_success x ≡ false → is_barrier x.kind ≡ false → is_code_barrier x.kind ≡ false
     → KeptShows image (of_act cpu act.Step (outcome.Access x) ∷ h) (cpu_number cpu) h u → KeptShows image (of_act cpu act.Step (outcome.Access x) ∷ h) (cpu_number cpu) (of_act cpu act.Step (outcome.Access x) ∷ h) u
-still image cpu h u x lock success fence code_fence was =
+leaves_copies image cpu h u x lock success fence code_fence was =
     let r : Record = of_act cpu act.Step (outcome.Access x) in
     let no_fence : fences r.outcome ≡ false = rw (fence, code_fence) refl in
     nothing_changed image (r ∷ h) (cpu_number cpu) r h u
-    (leaves_data (cpu_number cpu) r h (itself cpu) (λ l. refl) (λ l. rw lock refl) (λ l. rw success refl) (λ l. refl) no_fence (λ l s. refl))
-    (leaves_code (cpu_number cpu) r h (itself cpu) (λ l. refl) (λ l. refl) code_fence) (barrier_left (cpu_number cpu) r h (itself cpu) no_fence) was
+    (leaves_data (cpu_number cpu) r h (cpu_is_own cpu) (λ l. refl) (λ l. rw lock refl) (λ l. rw success refl) (λ l. refl) no_fence (λ l s. refl))
+    (leaves_code (cpu_number cpu) r h (cpu_is_own cpu) (λ l. refl) (λ l. refl) code_fence) (barrier_left (cpu_number cpu) r h (cpu_is_own cpu) no_fence) was
 
 -- a record that is neither an access nor moves a line
 idle : (image : ℕ → ℕ) (cpu : Cpu) (a : Act) (o : Outcome) (h : List Record) (u : LocalMemory) → ((l : ℕ) → drops l a ≡ false) → ((l : ℕ) → drops_code l a ≡ false) → ((l : ℕ) → fills l o ≡ false) → ((l : ℕ) → fills_code l o ≡ false) → ((l : ℕ) → locks l o ≡ false)
@@ -85,8 +85,8 @@ idle : (image : ℕ → ℕ) (cpu : Cpu) (a : Act) (o : Outcome) (h : List Recor
     → KeptShows image (of_act cpu a o ∷ h) (cpu_number cpu) h u → KeptShows image (of_act cpu a o ∷ h) (cpu_number cpu) (of_act cpu a o ∷ h) u
 idle image cpu a o h u drop drop_code fill fill_code lock turn fence code_fence take was =
     let r : Record = of_act cpu a o in
-    nothing_changed image (r ∷ h) (cpu_number cpu) r h u (leaves_data (cpu_number cpu) r h (itself cpu) fill lock turn drop fence take)
-    (leaves_code (cpu_number cpu) r h (itself cpu) fill_code drop_code code_fence) (barrier_left (cpu_number cpu) r h (itself cpu) fence) was
+    nothing_changed image (r ∷ h) (cpu_number cpu) r h u (leaves_data (cpu_number cpu) r h (cpu_is_own cpu) fill lock turn drop fence take)
+    (leaves_code (cpu_number cpu) r h (cpu_is_own cpu) fill_code drop_code code_fence) (barrier_left (cpu_number cpu) r h (cpu_is_own cpu) fence) was
 
 other_line : (n l : ℕ) (line : Line) → line_number line ≡ n → l ≢ line_number line → eqb n l ≡ false
 other_line n l line is apart = ne_eqb n l (λ (same : n ≡ l). apart (sym same ∙ sym is))
@@ -111,9 +111,9 @@ locked_goes image cpu maker h u cs a s v room fit bus was =
     let is : line_number line ≡ line_of a = line_at-number a fit.0.1.addressed in
     let r : Record = of_step cpu maker (wanting kind.Locked a s v) u (reply_for image cs p (Ok (ask.Bus (request.Locked a)))) in
     line_brought image p (data_bank (line_of a)) r h u line _ _ (subst (λ n. in_bank (data_bank (line_of a)) n ≡ true) (sym is) (bank_own (line_of a)))
-    (leaves_others (line_number line) p r h (itself cpu) (λ l apart. refl) (λ l apart. other_line (line_of a) l line is apart) (λ l apart. refl) (λ l apart. refl) refl (λ l t apart. refl))
-    (leaves_code p r h (itself cpu) (λ l. refl) (λ l. refl) refl) (barrier_left p r h (itself cpu) refl)
-    (held_brought p (line_number line) r h (itself cpu) (this_line (line_of a) line is)) (stamp_brought p (line_number line) r h (itself cpu) (rw (this_line (line_of a) line is) refl))
+    (leaves_others (line_number line) p r h (cpu_is_own cpu) (λ l apart. refl) (λ l apart. other_line (line_of a) l line is apart) (λ l apart. refl) (λ l apart. refl) refl (λ l t apart. refl))
+    (leaves_code p r h (cpu_is_own cpu) (λ l. refl) (λ l. refl) refl) (barrier_left p r h (cpu_is_own cpu) refl)
+    (held_brought p (line_number line) r h (cpu_is_own cpu) (this_line (line_of a) line is)) (stamp_brought p (line_number line) r h (cpu_is_own cpu) (rw (this_line (line_of a) line is) refl))
     (subst (λ n. has_room n (data_copies (line_of a) u) ≡ true) (sym is) room) (bus_line image (r ∷ h) (calls_for image cs cpu (Ok (ask.Bus (request.Locked a)))) line (line_number line) _ _ bus refl refl refl) was
 
 -- a store-conditional writes its line again, where it succeeds
@@ -131,11 +131,11 @@ conditional_by true image cpu maker h u cs a s v armed fit bus was =
     let is : line_number line ≡ line_of a = line_at-number a fit.0.1.addressed in
     let r : Record = of_step cpu maker (wanting kind.Conditional a s v) u (Some t) in
     line_rewritten image p r h u line _ _
-    (leaves_others (line_number line) p r h (itself cpu) (λ l apart. refl) (λ l apart. refl) (λ l apart. other_line (line_of a) l line is apart) (λ l apart. refl) refl (λ l t apart. refl))
-    (leaves_code p r h (itself cpu) (λ l. refl) (λ l. refl) refl) (barrier_left p r h (itself cpu) refl)
-    (held_left p (line_number line) r h (itself cpu) refl refl refl refl refl) (stamp_brought p (line_number line) r h (itself cpu) (this_line (line_of a) line is))
+    (leaves_others (line_number line) p r h (cpu_is_own cpu) (λ l apart. refl) (λ l apart. refl) (λ l apart. other_line (line_of a) l line is apart) (λ l apart. refl) refl (λ l t apart. refl))
+    (leaves_code p r h (cpu_is_own cpu) (λ l. refl) (λ l. refl) refl) (barrier_left p r h (cpu_is_own cpu) refl)
+    (held_left p (line_number line) r h (cpu_is_own cpu) refl refl refl refl refl) (stamp_brought p (line_number line) r h (cpu_is_own cpu) (this_line (line_of a) line is))
     (bus_line image (r ∷ h) (conditional_call image cpu cs (request.Conditional a s v armed) t) line (line_number line) _ _ bus refl refl refl) was
-conditional_by false image cpu maker h u cs a s v armed fit bus was = still image cpu h u _ refl refl refl refl was
+conditional_by false image cpu maker h u cs a s v armed fit bus was = leaves_copies image cpu h u _ refl refl refl refl was
 
 conditional_goes : (image : ℕ → ℕ) (cpu maker : Cpu) (h : List Record) (u : LocalMemory) (cs : List BusCall) (a s v : ℕ) (armed : Bool)
     → Goes image cpu (of_step cpu maker (wanting kind.Conditional a s v) u (reply_for image cs (cpu_number cpu) (Ok (ask.Bus (request.Conditional a s v armed))))) h u
@@ -151,9 +151,9 @@ unfolding reply_by
 barrier_goes image cpu maker h u cs a s v before fit bus was =
     let p : ℕ = cpu_number cpu in
     let r : Record = of_step cpu maker (wanting kind.Barrier a s v) u (reply_for image cs p (Ok (ask.Bus (request.Barrier (held_pairs u))))) in
-    let code = leaves_code p r h (itself cpu) (λ l. refl) (λ l. refl) refl in
+    let code = leaves_code p r h (cpu_is_own cpu) (λ l. refl) (λ l. refl) refl in
     fence_shows image (r ∷ h) p r h cs u u.code before
-    (record { holds = λ l. held_fenced p l r h (itself cpu) refl refl refl refl refl; stamps = λ l. stamp_left p l r h (itself cpu) refl refl refl; fence = barrier_made p r h (itself cpu) refl })
+    (record { holds = λ l. held_fenced p l r h (cpu_is_own cpu) refl refl refl refl refl; stamps = λ l. stamp_left p l r h (cpu_is_own cpu) refl refl refl; fence = barrier_made p r h (cpu_is_own cpu) refl })
     (same_shows image (r ∷ h) (λ l. code_held p l h) (λ l. code_held p l (r ∷ h)) (λ l. code_stamp p l h) (λ l. code_stamp p l (r ∷ h)) u.code code.holds code.stamps was.code) was
 
 code_barrier_goes : (image : ℕ → ℕ) (cpu maker : Cpu) (h : List Record) (u : LocalMemory) (cs : List BusCall) (a s v : ℕ) → BusAgrees image h cs
@@ -164,19 +164,19 @@ code_barrier_goes image cpu maker h u cs a s v before fit bus was =
     let p : ℕ = cpu_number cpu in
     let r : Record = of_step cpu maker (wanting kind.CodeBarrier a s v) u (reply_for image cs p (Ok (ask.Bus (request.CodeBarrier (held_pairs u))))) in
     fence_shows image (r ∷ h) p r h cs u [] before
-    (record { holds = λ l. held_fenced p l r h (itself cpu) refl refl refl refl refl; stamps = λ l. stamp_left p l r h (itself cpu) refl refl refl; fence = barrier_made p r h (itself cpu) refl })
-    (record { whole = whole_empty; each = λ l. rw (told_of_none l) (code_lost p l r h (itself cpu) refl refl) }) was
+    (record { holds = λ l. held_fenced p l r h (cpu_is_own cpu) refl refl refl refl refl; stamps = λ l. stamp_left p l r h (cpu_is_own cpu) refl refl refl; fence = barrier_made p r h (cpu_is_own cpu) refl })
+    (record { whole = whole_empty; each = λ l. rw (told_of_none l) (code_lost p l r h (cpu_is_own cpu) refl refl) }) was
 
 -- a Step
 access_goes : (k : Kind) (image : ℕ → ℕ) (cpu maker : Cpu) (h : List Record) (u : LocalMemory) (cs : List BusCall) (a s v : ℕ) (boundary armed : Bool) (q : Ask2) → BusAgrees image h cs → step_ask boundary (Some (wanting k a s v)) armed u ≡ Some q
     → Goes image cpu (of_step cpu maker (wanting k a s v) u (reply_for image cs (cpu_number cpu) (Ok q))) h u (after_step (Some (wanting k a s v)) (reply_for image cs (cpu_number cpu) (Ok q)) u) (calls_for image cs cpu (Ok q))
-access_goes kind.Fetch image cpu maker h u cs a s v boundary armed q before asks = λ fit bus was. still image cpu h u _ refl refl refl refl was
-access_goes kind.Read image cpu maker h u cs a s v boundary armed q before asks = λ fit bus was. still image cpu h u _ refl refl refl refl was
-access_goes kind.Write image cpu maker h u cs a s v boundary armed q before asks = λ fit bus was. still image cpu h u _ refl refl refl refl was
-access_goes kind.WriteBarrier image cpu maker h u cs a s v boundary armed q before asks = λ fit bus was. still image cpu h u _ refl refl refl refl was
-access_goes kind.Signal image cpu maker h u cs a s v boundary armed q before asks = λ fit bus was. still image cpu h u _ refl refl refl refl was
-access_goes kind.Console image cpu maker h u cs a s v boundary armed q before asks = λ fit bus was. still image cpu h u _ refl refl refl refl was
-access_goes kind.Poll image cpu maker h u cs a s v boundary armed q before asks = λ fit bus was. still image cpu h u _ refl refl refl refl was
+access_goes kind.Fetch image cpu maker h u cs a s v boundary armed q before asks = λ fit bus was. leaves_copies image cpu h u _ refl refl refl refl was
+access_goes kind.Read image cpu maker h u cs a s v boundary armed q before asks = λ fit bus was. leaves_copies image cpu h u _ refl refl refl refl was
+access_goes kind.Write image cpu maker h u cs a s v boundary armed q before asks = λ fit bus was. leaves_copies image cpu h u _ refl refl refl refl was
+access_goes kind.WriteBarrier image cpu maker h u cs a s v boundary armed q before asks = λ fit bus was. leaves_copies image cpu h u _ refl refl refl refl was
+access_goes kind.Signal image cpu maker h u cs a s v boundary armed q before asks = λ fit bus was. leaves_copies image cpu h u _ refl refl refl refl was
+access_goes kind.Console image cpu maker h u cs a s v boundary armed q before asks = λ fit bus was. leaves_copies image cpu h u _ refl refl refl refl was
+access_goes kind.Poll image cpu maker h u cs a s v boundary armed q before asks = λ fit bus was. leaves_copies image cpu h u _ refl refl refl refl was
 access_goes kind.Locked image cpu maker h u cs a s v boundary armed q before asks =
     let both = asked_if (is_ready kind.Locked (line_of a) u) (ask.Bus (request.Locked a)) q asks in
     let room = (and_parts (not (list_any (is_of_line (line_of a)) u.buffer.kept)) (has_room (line_of a) (data_copies (line_of a) u)) both.0).1 in
@@ -212,17 +212,17 @@ data_filled Even image cpu h u line turn d mine room memory was =
     let r : Record = of_fill cpu Even line turn in
     let here : fills (line_number line) r.outcome ≡ true = this_line (line_number line) line refl in
     line_brought image p Even r h u line turn d mine
-    (leaves_others (line_number line) p r h (itself cpu) (λ l apart. other_line (line_number line) l line refl apart) (λ l apart. refl) (λ l apart. refl) (λ l apart. refl) refl (λ l t apart. refl))
-    (leaves_code p r h (itself cpu) (λ l. refl) (λ l. refl) refl) (barrier_left p r h (itself cpu) refl)
-    (held_brought p (line_number line) r h (itself cpu) (rw here refl)) (stamp_brought p (line_number line) r h (itself cpu) (rw here refl)) room memory was
+    (leaves_others (line_number line) p r h (cpu_is_own cpu) (λ l apart. other_line (line_number line) l line refl apart) (λ l apart. refl) (λ l apart. refl) (λ l apart. refl) refl (λ l t apart. refl))
+    (leaves_code p r h (cpu_is_own cpu) (λ l. refl) (λ l. refl) refl) (barrier_left p r h (cpu_is_own cpu) refl)
+    (held_brought p (line_number line) r h (cpu_is_own cpu) (rw here refl)) (stamp_brought p (line_number line) r h (cpu_is_own cpu) (rw here refl)) room memory was
 data_filled Odd image cpu h u line turn d mine room memory was =
     let p : ℕ = cpu_number cpu in
     let r : Record = of_fill cpu Odd line turn in
     let here : fills (line_number line) r.outcome ≡ true = this_line (line_number line) line refl in
     line_brought image p Odd r h u line turn d mine
-    (leaves_others (line_number line) p r h (itself cpu) (λ l apart. other_line (line_number line) l line refl apart) (λ l apart. refl) (λ l apart. refl) (λ l apart. refl) refl (λ l t apart. refl))
-    (leaves_code p r h (itself cpu) (λ l. refl) (λ l. refl) refl) (barrier_left p r h (itself cpu) refl)
-    (held_brought p (line_number line) r h (itself cpu) (rw here refl)) (stamp_brought p (line_number line) r h (itself cpu) (rw here refl)) room memory was
+    (leaves_others (line_number line) p r h (cpu_is_own cpu) (λ l apart. other_line (line_number line) l line refl apart) (λ l apart. refl) (λ l apart. refl) (λ l apart. refl) refl (λ l t apart. refl))
+    (leaves_code p r h (cpu_is_own cpu) (λ l. refl) (λ l. refl) refl) (barrier_left p r h (cpu_is_own cpu) refl)
+    (held_brought p (line_number line) r h (cpu_is_own cpu) (rw here refl)) (stamp_brought p (line_number line) r h (cpu_is_own cpu) (rw here refl)) room memory was
 data_filled Code image cpu h u line turn d mine room memory was = absurd (false≢true mine)
 
 code_filled : (image : ℕ → ℕ) (cpu : Cpu) (h : List Record) (u : LocalMemory) (line : Line) (turn : ℕ) (d : LineData) → has_room (line_number line) u.code ≡ true
@@ -233,9 +233,9 @@ code_filled image cpu h u line turn d room memory was =
     let r : Record = of_fill cpu Code line turn in
     let here : fills_code (line_number line) r.outcome ≡ true = this_line (line_number line) line refl in
     code_line_brought image p r h u line turn d
-    (leaves_data p r h (itself cpu) (λ l. refl) (λ l. refl) (λ l. refl) (λ l. refl) refl (λ l t. refl))
-    (leaves_other_code (line_number line) p r h (itself cpu) (λ l apart. other_line (line_number line) l line refl apart) (λ l apart. refl) refl) (barrier_left p r h (itself cpu) refl)
-    (code_brought p (line_number line) r h (itself cpu) here) (code_stamp_brought p (line_number line) r h (itself cpu) here) room memory was
+    (leaves_data p r h (cpu_is_own cpu) (λ l. refl) (λ l. refl) (λ l. refl) (λ l. refl) refl (λ l t. refl))
+    (leaves_other_code (line_number line) p r h (cpu_is_own cpu) (λ l apart. other_line (line_number line) l line refl apart) (λ l apart. refl) refl) (barrier_left p r h (cpu_is_own cpu) refl)
+    (code_brought p (line_number line) r h (cpu_is_own cpu) here) (code_stamp_brought p (line_number line) r h (cpu_is_own cpu) here) room memory was
 
 data_fill_goes : (image : ℕ → ℕ) (cpu : Cpu) (h : List Record) (u : LocalMemory) (cs : List BusCall) (a s v : ℕ) → a < 2 ^ 64 → has_room (line_of a) (data_copies (line_of a) u) ≡ true
     → Goes image cpu (of_act cpu act.Fill (fill_outcome (Some (wanting kind.Read a s v)) (reply_for image cs (cpu_number cpu) (Ok (ask.Bus (request.Fill (line_at a))))))) h u
@@ -290,9 +290,9 @@ entry_goes image cpu h u cs k e fit bus was =
     let r : Record = of_act cpu (act.Drain k) (drain_outcome (Some e) (reply_for image cs (cpu_number cpu) (Ok (drain_of e)))) in
     let here : turns_on (line_number line) r.outcome ≡ true = this_line (line_number line) line refl in
     line_rewritten image p r h (record u { buffer = without k u.buffer }) line _ _
-    (leaves_others (line_number line) p r h (itself cpu) (λ l apart. refl) (λ l apart. refl) (λ l apart. other_line (line_number line) l line refl apart) (λ l apart. refl) refl (λ l t apart. refl))
-    (leaves_code p r h (itself cpu) (λ l. refl) (λ l. refl) refl) (barrier_left p r h (itself cpu) refl)
-    (held_left p (line_number line) r h (itself cpu) refl refl refl refl refl) (stamp_brought p (line_number line) r h (itself cpu) here)
+    (leaves_others (line_number line) p r h (cpu_is_own cpu) (λ l apart. refl) (λ l apart. refl) (λ l apart. other_line (line_number line) l line refl apart) (λ l apart. refl) refl (λ l t apart. refl))
+    (leaves_code p r h (cpu_is_own cpu) (λ l. refl) (λ l. refl) refl) (barrier_left p r h (cpu_is_own cpu) refl)
+    (held_left p (line_number line) r h (cpu_is_own cpu) refl refl refl refl refl) (stamp_brought p (line_number line) r h (cpu_is_own cpu) here)
     (bus_line image (r ∷ h) (calls_for image cs cpu (Ok (drain_of e))) line (line_number line) _ _ bus refl refl refl) was
 
 drain_goes : (o : Option Pending) (image : ℕ → ℕ) (cpu : Cpu) (h : List Record) (u : LocalMemory) (cs : List BusCall) (k : ℕ) (q : Ask2) → drain_ask o ≡ Some q
@@ -311,9 +311,9 @@ take_goes (Some (reply.Late line turn)) image cpu h u b was =
     let r : Record = of_act cpu (act.Take b) (take_outcome u (Some (reply.Late line turn))) in
     let here : takes_away (line_number line) (stamp p (line_number line) h) r.outcome ≡ ltb (stamp p (line_number line) h) turn = rw (this_line (line_number line) line refl) refl in
     line_invalidated image p r h u (line_number line) turn
-    (leaves_others (line_number line) p r h (itself cpu) (λ l apart. refl) (λ l apart. refl) (λ l apart. refl) (λ l apart. refl) refl (λ l s apart. rw (other_line (line_number line) l line refl apart) refl))
-    (leaves_code p r h (itself cpu) (λ l. refl) (λ l. refl) refl) (barrier_left p r h (itself cpu) refl)
-    (held_taken p (line_number line) r h (itself cpu) refl refl refl refl ∙ ap (λ (x : Bool). held p (line_number line) h && not x) here) (stamp_left p (line_number line) r h (itself cpu) refl refl refl) was
+    (leaves_others (line_number line) p r h (cpu_is_own cpu) (λ l apart. refl) (λ l apart. refl) (λ l apart. refl) (λ l apart. refl) refl (λ l s apart. rw (other_line (line_number line) l line refl apart) refl))
+    (leaves_code p r h (cpu_is_own cpu) (λ l. refl) (λ l. refl) refl) (barrier_left p r h (cpu_is_own cpu) refl)
+    (held_taken p (line_number line) r h (cpu_is_own cpu) refl refl refl refl ∙ ap (λ (x : Bool). held p (line_number line) h && not x) here) (stamp_left p (line_number line) r h (cpu_is_own cpu) refl refl refl) was
 take_goes _ image cpu h u b was = idle image cpu (act.Take b) outcome.NoAccess h u (λ l. refl) (λ l. refl) (λ l. refl) (λ l. refl) (λ l. refl) (λ l. refl) refl refl (λ l s. refl) was
 
 -- a Drop gives a held copy up
@@ -323,23 +323,23 @@ drop_goes Even image cpu h u line there was =
     let p : ℕ = cpu_number cpu in
     let r : Record = of_act cpu (act.Drop Even line) outcome.Done in
     line_dropped image p Even r h u (line_number line) ((held_is_banked image (r ∷ h) p h u (line_number line) was).0 there)
-    (leaves_others (line_number line) p r h (itself cpu) (λ l apart. refl) (λ l apart. refl) (λ l apart. refl) (λ l apart. other_line (line_number line) l line refl apart) refl (λ l s apart. refl))
-    (leaves_code p r h (itself cpu) (λ l. refl) (λ l. refl) refl) (barrier_left p r h (itself cpu) refl)
-    (held_lost p (line_number line) r h (itself cpu) refl refl (rw (this_line (line_number line) line refl) refl)) was
+    (leaves_others (line_number line) p r h (cpu_is_own cpu) (λ l apart. refl) (λ l apart. refl) (λ l apart. refl) (λ l apart. other_line (line_number line) l line refl apart) refl (λ l s apart. refl))
+    (leaves_code p r h (cpu_is_own cpu) (λ l. refl) (λ l. refl) refl) (barrier_left p r h (cpu_is_own cpu) refl)
+    (held_lost p (line_number line) r h (cpu_is_own cpu) refl refl (rw (this_line (line_number line) line refl) refl)) was
 drop_goes Odd image cpu h u line there was =
     let p : ℕ = cpu_number cpu in
     let r : Record = of_act cpu (act.Drop Odd line) outcome.Done in
     line_dropped image p Odd r h u (line_number line) ((held_is_banked image (r ∷ h) p h u (line_number line) was).1 there)
-    (leaves_others (line_number line) p r h (itself cpu) (λ l apart. refl) (λ l apart. refl) (λ l apart. refl) (λ l apart. other_line (line_number line) l line refl apart) refl (λ l s apart. refl))
-    (leaves_code p r h (itself cpu) (λ l. refl) (λ l. refl) refl) (barrier_left p r h (itself cpu) refl)
-    (held_lost p (line_number line) r h (itself cpu) refl refl (rw (this_line (line_number line) line refl) refl)) was
+    (leaves_others (line_number line) p r h (cpu_is_own cpu) (λ l apart. refl) (λ l apart. refl) (λ l apart. refl) (λ l apart. other_line (line_number line) l line refl apart) refl (λ l s apart. refl))
+    (leaves_code p r h (cpu_is_own cpu) (λ l. refl) (λ l. refl) refl) (barrier_left p r h (cpu_is_own cpu) refl)
+    (held_lost p (line_number line) r h (cpu_is_own cpu) refl refl (rw (this_line (line_number line) line refl) refl)) was
 drop_goes Code image cpu h u line there was =
     let p : ℕ = cpu_number cpu in
     let r : Record = of_act cpu (act.Drop Code line) outcome.Done in
     code_line_dropped image p r h u (line_number line)
-    (leaves_data p r h (itself cpu) (λ l. refl) (λ l. refl) (λ l. refl) (λ l. refl) refl (λ l s. refl))
-    (leaves_other_code (line_number line) p r h (itself cpu) (λ l apart. refl) (λ l apart. other_line (line_number line) l line refl apart) refl) (barrier_left p r h (itself cpu) refl)
-    (code_lost p (line_number line) r h (itself cpu) refl (rw (this_line (line_number line) line refl) refl)) was
+    (leaves_data p r h (cpu_is_own cpu) (λ l. refl) (λ l. refl) (λ l. refl) (λ l. refl) refl (λ l s. refl))
+    (leaves_other_code (line_number line) p r h (cpu_is_own cpu) (λ l apart. refl) (λ l apart. other_line (line_number line) l line refl apart) refl) (barrier_left p r h (cpu_is_own cpu) refl)
+    (code_lost p (line_number line) r h (cpu_is_own cpu) refl (rw (this_line (line_number line) line refl) refl)) was
 
 -- a Poll leaves the banks
 poll_goes : (o : Option Reply) (image : ℕ → ℕ) (cpu : Cpu) (h : List Record) (u : LocalMemory) (low : Bool) → KeptShows image (of_act cpu act.Poll (poll_outcome low o) ∷ h) (cpu_number cpu) h u

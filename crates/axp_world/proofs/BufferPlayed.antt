@@ -89,8 +89,8 @@ abbrev by_event : Event → Outcome → Record
 by_event e o = record { event = e; outcome = o }
 
 -- the buffer stays and the record is quiet
-still : (e : Event) (o : Outcome) (h : List Record) (b c : pending.Buffer) → c ≡ b → IsQuiet o → Fitting (by_event e o ∷ h) → IsBuffered (cpu_number e.cpu) h b → IsBuffered (cpu_number e.cpu) (by_event e o ∷ h) c
-still e o h b c same quiet fits was = subst (λ x. IsBuffered (cpu_number e.cpu) (by_event e o ∷ h) x) (sym same) (quiet_step (cpu_number e.cpu) (by_event e o) h b (eq-eqb (cpu_number e.cpu) (cpu_number e.cpu) refl) quiet fits was)
+leaves_buffer : (e : Event) (o : Outcome) (h : List Record) (b c : pending.Buffer) → c ≡ b → IsQuiet o → Fitting (by_event e o ∷ h) → IsBuffered (cpu_number e.cpu) h b → IsBuffered (cpu_number e.cpu) (by_event e o ∷ h) c
+leaves_buffer e o h b c same quiet fits was = subst (λ x. IsBuffered (cpu_number e.cpu) (by_event e o ∷ h) x) (sym same) (quiet_step (cpu_number e.cpu) (by_event e o) h b (eq-eqb (cpu_number e.cpu) (cpu_number e.cpu) refl) quiet fits was)
 
 abbrev want : Kind → ℕ → ℕ → ℕ → Wanted
 want k a s x = record { kind = k; address = a; size = s; value = x }
@@ -98,17 +98,17 @@ want k a s x = record { kind = k; address = a; size = s; value = x }
 -- an access, by its kind
 access_step : (k : Kind) (cpu : Cpu) (a s x : ℕ) (t : Option Reply) (u : LocalMemory) (e : Event) (h : List Record) → is_ready k (line_of a) u ≡ true → Fitting (by_event e (step_outcome cpu (Some (want k a s x)) u t) ∷ h) → IsBuffered (cpu_number e.cpu) h u.buffer
     → IsBuffered (cpu_number e.cpu) (by_event e (step_outcome cpu (Some (want k a s x)) u t) ∷ h) (after_access k (want k a s x) t u).buffer
-access_step kind.Fetch cpu a s x t u e h ok fits was = still e _ h u.buffer u.buffer refl (refl, refl) fits was
-access_step kind.Read cpu a s x t u e h ok fits was = still e _ h u.buffer u.buffer refl (refl, refl) fits was
+access_step kind.Fetch cpu a s x t u e h ok fits was = leaves_buffer e _ h u.buffer u.buffer refl (refl, refl) fits was
+access_step kind.Read cpu a s x t u e h ok fits was = leaves_buffer e _ h u.buffer u.buffer refl (refl, refl) fits was
 access_step kind.Write cpu a s x t u e h ok fits was = write_step (cpu_number e.cpu) e cpu a s x false h u.buffer refl ok fits was
-access_step kind.Locked cpu a s x t u e h ok fits was = still e _ h u.buffer _ (brought_buffer (data_bank (line_of a)) (line_at a) t u) (refl, refl) fits was
-access_step kind.Conditional cpu a s x t u e h ok fits was = still e _ h u.buffer _ (rewritten_buffer (line_at a) t u) (refl, refl) fits was
-access_step kind.Barrier cpu a s x t u e h ok fits was = still e _ h u.buffer _ (fenced_buffer t u) (refl, refl) fits was
+access_step kind.Locked cpu a s x t u e h ok fits was = leaves_buffer e _ h u.buffer _ (brought_buffer (data_bank (line_of a)) (line_at a) t u) (refl, refl) fits was
+access_step kind.Conditional cpu a s x t u e h ok fits was = leaves_buffer e _ h u.buffer _ (rewritten_buffer (line_at a) t u) (refl, refl) fits was
+access_step kind.Barrier cpu a s x t u e h ok fits was = leaves_buffer e _ h u.buffer _ (fenced_buffer t u) (refl, refl) fits was
 access_step kind.WriteBarrier cpu a s x t u e h ok fits was = barrier_step (cpu_number e.cpu) e cpu a s x false _ h u.buffer refl fits was
-access_step kind.CodeBarrier cpu a s x t u e h ok fits was = still e _ h u.buffer _ (fenced_buffer t u) (refl, refl) fits was
-access_step kind.Signal cpu a s x t u e h ok fits was = still e _ h u.buffer u.buffer refl (refl, refl) fits was
-access_step kind.Console cpu a s x t u e h ok fits was = still e _ h u.buffer u.buffer refl (refl, refl) fits was
-access_step kind.Poll cpu a s x t u e h ok fits was = still e _ h u.buffer u.buffer refl (refl, refl) fits was
+access_step kind.CodeBarrier cpu a s x t u e h ok fits was = leaves_buffer e _ h u.buffer _ (fenced_buffer t u) (refl, refl) fits was
+access_step kind.Signal cpu a s x t u e h ok fits was = leaves_buffer e _ h u.buffer u.buffer refl (refl, refl) fits was
+access_step kind.Console cpu a s x t u e h ok fits was = leaves_buffer e _ h u.buffer u.buffer refl (refl, refl) fits was
+access_step kind.Poll cpu a s x t u e h ok fits was = leaves_buffer e _ h u.buffer u.buffer refl (refl, refl) fits was
 
 -- what was asked was legal, as far as the processor knew
 asked_some : (o : Option Ask2) (built : Bool) (q : Ask2) → asked_by o built ≡ Ok q → (r : Ask2) × (o ≡ Some r)
@@ -134,7 +134,7 @@ ready_of false q r is = cc
 
 step_step : (o : Option Wanted) (boundary armed : Bool) (cpu : Cpu) (t : Option Reply) (u : LocalMemory) (q : Ask2) (e : Event) (h : List Record) → step_ask boundary o armed u ≡ Some q → Fitting (by_event e (step_outcome cpu o u t) ∷ h) → IsBuffered (cpu_number e.cpu) h u.buffer
     → IsBuffered (cpu_number e.cpu) (by_event e (step_outcome cpu o u t) ∷ h) (after_step o t u).buffer
-step_step None boundary armed cpu t u q e h is fits was = still e _ h u.buffer u.buffer refl tt fits was
+step_step None boundary armed cpu t u q e h is fits was = leaves_buffer e _ h u.buffer u.buffer refl tt fits was
 step_step (Some w) boundary armed cpu t u q e h is fits was = access_step w.kind cpu w.address w.size w.value t u e h (ready_of (is_ready w.kind (line_of w.address) u) (access_ask w.kind w armed u) q is) fits was
 
 -- a Drain
@@ -149,12 +149,12 @@ drained_step k (Some f) t u q e h at is fits was =
 act_step : (a : Act) (cpu : Cpu) (i : Intent) (t : Option Reply) (u : LocalMemory) (q : Ask2) (e : Event) (h : List Record) → act_ask a i u ≡ Some q → Fitting (by_event e (outcome_by a cpu i u t) ∷ h) → IsBuffered (cpu_number e.cpu) h u.buffer
     → IsBuffered (cpu_number e.cpu) (by_event e (outcome_by a cpu i u t) ∷ h) (after_act a i t u).buffer
 act_step act.Step cpu i t u q e h is fits was = step_step i.wanted i.boundary i.lock_flag cpu t u q e h is fits was
-act_step act.Fill cpu i t u q e h is fits was = still e _ h u.buffer _ (filled_buffer i.wanted t u) (quiet_fill i.wanted t) fits was
+act_step act.Fill cpu i t u q e h is fits was = leaves_buffer e _ h u.buffer _ (filled_buffer i.wanted t u) (quiet_fill i.wanted t) fits was
 act_step (act.Drain k) cpu i t u q e h is fits was = drained_step k (slice_get (oldest_group u.buffer.kept) k) t u q e h refl is fits was
-act_step (act.Take b) cpu i t u q e h is fits was = still e _ h u.buffer _ (delivered_buffer t u) (quiet_take u t) fits was
-act_step (act.Drop b line) cpu i t u q e h is fits was = still e _ h u.buffer _ (with_copies_buffer b _ u) tt fits was
-act_step act.Poll cpu i t u q e h is fits was = still e _ h u.buffer u.buffer refl (quiet_poll i.takes_interrupts t) fits was
-act_step act.Tick cpu i t u q e h is fits was = still e _ h u.buffer u.buffer refl tt fits was
+act_step (act.Take b) cpu i t u q e h is fits was = leaves_buffer e _ h u.buffer _ (delivered_buffer t u) (quiet_take u t) fits was
+act_step (act.Drop b line) cpu i t u q e h is fits was = leaves_buffer e _ h u.buffer _ (with_copies_buffer b _ u) tt fits was
+act_step act.Poll cpu i t u q e h is fits was = leaves_buffer e _ h u.buffer u.buffer refl (quiet_poll i.takes_interrupts t) fits was
+act_step act.Tick cpu i t u q e h is fits was = leaves_buffer e _ h u.buffer u.buffer refl tt fits was
 
 -- the same of one processor whole
 actor_kept : (x : Actor) (a : Act) (t : Option Reply) → (actors.advanced x a t).kept ≡ after_act a (actor_intent x) t x.kept
