@@ -1,6 +1,9 @@
 -- What the entries of write buffers, write barriers, accesses and drains of a history show.
-use Rattle.std.specs.Prelude.{◌≡◌, ℕ, ◌+◌, ◌<◌, ◌≤◌, true, ◌&&◌, if◌then◌else◌, Contains, List, [], ◌∷◌, ◌++◌, Option, None}
+use Rattle.std.specs.Prelude.{Bool, is_some, ◌||◌, ◌&&◌, ◌≡◌, ℕ, ◌+◌, ◌<◌, ◌≤◌, true, if◌then◌else◌, Contains, List, [], ◌∷◌, ◌++◌, Option, None}
 use Rattle.std.specs.List.{AllByRecursion}
+use Rattle.axp_access.specs.Acts.{is_poll_act, is_step}
+use Rattle.axp_access.specs.declared.Act.{Act}
+use Rattle.axp_access.specs.declared.Intent.{Intent}
 use Rattle.axp_base.specs.Cpus.{cpu_number}
 use Rattle.axp_base.specs.Lines.{line_number, line_of}
 use Rattle.axp_base.specs.declared.lines.Line.{Line}
@@ -81,3 +84,7 @@ pub record WasDrained (h : List Record) (p n turn : ℕ) : Type 0 where
   pub split : h ≡ later ++ record { event = event; outcome = outcome.Drained n line turn } ∷ earlier
   pub own : cpu_number event.cpu ≡ p
   pub next : turn ≡ turns earlier + 1
+
+-- an act of a processor about to do this shows an access: a Poll, or a Step that makes a wanted access
+abbrev pub shows_access : Intent → Act → Bool
+shows_access i a = is_poll_act a || (is_step a && is_some i.wanted)

@@ -1,3 +1,4 @@
+pub mod Runs
 pub mod OrderLaws
 pub mod StorageLaws
 pub mod Counts

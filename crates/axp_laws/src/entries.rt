@@ -1,16 +1,13 @@
 //! Entries of write buffers, write barriers and drains.
 ghost use Rattle.std.specs.Prelude.{ℕ, true, Contains, List, [], ◌∷◌, ◌++◌, None, length, map, filter_map, slice_get, Some, is_some, ◌≡◌, ◌<◌, ◌≤◌, ◌+◌, ◌↔◌, ◌⊎◌, ◌&&◌, ◌||◌};
+ghost use Rattle.axp_laws.specs.Runs.{Run};
 ghost use Rattle.axp_access.specs.declared.Record.{Record};
 ghost use Rattle.axp_base.specs.Cpus.{cpu_number};
 ghost use Rattle.axp_base.specs.Lines.{line_number};
 ghost use Rattle.axp_model.specs.Entries.{Waiting, buffer, has_number, oldest};
-ghost use Rattle.axp_laws.specs.EntryLaws.{ArePartedWrites, IsBehind, IsOldestInFront, IsParted, IsUndrained, WasDrained, WasMade, access_of, write_barriers};
+ghost use Rattle.axp_laws.specs.EntryLaws.{ArePartedWrites, IsBehind, IsOldestInFront, IsParted, IsUndrained, WasDrained, WasMade, access_of, shows_access, write_barriers};
 ghost use Rattle.axp_model.specs.Issue.{barrier_demands};
-ghost use Rattle.axp_access.specs.Acts.{is_poll_act, is_step};
 ghost use Rattle.axp_model.specs.Issue.{AllPairs};
-ghost use Rattle.axp_model.specs.Processors.{AreInLine};
-ghost use Rattle.axp_model.specs.Processors.{Processors};
-ghost use Rattle.axp_model.specs.Outcomes.{IsRun};
 ghost use Rattle.axp_access.specs.Numbering.{NumberedAccess, cpu_of, write_barriers_in};
 ghost use Rattle.axp_model.specs.Accesses.{accesses};
 ghost use Rattle.axp_access.specs.Kinds.{is_write_barrier};
@@ -20,21 +17,22 @@ ghost use Rattle.axp_model.specs.Turns.{drained, turns};
 /// named it. At most one that waits has a number, and it has one line and one age; at most one has a line
 /// and an age.
 pub fn entries_that_wait()
-    ensures waits { (image : ℕ → ℕ) (ps : Processors) (h : List Record) → AreInLine ps → IsRun image ps h → (p n : ℕ)
+    ensures waits { (h : List Record) → Run h → (p n : ℕ)
         → (has_number n (buffer p h).waiting ≡ true) ↔ IsUndrained h p n }
-    ensures number { (h : List Record) (p : ℕ) (e f : Waiting) → Contains (buffer p h).waiting e → Contains (buffer p h).waiting f → e.number ≡ f.number → e ≡ f }
-    ensures line_and_age { (image : ℕ → ℕ) (ps : Processors) (h : List Record) → AreInLine ps → IsRun image ps h → (p : ℕ) (e f : Waiting)
-        → Contains (buffer p h).waiting e → Contains (buffer p h).waiting f → line_number e.line ≡ line_number f.line
-        → e.age ≡ f.age → e ≡ f }
+    ensures number { (h : List Record) (p : ℕ) (e f : Waiting) → Contains (buffer p h).waiting e
+        → Contains (buffer p h).waiting f → e.number ≡ f.number → e ≡ f }
+    ensures line_and_age { (h : List Record) → Run h → (p : ℕ) (e f : Waiting)
+        → Contains (buffer p h).waiting e → Contains (buffer p h).waiting f
+        → line_number e.line ≡ line_number f.line → e.age ≡ f.age → e ≡ f }
 {}
 
 /// The age of a processor's write buffer, and of its accesses, is the number of its WMBs so far; that of
 /// an entry which waits is the number of them before the plain write that made it.
 pub fn ages_are_write_barriers()
     ensures age { (h : List Record) (p : ℕ) → (buffer p h).age ≡ write_barriers p h }
-    ensures parts { (image : ℕ → ℕ) (ps : Processors) (h : List Record) → AreInLine ps → IsRun image ps h → (p : ℕ)
+    ensures parts { (h : List Record) → Run h → (p : ℕ)
         → write_barriers_in p (accesses h) ≡ write_barriers p h }
-    ensures entry { (image : ℕ → ℕ) (ps : Processors) (h : List Record) → AreInLine ps → IsRun image ps h → (p : ℕ) (e : Waiting)
+    ensures entry { (h : List Record) → Run h → (p : ℕ) (e : Waiting)
         → Contains (buffer p h).waiting e → WasMade h p e }
 {}
 
@@ -42,9 +40,12 @@ pub fn ages_are_write_barriers()
 /// an access between the two is one. So a write barrier demands an order of two accesses exactly where
 /// both are writes of one processor, the first the earlier, and a WMB of the processor is between them.
 pub fn write_barrier_stands_between()
-    ensures parts { (h : List Record) (u v : NumberedAccess) → Contains (accesses h) u → Contains (accesses h) v → cpu_of u ≡ cpu_of v → u.number < v.number
+    ensures parts { (h : List Record) (u v : NumberedAccess)
+        → Contains (accesses h) u → Contains (accesses h) v
+        → cpu_of u ≡ cpu_of v → u.number < v.number
         → (u.parts < v.parts) ↔ ((is_write_barrier u.access.kind ≡ true) ⊎ IsParted h u v) }
-    ensures demands { (h : List Record) (u v : NumberedAccess) → Contains (accesses h) u → Contains (accesses h) v
+    ensures demands { (h : List Record) (u v : NumberedAccess)
+        → Contains (accesses h) u → Contains (accesses h) v
         → (barrier_demands u v ≡ true) ↔ ArePartedWrites h u v }
 {}
 
@@ -52,10 +53,11 @@ pub fn write_barrier_stands_between()
 /// numbered from their count down to 1. Of a run those records show one which polls or takes a step that
 /// makes a wanted access.
 pub fn numbers_of_accesses()
-    ensures numbers { (h : List Record) (k : ℕ) (u : NumberedAccess) → slice_get (accesses h) k ≡ Some u → u.number + k ≡ length (accesses h) }
+    ensures numbers { (h : List Record) (k : ℕ) (u : NumberedAccess)
+        → slice_get (accesses h) k ≡ Some u → u.number + k ≡ length (accesses h) }
     ensures accesses { (h : List Record) → map (λ u. u.access) (accesses h) ≡ filter_map access_of h }
-    ensures shown { (image : ℕ → ℕ) (ps : Processors) (r : Record) (h : List Record) → IsRun image ps (r ∷ h)
-        → is_some (access_of r) ≡ (is_poll_act r.event.act || (is_step r.event.act && is_some (ps.intent (cpu_number r.event.cpu) h).wanted)) }
+    ensures shown { (r : Record) (h : List Record) (run : Run (r ∷ h))
+        → is_some (access_of r) ≡ shows_access (run.processors.intent (cpu_number r.event.cpu) h) r.event.act }
 {}
 
 /// The entries of a processor that wait stand by ascending number, and their ages do not descend; so the
@@ -70,10 +72,11 @@ pub fn oldest_group_is_in_front()
 /// In every run a drain gives its entry the next turn, which its record shows, once and for all; no
 /// drained entry has a turn above the turn count, and one that is drained later gets a turn above it.
 pub fn drained_turns()
-    ensures turn { (image : ℕ → ℕ) (ps : Processors) (h : List Record) → AreInLine ps → IsRun image ps h → (p n turn : ℕ)
+    ensures turn { (h : List Record) → Run h → (p n turn : ℕ)
         → (drained h p n ≡ Some turn) ↔ WasDrained h p n turn }
-    ensures stays { (image : ℕ → ℕ) (ps : Processors) (later h : List Record) → AreInLine ps → IsRun image ps (later ++ h) → (p n turn : ℕ)
+    ensures stays { (later h : List Record) → Run (later ++ h) → (p n turn : ℕ)
         → drained h p n ≡ Some turn → drained (later ++ h) p n ≡ Some turn }
     ensures most { (h : List Record) (p n turn : ℕ) → drained h p n ≡ Some turn → turn ≤ turns h }
-    ensures later { (later h : List Record) (p n turn : ℕ) → drained h p n ≡ None → drained (later ++ h) p n ≡ Some turn → turns h < turn }
+    ensures later { (later h : List Record) (p n turn : ℕ)
+        → drained h p n ≡ None → drained (later ++ h) p n ≡ Some turn → turns h < turn }
 {}

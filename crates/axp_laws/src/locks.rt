@@ -1,13 +1,11 @@
 //! Locks, and the constraint on store-conditionals that succeed.
 ghost use Rattle.std.specs.Prelude.{IsTrue, ◌↔◌, ℕ, List};
+ghost use Rattle.axp_laws.specs.Runs.{Run};
 ghost use Rattle.axp_base.specs.Blocks.{is_allowed};
 ghost use Rattle.axp_access.specs.declared.Record.{Record};
 ghost use Rattle.axp_model.specs.Locks.{lock};
 ghost use Rattle.axp_laws.specs.LockLaws.{IsStillLocked};
 ghost use Rattle.axp_model.specs.Locking.{KeepsLocking};
-ghost use Rattle.axp_model.specs.Processors.{AreInLine};
-ghost use Rattle.axp_model.specs.Processors.{Processors};
-ghost use Rattle.axp_model.specs.Outcomes.{IsRun};
 
 /// An STx_C of a processor may succeed at an address, as far as its lock register says, exactly where
 /// the processor's last LDx_L was of the same block of 16 bytes and since then it made no STx_C, of
@@ -21,5 +19,5 @@ pub fn undisturbed_in_words()
 /// block of 16 bytes. Each memory write of another processor on the LDx_L's line is BEFORE the
 /// LDx_L, or has the STx_C BEFORE it, however the run goes on.
 pub fn locking()
-    ensures { (image : ℕ → ℕ) (ps : Processors) (h : List Record) → AreInLine ps → IsRun image ps h → KeepsLocking h }
+    ensures { (h : List Record) → Run h → KeepsLocking h }
 {}

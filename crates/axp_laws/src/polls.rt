@@ -1,12 +1,10 @@
 //! Interprocessor interrupts.
 ghost use Rattle.std.specs.Prelude.{ℕ, Bool, true, Contains, List, ◌∷◌, ◌++◌, ◌≡◌, ◌↔◌, ◌&&◌};
+ghost use Rattle.axp_laws.specs.Runs.{Run};
 ghost use Rattle.axp_access.specs.declared.Event.{Event};
 ghost use Rattle.axp_access.specs.declared.Record.{Record};
 ghost use Rattle.axp_base.specs.Cpus.{cpu_number};
 ghost use Rattle.axp_access.specs.Order.{before};
-ghost use Rattle.axp_model.specs.Processors.{AreInLine};
-ghost use Rattle.axp_model.specs.Processors.{Processors};
-ghost use Rattle.axp_model.specs.Outcomes.{IsRun};
 ghost use Rattle.axp_access.specs.Numbering.{NumberedAccess};
 ghost use Rattle.axp_model.specs.Accesses.{accesses, times};
 ghost use Rattle.axp_model.specs.Polls.{IsAwaited, poll_item, polled};
@@ -17,14 +15,16 @@ ghost use Rattle.axp_laws.specs.PollLaws.{is_signal_or_poll};
 /// leave the order of signals and Polls as it is. A Poll enters exactly where it shows a signal and the
 /// processor's interrupt level is low.
 pub fn poll_rule()
-    ensures pending { (image : ℕ → ℕ) (ps : Processors) (later : List Record) (e : Event) (pending entered : Bool) (turn : ℕ) (h : List Record)
-        → AreInLine ps → IsRun image ps (later ++ polled e pending entered turn ∷ h)
-        → (pending ≡ true) ↔ IsAwaited (later ++ polled e pending entered turn ∷ h) (poll_item e pending turn h) }
+    ensures pending { (later : List Record) (e : Event) (pending entered : Bool) (turn : ℕ) (h : List Record)
+        → Run (later ++ polled e pending entered turn ∷ h) → (pending ≡ true)
+        ↔ IsAwaited (later ++ polled e pending entered turn ∷ h) (poll_item e pending turn h) }
     ensures access { (e : Event) (pending entered : Bool) (turn : ℕ) (h : List Record)
         → accesses (polled e pending entered turn ∷ h) ≡ poll_item e pending turn h ∷ accesses h }
-    ensures stays { (image : ℕ → ℕ) (ps : Processors) (later h : List Record) → AreInLine ps → IsRun image ps h → (u v : NumberedAccess)
-        → Contains (accesses h) u → is_signal_or_poll u ≡ true → Contains (accesses h) v → is_signal_or_poll v ≡ true
+    ensures stays { (later h : List Record) → Run h → (u v : NumberedAccess)
+        → Contains (accesses h) u → is_signal_or_poll u ≡ true
+        → Contains (accesses h) v → is_signal_or_poll v ≡ true
         → before (times (later ++ h)) u v ≡ before (times h) u v }
-    ensures entered { (image : ℕ → ℕ) (ps : Processors) (e : Event) (pending entered : Bool) (turn : ℕ) (h : List Record)
-        → IsRun image ps (polled e pending entered turn ∷ h) → entered ≡ (pending && (ps.intent (cpu_number e.cpu) h).takes_interrupts) }
+    ensures entered { (e : Event) (pending entered : Bool) (turn : ℕ) (h : List Record)
+        (run : Run (polled e pending entered turn ∷ h))
+        → entered ≡ (pending && (run.processors.intent (cpu_number e.cpu) h).takes_interrupts) }
 {}

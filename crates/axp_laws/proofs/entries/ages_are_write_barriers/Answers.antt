@@ -5,7 +5,7 @@ pub returns-clause-age : goal.returns-clause-age
 returns-clause-age c = age_counts
 
 pub returns-clause-parts : goal.returns-clause-parts
-returns-clause-parts c = parts_count
+returns-clause-parts c = λ h run. parts_count run.image run.processors h run.inside run.legal
 
 pub returns-clause-entry : goal.returns-clause-entry
-returns-clause-entry c = entry_was_made
+returns-clause-entry c = λ h run. entry_was_made run.image run.processors h run.inside run.legal

@@ -2,10 +2,10 @@ use Rattle.axp_laws.proofs.EntryDrains.{turn_exactly, turn_kept, turn_most, turn
 use Rattle.axp_laws.proofs.entries.drained_turns.Goals as goal
 
 pub returns-clause-turn : goal.returns-clause-turn
-returns-clause-turn c = turn_exactly
+returns-clause-turn c = λ h run. turn_exactly run.image run.processors h run.inside run.legal
 
 pub returns-clause-stays : goal.returns-clause-stays
-returns-clause-stays c = turn_kept
+returns-clause-stays c = λ later h run. turn_kept run.image run.processors later h run.inside run.legal
 
 pub returns-clause-most : goal.returns-clause-most
 returns-clause-most c = turn_most

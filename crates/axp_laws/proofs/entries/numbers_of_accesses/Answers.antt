@@ -8,4 +8,4 @@ pub returns-clause-accesses : goal.returns-clause-accesses
 returns-clause-accesses c = accesses_shown
 
 pub returns-clause-shown : goal.returns-clause-shown
-returns-clause-shown c = access_shown
+returns-clause-shown c = λ r h run. access_shown run.image run.processors r h run.legal

@@ -8,7 +8,7 @@ pub returns-clause-in_code : goal.returns-clause-in_code
 returns-clause-in_code c = code_copies_exactly
 
 pub returns-clause-data_fits : goal.returns-clause-data_fits
-returns-clause-data_fits c = run_copies
+returns-clause-data_fits c = λ h run. run_copies run.image run.processors h run.inside run.legal
 
 pub returns-clause-code_fits : goal.returns-clause-code_fits
-returns-clause-code_fits c = run_code_copies
+returns-clause-code_fits c = λ h run. run_code_copies run.image run.processors h run.inside run.legal
