@@ -7,8 +7,14 @@ use Rattle.axp_access.specs.declared.Record.{Record}
 use Rattle.axp_base.specs.Cpus.{cpu_number}
 use Rattle.axp_cpu.specs.declared.refusals.Refusal.{Refusal}
 use Rattle.axp_cpu.specs.declared.refusals.Refusal.TheVariants.{NotLegal, NotBuilt}
-use Rattle.axp_image.specs.Contents.{Contents}
-use Rattle.axp_world.specs.Worlds.{answer_of, world}
+use Rattle.axp_access.specs.declared.Event.{Event}
+use Rattle.axp_access.specs.declared.Intent.{Intent}
+use Rattle.axp_base.specs.declared.processors.Cpu.{Cpu}
+use Rattle.axp_cpu.specs.Following.{processors}
+use Rattle.axp_image.specs.Contents.{Contents, IsValid}
+use Rattle.axp_model.specs.Legal.{legal}
+use Rattle.axp_model.specs.Processors.{Processors}
+use Rattle.axp_world.specs.Worlds.{IsPlayed, World, answer_of, image_bytes, world}
 
 -- an event is refused because it is not legal
 abbrev pub is_not_legal : Result Outcome Refusal → Bool
@@ -29,3 +35,30 @@ is_progress act.Fill = true
 is_progress (act.Drain k) = true
 is_progress (act.Drop b line) = true
 is_progress _ = false
+
+-- a history that so many processors played over a valid image, each with a budget of steps
+pub record Played : Type 0 where
+  pub image : Contents
+  pub cpus : ℕ
+  pub budget : ℕ
+  pub history : List Record
+  pub valid : IsValid image
+  pub plays : IsPlayed image cpus budget history
+
+-- the image's bytes, the world after the history, and the processors as the memory model asks of them
+abbrev pub bytes_in : Played → ℕ → ℕ
+bytes_in g at = image_bytes g.image at
+
+abbrev pub world_in : Played → World
+world_in g = world g.image g.cpus g.budget g.history
+
+abbrev pub processors_in : Played → Processors
+processors_in g = processors g.image g.cpus g.budget
+
+-- what a processor is about to do after it
+abbrev pub intent_in : Played → Cpu → Intent
+intent_in g c = (processors_in g).intent (cpu_number c) g.history
+
+-- an event is legal after it, by the memory model
+abbrev pub is_legal_in : Played → Event → Bool
+is_legal_in g e = legal (processors_in g) g.history e

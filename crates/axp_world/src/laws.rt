@@ -5,57 +5,58 @@ ghost use Rattle.axp_access.specs.declared.Act.TheVariants as act;
 ghost use Rattle.axp_access.specs.declared.Event.{Event};
 ghost use Rattle.axp_access.specs.declared.Record.{Record};
 ghost use Rattle.axp_base.specs.Cpus.{cpu_number};
-ghost use Rattle.axp_base.specs.declared.processors.TheConstants.{MAX_CPUS};
+ghost use Rattle.axp_base.specs.Lists.{is_empty};
 ghost use Rattle.axp_base.specs.declared.processors.Cpu.{Cpu};
+ghost use Rattle.axp_base.specs.declared.processors.TheConstants.{MAX_CPUS};
+ghost use Rattle.axp_cpu.specs.Following.{processors, seat_in};
 ghost use Rattle.axp_image.specs.Contents.{Contents, IsValid};
 ghost use Rattle.axp_line.specs.BusCalls as calls;
 ghost use Rattle.axp_model.specs.Entries.{buffer};
-ghost use Rattle.axp_model.specs.Legal.{legal};
-ghost use Rattle.axp_base.specs.Lists.{is_empty};
 ghost use Rattle.axp_model.specs.Memory.{final_byte, is_touched};
-ghost use Rattle.axp_model.specs.Processors.{AreInLine};
 ghost use Rattle.axp_model.specs.Outcomes.{IsRun};
+ghost use Rattle.axp_model.specs.Processors.{AreInLine};
 ghost use Rattle.axp_model.specs.Turns.{turns};
-ghost use Rattle.axp_world.specs.RunLaws.{IsBuilt, is_not_legal, is_progress};
-ghost use Rattle.axp_cpu.specs.Following.{processors, seat_in};
-ghost use Rattle.axp_world.specs.Worlds.{IsPlayed, answer_of, image_bytes, world};
+ghost use Rattle.axp_world.specs.RunLaws.{IsBuilt, Played, bytes_in, intent_in, is_legal_in, is_not_legal, is_progress, processors_in, world_in};
+ghost use Rattle.axp_world.specs.Worlds.{IsPlayed, answer_of, image_bytes};
 
 /// Every history that processors play over the bus is a run of the memory model: each event was legal
 /// after the records before it, and has the outcome that the model says. What processors want lies
 /// within a quadword each, so all laws of the model hold of it. Its turns, its memory and the quadwords
 /// that were written are the bus's, and each processor stands where its records say.
 pub fn played_histories_are_runs()
-    ensures in_line { (image : Contents) (cpus budget : ℕ) → IsValid image → AreInLine (processors image cpus budget) }
-    ensures run { (image : Contents) (cpus budget : ℕ) (h : List Record) → IsValid image → IsPlayed image cpus budget h → IsRun (image_bytes image) (processors image cpus budget) h }
-    ensures turns { (image : Contents) (cpus budget : ℕ) (h : List Record) → IsValid image → IsPlayed image cpus budget h → calls.turns (world image cpus budget h).calls ≡ turns h }
-    ensures memory { (image : Contents) (cpus budget : ℕ) (h : List Record) → IsValid image → IsPlayed image cpus budget h → (at : ℕ)
-        → calls.memory (image_bytes image) (world image cpus budget h).calls at ≡ final_byte (image_bytes image) h at }
-    ensures touched { (image : Contents) (cpus budget : ℕ) (h : List Record) → IsValid image → IsPlayed image cpus budget h → (q : ℕ)
-        → calls.is_touched q (world image cpus budget h).calls ≡ is_touched h q }
-    ensures seats { (image : Contents) (cpus budget : ℕ) (h : List Record) → IsValid image → IsPlayed image cpus budget h → (p : ℕ) → p < MAX_CPUS
-        → seat_in image cpus budget p h ≡ ((world image cpus budget h).actors p).seat }
+    ensures in_line { (image : Contents) (cpus budget : ℕ) → IsValid image
+        → AreInLine (processors image cpus budget) }
+    ensures run { (g : Played) → IsRun (bytes_in g) (processors_in g) g.history }
+    ensures turns { (g : Played) → calls.turns (world_in g).calls ≡ turns g.history }
+    ensures memory { (g : Played) (at : ℕ)
+        → calls.memory (bytes_in g) (world_in g).calls at ≡ final_byte (bytes_in g) g.history at }
+    ensures touched { (g : Played) (q : ℕ)
+        → calls.is_touched q (world_in g).calls ≡ is_touched g.history q }
+    ensures seats { (g : Played) (p : ℕ) → p < MAX_CPUS
+        → seat_in g.image g.cpus g.budget p g.history ≡ ((world_in g).actors p).seat }
 {}
 
-/// After a played history an event is refused as not legal exactly where the memory model says that it is
-/// not: so it is with every event of a processor that there is not.
+/// After a played history an event is refused as not legal exactly where the memory model says that it
+/// is not: so it is with every event of a processor that there is not.
 pub fn refused_where_not_legal()
-    ensures { (image : Contents) (cpus budget : ℕ) (h : List Record) (e : Event) → IsValid image → IsPlayed image cpus budget h
-        → is_not_legal (answer_of image cpus (world image cpus budget h) e) ≡ not (legal (processors image cpus budget) h e) }
+    ensures { (g : Played) (e : Event)
+        → is_not_legal (answer_of g.image g.cpus (world_in g) e) ≡ not (is_legal_in g e) }
 {}
 
 /// Every run of the memory model is played, where no event comes to what is not built.
 pub fn runs_are_played()
-    ensures { (image : Contents) (cpus budget : ℕ) (h : List Record) → IsValid image → IsRun (image_bytes image) (processors image cpus budget) h → IsBuilt image cpus budget h → IsPlayed image cpus budget h }
+    ensures { (image : Contents) (cpus budget : ℕ) (h : List Record) → IsValid image
+        → IsRun (image_bytes image) (processors image cpus budget) h
+        → IsBuilt image cpus budget h → IsPlayed image cpus budget h }
 {}
 
 /// No processor is stuck after a played history: one that is not finished has a legal Step, Fill, Drain
-/// or Drop, and one that is finished with a write that waits may drain. Legal is the memory model's word:
-/// a legal Step that comes to what is not built is refused all the same.
+/// or Drop, and one that is finished with a write that waits may drain. Legal is the memory model's
+/// word: a legal Step that comes to what is not built is refused all the same.
 pub fn processors_are_never_stuck()
-    ensures acts { (image : Contents) (cpus budget : ℕ) (h : List Record) (c : Cpu) → IsValid image → IsPlayed image cpus budget h
-        → cpu_number c < cpus → ((processors image cpus budget).intent (cpu_number c) h).finished ≡ false
-        → (a : Act) × (is_progress a ≡ true) × (legal (processors image cpus budget) h (record { cpu = c; act = a }) ≡ true) }
-    ensures drains { (image : Contents) (cpus budget : ℕ) (h : List Record) (c : Cpu) → IsValid image → IsPlayed image cpus budget h
-        → cpu_number c < cpus → ((processors image cpus budget).intent (cpu_number c) h).finished ≡ true → is_empty (buffer (cpu_number c) h).waiting ≡ false
-        → legal (processors image cpus budget) h (record { cpu = c; act = act.Drain 0 }) ≡ true }
+    ensures acts { (g : Played) (c : Cpu) → cpu_number c < g.cpus → (intent_in g c).finished ≡ false
+        → (a : Act) × (is_progress a ≡ true) × (is_legal_in g (record { cpu = c; act = a }) ≡ true) }
+    ensures drains { (g : Played) (c : Cpu) → cpu_number c < g.cpus → (intent_in g c).finished ≡ true
+        → is_empty (buffer (cpu_number c) g.history).waiting ≡ false
+        → is_legal_in g (record { cpu = c; act = act.Drain 0 }) ≡ true }
 {}

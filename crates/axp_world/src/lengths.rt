@@ -16,12 +16,18 @@ pub const EVENTS_PER_STEP: u32 = 15;
 /// events of the whole history are at most [`EVENTS_PER_STEP`] for each step of the budgets.
 pub fn length_of_a_history()
     ensures constant { EVENTS_PER_STEP ≡ events_per_step MAX_CPUS }
-    ensures steps { (image : Contents) (cpus budget : ℕ) (h : List Record) → IsPlayed image cpus budget h → (p : ℕ)
+    ensures steps { (image : Contents) (cpus budget : ℕ) (h : List Record)
+        → IsPlayed image cpus budget h → (p : ℕ)
         → ((world image cpus budget h).actors p).seat.steps ≡ steps_of p h }
-    ensures budget { (image : Contents) (cpus budget : ℕ) (h : List Record) → IsPlayed image cpus budget h → (p : ℕ) → steps_of p h ≤ budget }
-    ensures budgets { (image : Contents) (cpus budget : ℕ) (h : List Record) → IsPlayed image cpus budget h → steps_in h ≤ cpus * budget }
-    ensures turns { (image : Contents) (cpus budget : ℕ) (h : List Record) → IsPlayed image cpus budget h → turns (world image cpus budget h).calls ≤ steps_in h }
-    ensures events { (image : Contents) (cpus budget : ℕ) (h : List Record) → IsPlayed image cpus budget h → length h ≤ events_per_step cpus * (cpus * budget) }
-    ensures length { (image : Contents) (cpus budget : ℕ) (h : List Record) → cpus ≤ MAX_CPUS → IsPlayed image cpus budget h
+    ensures budget { (image : Contents) (cpus budget : ℕ) (h : List Record)
+        → IsPlayed image cpus budget h → (p : ℕ) → steps_of p h ≤ budget }
+    ensures budgets { (image : Contents) (cpus budget : ℕ) (h : List Record)
+        → IsPlayed image cpus budget h → steps_in h ≤ cpus * budget }
+    ensures turns { (image : Contents) (cpus budget : ℕ) (h : List Record)
+        → IsPlayed image cpus budget h → turns (world image cpus budget h).calls ≤ steps_in h }
+    ensures events { (image : Contents) (cpus budget : ℕ) (h : List Record)
+        → IsPlayed image cpus budget h → length h ≤ events_per_step cpus * (cpus * budget) }
+    ensures length { (image : Contents) (cpus budget : ℕ) (h : List Record)
+        → cpus ≤ MAX_CPUS → IsPlayed image cpus budget h
         → length h ≤ EVENTS_PER_STEP * cpus * budget }
 {}

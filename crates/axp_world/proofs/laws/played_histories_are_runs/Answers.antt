@@ -1,15 +1,18 @@
-use Rattle.axp_world.specs.Worlds.{image_bytes, world}
+use Rattle.axp_world.specs.RunLaws.{Played, bytes_in, world_in}
 use Rattle.axp_world.proofs.BusTouched.{touched_agrees}
-use Rattle.axp_world.proofs.RunJoined.{joined}
+use Rattle.axp_world.proofs.RunJoined.{Joined, joined}
 use Rattle.axp_world.proofs.RunWants.{in_line}
 use Rattle.axp_world.proofs.laws.played_histories_are_runs.Goals as goal
+
+has : (g : Played) → Joined g.image g.cpus g.budget g.history
+has g = joined g.image g.cpus g.budget g.history g.valid g.plays
 
 pub returns : goal.returns
 returns c = record {
   in_line = in_line;
-  run = λ image cpus budget h valid played. (joined image cpus budget h valid played).run;
-  turns = λ image cpus budget h valid played. (joined image cpus budget h valid played).bus.count;
-  memory = λ image cpus budget h valid played. (joined image cpus budget h valid played).bus.bytes (image_bytes image);
-  touched = λ image cpus budget h valid played. touched_agrees (image_bytes image) h (world image cpus budget h).calls (joined image cpus budget h valid played).bus;
-  seats = λ image cpus budget h valid played. (joined image cpus budget h valid played).seats;
+  run = λ g. (has g).run;
+  turns = λ g. (has g).bus.count;
+  memory = λ g. (has g).bus.bytes (bytes_in g);
+  touched = λ g. touched_agrees (bytes_in g) g.history (world_in g).calls (has g).bus;
+  seats = λ g. (has g).seats;
 }
