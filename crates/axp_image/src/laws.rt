@@ -1,5 +1,7 @@
 //! Laws of images, each proved as the contract of a function that does nothing.
 ghost use Rattle.std.specs.Prelude.{ℕ, List, ◌≡◌, ◌<◌, Some, None, ◌++◌, ◌∷◌, []};
+ghost use Rattle.axp_image.specs.declared.limits.TheConstants.{PAGE_BYTES, MAX_MEMORY, KSEG};
+ghost use Rattle.axp_image.specs.declared.limits.TheConstants.{MAX_SEGMENTS, INSTRUCTION_BYTES};
 ghost use Rattle.axp_image.specs.Contents.{AreBytes, Contents, IsValid, byte_in};
 ghost use Rattle.axp_image.specs.Grammar.{image_of};
 ghost use Rattle.axp_image.specs.Spelling.{spelling};
@@ -26,4 +28,13 @@ pub fn one_file()
 pub fn smallest_image()
     ensures read { image_of smallest_file ≡ Some smallest }
     ensures extra { image_of (smallest_file ++ 0 ∷ []) ≡ None }
+{}
+
+/// The limits as numbers: definitions and code share each constant, so nothing else says these.
+pub fn limits_as_numbers()
+    ensures page_bytes { PAGE_BYTES ≡ 8192 }
+    ensures max_memory { MAX_MEMORY ≡ 16777216 }
+    ensures max_segments { MAX_SEGMENTS ≡ 64 }
+    ensures kseg { KSEG ≡ 0xFFFFFC0000000000 }
+    ensures instruction_bytes { INSTRUCTION_BYTES ≡ 4 }
 {}

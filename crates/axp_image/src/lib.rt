@@ -9,7 +9,7 @@ mod limits;
 mod reading;
 
 pub use images::Image;
-pub use laws::{memory_of_segments, one_file, smallest_image};
+pub use laws::{limits_as_numbers, memory_of_segments, one_file, smallest_image};
 pub use limits::{INSTRUCTION_BYTES, KSEG, MAX_MEMORY, MAX_SEGMENTS, PAGE_BYTES};
 pub use reading::read_image;
 

@@ -105,3 +105,56 @@ fn refuses_other_files(rt: HostRuntime) -> Result<(), Fail> {
     }
     Ok(())
 }
+
+/// The file of a memory of `size` bytes with `count` segments of `length` sevens each, with nothing
+/// between them.
+fn file_of_sevens(alloc: Global, size: u64, count: u16, length: u32) -> Result<Vec<u8>, NoMemory> {
+    let mut file = Vec::from_slice(alloc, &SMALLEST[..6])?;
+    file.extend_from_slice(&count.to_le_bytes())?;
+    file.extend_from_slice(&size.to_le_bytes())?;
+    file.extend_from_slice(&SMALLEST[16..])?;
+    for n in 0..count {
+        let address = u64::from(n) * u64::from(length);
+        file.extend_from_slice(&address.to_le_bytes())?;
+        // The length in four bytes, and a word of zeros.
+        file.extend_from_slice(&u64::from(length).to_le_bytes())?;
+    }
+    for _ in 0..count {
+        for _ in 0..length {
+            file.push(7)?;
+        }
+    }
+    Ok(file)
+}
+
+#[test]
+fn reads_up_to_each_limit(rt: HostRuntime) -> Result<(), Fail> {
+    let alloc = rt.alloc();
+    for (size, count, length, is_image) in [
+        (0x2000, 64, 3, true),
+        (0x2000, 65, 3, false),
+        (0x0100_0000, 0, 0, true),
+        (0x0100_2000, 0, 0, false),
+        (0x2_0000, 1, 0x1_0001, true),
+        (0x0100_0000, 1, 0x0100_0000, true),
+        (0x0100_0000, 1, 0x0100_0001, false),
+    ] {
+        let file = file_of_sevens(alloc, size, count, length)
+            .ok()
+            .ok_or("memory")?;
+        let read = read_image(alloc, file.as_slice()).ok().ok_or("memory")?;
+        assert_eq!(rt;
+            read.is_some(),
+            is_image,
+            "{count} segments of {length} in {size}"
+        );
+        if let Some(image) = read {
+            let bytes = u64::from(count) * u64::from(length);
+            assert_eq!(rt; (image.size(), image.segments()), (size, u32::from(count)));
+            if 0 < bytes && bytes <= image.size() {
+                assert_eq!(rt; image.byte(bytes - 1), 7, "the last byte");
+            }
+        }
+    }
+    Ok(())
+}

@@ -13,13 +13,9 @@ use Rattle.axp_io.specs.declared.SinkFault.TheVariants as sink
 abbrev pub raised : ℕ → ℕ → ℕ
 raised count n = min (count + n) (2 ^ 64 - 1)
 
--- a count rose by n or more, or stands at its last value
-abbrev pub RoseBy : ℕ → ℕ → ℕ → Type 0
-RoseBy n before now = raised before n ≤ now
-
--- a count rose, or stands at its last value
+-- a count rose; one that stands at its last value counts as risen
 abbrev pub Rose : ℕ → ℕ → Type 0
-Rose before now = RoseBy 1 before now
+Rose before now = raised before 1 ≤ now
 
 -- ---- bytes that are held, where it is known which
 

@@ -135,6 +135,37 @@ mod tests {
         }
     }
 
+    /// A reader whose course is known: it gives one byte a call.
+    #[derive(Drop)]
+    struct Course<'a> {
+        rest: &'a [Result<u8, Trouble>],
+    }
+
+    impl Reader for Course<'_> {
+        ghost use Rattle.std.specs.Prelude.{Some, None};
+
+        ghost remaining = { λ _. None };
+
+        ghost course = { λ r. Some r.rest.now };
+
+        fn read(&mut self, buf: &mut [u8]) -> Result<usize, Trouble> {
+            if buf.is_empty() {
+                return Ok(0);
+            }
+            let Some((answer, rest)) = self.rest.split_first() else {
+                return Ok(0);
+            };
+            self.rest = rest;
+            match *answer {
+                Ok(byte) => {
+                    buf[0] = byte;
+                    Ok(1)
+                }
+                Err(trouble) => Err(trouble),
+            }
+        }
+    }
+
     /// Whether a script read with this limit gives the answer, and the counts of bytes and calls.
     fn reads(
         alloc: Global,
@@ -153,6 +184,17 @@ mod tests {
             _ => false,
         };
         answer && (given, reader.inner.calls) == counts
+    }
+
+    #[test]
+    fn a_course_is_read(rt: HostRuntime) {
+        let mut reader = Course {
+            rest: &[Err(Trouble::Interrupted), Ok(1), Err(Trouble::Fault), Ok(2)],
+        };
+        let mut given = 0;
+        let answer = read_whole(rt.alloc(), &mut reader, 9, &mut given);
+        assert!(rt; matches!(answer, Err(FetchFault::Failed)));
+        assert_eq!(rt; (given, reader.rest.len()), (1, 1));
     }
 
     #[test]

@@ -16,6 +16,44 @@ const TWO_SEGMENTS: [u8; 77] = [
     11, 12, 13, 21, 22,
 ];
 
+/// The greatest memory, and a segment of 65,537 bytes at its end, without the segment's bytes.
+const GREATEST: [u8; 56] = [
+    0x41, 0x58, 0x50, 0x49, 1, 0, 1, 0, // magic, version, count
+    0, 0, 0, 1, 0, 0, 0, 0, // size
+    0, 0, 0, 0, 0, 0xFC, 0xFF, 0xFF, // entry
+    0, 0, 0, 0, 0, 0, 0, 0, // stack
+    0, 0, 0, 0, 0, 0, 0, 0, // table
+    0xFF, 0xFF, 0xFE, 0, 0, 0, 0, 0, 1, 0, 1, 0, 0, 0, 0, 0, // the record
+];
+
+#[test]
+fn the_greatest_memory_is_loaded(rt: HostRuntime) -> Result<(), Fail> {
+    let mut file = Vec::from_slice(rt.alloc(), &GREATEST)?;
+    for _ in 0..0x1_0001 {
+        file.push(7)?;
+    }
+    let read = read_image(rt.alloc(), file.as_slice())
+        .ok()
+        .ok_or("memory")?;
+    let image = read.ok_or("the greatest memory is read")?;
+    let ram = Ram::load(rt.alloc(), &image).ok().ok_or("memory")?;
+    assert_eq!(rt; ram.size(), 0x0100_0000);
+    if ram.size() == 0x0100_0000 {
+        for (address, at, byte) in [
+            (0x00FE_FFC0, 62, 0),
+            (0x00FE_FFC0, 63, 7),
+            (0x00FF_FFC0, 63, 7),
+        ] {
+            assert_eq!(rt;
+                ram.line(Line::of(address)).get(at, 1),
+                byte,
+                "{at} of {address}"
+            );
+        }
+    }
+    Ok(())
+}
+
 #[test]
 fn lines_are_read_and_written(rt: HostRuntime) -> Result<(), Fail> {
     let read = read_image(rt.alloc(), &TWO_SEGMENTS).ok().ok_or("memory")?;

@@ -1,11 +1,12 @@
-//! The program as a function of the runtime, for every program crate whose `main` is to do this work.
+//! The program as a function of the runtime, for every program crate whose `main` does this work.
 #![tactic(auto)]
 
 ghost use Rattle.std.specs.Prelude.{◌≡◌, IfOk, IfErr, OnErr, IfSome};
 ghost use Rattle.std.specs.IoError.{error_kind};
 ghost use Rattle.std.specs.Process.{exit_status};
 ghost use Rattle.axp_top.specs.Answers.{answer_of, asks_of};
-ghost use Rattle.axp_top.specs.Statuses.{AsksFront, DeskCount, Settles, SinkCount, number_of_status};
+ghost use Rattle.axp_top.specs.Statuses.{AsksFront, DeskCount, Settles, SinkCount};
+ghost use Rattle.axp_top.specs.Statuses.{number_of_status};
 ghost use Rattle.axp_top.specs.Words.{order_of};
 ghost use Rattle.axp_top.specs.declared.status.Status.{Status};
 ghost use Rattle.axp_program.specs.Numbers.{IsExitNumber, number_without_words};
@@ -22,7 +23,7 @@ use std::rt::Files;
 /// The number that the process ends with where the system does not give the words.
 const REFUSED_WORDS: u8 = 17;
 
-/// Does what the words of the command line say, with the runtime's files and its standard output, and
+/// Does what the words of the command line say, with the runtime's files and standard output, and
 /// answers what the process ends with: `docs/FORMATS.md` has the numbers.
 pub fn run<R: Env + Files + Print + AllocGlobal>(rt: &R) -> ExitCode
     ensures { IsExitNumber (exit_status result) }
@@ -40,11 +41,12 @@ fn serve_words<D: Desk, K: Sink>(
     desk: &mut D,
     sink: &mut K,
 ) -> u8
-    // The number is that of a status, and the text, the counts and the asks are those of the words and
-    // of this status.
+    // The number is that of a status, and the text and the counts are those of the words and of
+    // this status.
     ensures served { IfOk words (λ words. (status : Status) × (result ≡ number_of_status status)
-        × IfSome (answer_of (order_of words.items) (D.told desk.old)) (λ answer. Settles (K.taken sink.old)
-        (K.taken sink.new) (D.faults desk.old) (D.faults desk.new) answer status)
+        × IfSome (answer_of (order_of words.items) (D.told desk.old))
+        (λ answer. Settles (K.taken sink.old) (K.taken sink.new)
+        (D.faults desk.old) (D.faults desk.new) answer status)
         × SinkCount (K.faults sink.old) (K.faults sink.new) status
         × DeskCount (D.faults desk.old) (D.faults desk.new) status) }
     ensures asks { IfOk words (λ words. AsksFront (D.asks desk.old) (D.asks desk.new)
