@@ -73,7 +73,7 @@ wanted_fits size None can = tt
 wanted_fits size (Some w) can = small_fits w.kind w.size w.value can.small
 
 -- a processor that wants an access is not finished, and the access is the plan's
-wanted_parts : (s : Seat) (w : Wanted) (finished : Bool) → is_finished s ≡ finished → cond finished None (seats.wanted_by (plan_now s)) ≡ Some w → (finished ≡ false) × (seats.wanted_by (plan_now s) ≡ Some w)
+pub wanted_parts : (s : Seat) (w : Wanted) (finished : Bool) → is_finished s ≡ finished → cond finished None (seats.wanted_by (plan_now s)) ≡ Some w → (finished ≡ false) × (seats.wanted_by (plan_now s) ≡ Some w)
 wanted_parts s w true is e = cc
 wanted_parts s w false is e = (refl, e)
 

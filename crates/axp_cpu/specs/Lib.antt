@@ -6,6 +6,7 @@ pub mod Refusals
 pub mod Phases
 pub mod Seats
 pub mod Following
+pub mod Showing
 pub mod Soundness
 pub mod Stands
 pub mod Actors

@@ -1,5 +1,6 @@
 -- What a phase of the code still has to do, as a plan.
-use Rattle.std.specs.Prelude.{ℕ, ◌*◌, ◌<◌, ◌^◌, true, false}
+use Rattle.std.specs.Prelude.{◌≡◌, Bool, if◌then◌else◌, ℕ, ◌*◌, ◌<◌, ◌^◌, true, false}
+use Rattle.axp_access.specs.Kinds.{is_fetch}
 use Rattle.axp_access.specs.declared.Wanted.{Wanted}
 use Rattle.axp_regs.specs.declared.states.TheConstants.{REGISTERS}
 use Rattle.axp_cpu.specs.declared.phases.Phase.{Phase}
@@ -9,7 +10,7 @@ use Rattle.axp_cpu.specs.declared.phases.Then.TheVariants as next
 use Rattle.axp_cpu.specs.declared.tables.Table.{Table}
 use Rattle.axp_cpu.specs.Plans.{Plan, End, Want, Unbuilt}
 use Rattle.axp_cpu.specs.Rows.{as_longword, as_read, next_plan, plan_of_word}
-use Rattle.axp_cpu.specs.Tables.{with_lock_flag}
+use Rattle.axp_cpu.specs.Tables.{with_fetch_counted, with_lock_flag}
 
 -- what follows an access, by the value that it gave
 abbrev pub after : ℕ → Table → Then → ℕ → Plan
@@ -21,6 +22,15 @@ after size t (next.LoadLockedLong a) v = as_longword (with_lock_flag t true) a v
 after size t (next.Conclude a) v = as_read (with_lock_flag t false) a v
 after size t next.Finish v = next_plan t
 after size t next.Translate v = Unbuilt
+
+-- what follows is the instruction that was fetched
+abbrev pub is_instruction : Then → Bool
+is_instruction next.Instruct = true
+is_instruction _ = false
+
+-- the table state once the access is made: a fetch is counted
+abbrev pub table_after : Then → Table → Table
+table_after next t = if is_instruction next then with_fetch_counted t else t
 
 abbrev pub plan_of : ℕ → Table → Phase → Plan
 plan_of size t (phase.Makes w next) = Want w (after size t next)
@@ -38,9 +48,10 @@ FollowFits (next.Conclude a) = a < REGISTERS
 FollowFits next.Finish = Unit {0}
 FollowFits next.Translate = Unit {0}
 
--- and what is stored has the access's size
+-- what is stored has the access's size, and an instruction follows exactly a fetch
 pub record Fits (w : Wanted) (next : Then) : Type 0 where
   pub value : w.value < 2 ^ (8 * w.size)
+  pub fetch : is_fetch w.kind ≡ is_instruction next
   pub follow : FollowFits next
 
 abbrev pub PhaseFits : Phase → Type 0

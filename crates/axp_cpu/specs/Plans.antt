@@ -1,5 +1,6 @@
 -- A group of accesses is a plan: an end, or a wanted access and what follows for each value.
-use Rattle.std.specs.Prelude.{ℕ, Bool, true, false, List, [], ◌∷◌}
+use Rattle.std.specs.Prelude.{ℕ, ◌+◌, if◌then◌else◌, Bool, true, false, List, [], ◌∷◌}
+use Rattle.axp_access.specs.Kinds.{is_fetch}
 use Rattle.axp_access.specs.declared.Wanted.{Wanted}
 use Rattle.axp_cpu.specs.declared.tables.Table.{Table}
 
@@ -21,6 +22,17 @@ given v Unbuilt = Unbuilt
 abbrev pub along : List ℕ → Plan → Plan
 along [] p = p
 along (v ∷ vs) p = along vs (given v p)
+
+-- 1 where the wanted access is a fetch
+abbrev pub fetch_of : Plan → ℕ
+fetch_of (End t) = 0
+fetch_of (Want w k) = if is_fetch w.kind then 1 else 0
+fetch_of Unbuilt = 0
+
+-- how many of the accesses that gave these values are fetches
+abbrev pub fetches : List ℕ → Plan → ℕ
+fetches [] p = 0
+fetches (v ∷ vs) p = fetch_of p + fetches vs (given v p)
 
 -- the plan does not stand before what is not built
 abbrev pub is_built : Plan → Bool

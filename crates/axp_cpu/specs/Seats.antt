@@ -7,11 +7,13 @@ use Rattle.axp_image.specs.Contents.{Contents}
 use Rattle.axp_regs.specs.States.{first_state, locked_of, ps_of, with_pc, with_ptbr, with_register}
 use Rattle.axp_regs.specs.declared.states.State.{State}
 use Rattle.axp_cpu.specs.declared.tables.Table.{Table}
-use Rattle.axp_cpu.specs.Plans.{Plan, End, Want, Unbuilt, along, is_built}
+use Rattle.axp_cpu.specs.Plans.{Plan, End, Want, Unbuilt, along, fetches, is_built}
 use Rattle.axp_cpu.specs.Rows.{group}
+use Rattle.axp_cpu.specs.Tables.{counted_by}
 
--- where a processor stands: the size of memory, how many processors there are, the budget of steps, the table state at the start of its
--- group, the values that the group's accesses gave so far, and the steps made
+-- where a processor stands: the size of memory, how many processors there are, the budget of steps, the
+-- table state at the start of its group, the values that the group's accesses gave so far, and the steps
+-- made
 pub record Seat : Type 0 where
   pub size : ℕ
   pub cpus : ℕ
@@ -33,6 +35,10 @@ first_seat image cpus budget p = record { size = image.size; cpus = cpus; budget
 -- what the group still has to do
 abbrev pub plan_now : Seat → Plan
 plan_now s = along s.values (group s.size s.start)
+
+-- the table state as it is now: each fetch is counted as it is made, all else changes with the group's end
+abbrev pub table_now : Seat → Table
+table_now s = counted_by (fetches s.values (group s.size s.start)) s.start
 
 -- halted, or with its budget of steps made
 abbrev pub is_finished : Seat → Bool

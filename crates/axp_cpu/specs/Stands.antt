@@ -10,9 +10,8 @@ use Rattle.axp_base.specs.Lists.{is_empty}
 use Rattle.axp_cpu.specs.Phases.{Fits, after}
 use Rattle.axp_cpu.specs.Plans.{Plan, Want}
 use Rattle.axp_cpu.specs.Rows.{group}
-use Rattle.axp_cpu.specs.Seats.{Seat, is_finished, is_built_after, plan_now, seat_after_value}
+use Rattle.axp_cpu.specs.Seats.{Seat, is_finished, is_built_after, plan_now, seat_after_value, table_now}
 use Rattle.axp_cpu.specs.Soundness.{IsSoundAs}
-use Rattle.axp_cpu.specs.Tables.{core}
 
 -- what a processor's group still has to do
 abbrev pub left_by : ℕ → Table → Option (Wanted × Then) → Plan
@@ -31,7 +30,7 @@ pub record Stands (p : Sequencer) (s : Seat) : Type 0 where
   pub size : p.size ≡ s.size
   pub cpus : p.cpus ≡ s.cpus
   pub budget : p.budget ≡ s.budget
-  pub core : core p.table ≡ core s.start
+  pub table : p.table ≡ table_now s
   pub plan : plan_left p ≡ plan_now s
   pub fits : MakesFit p.making
   pub boundary : is_none p.making ≡ is_empty s.values

@@ -1,5 +1,5 @@
 -- What a group of accesses makes of the table state.
-use Rattle.std.specs.Prelude.{ℕ, ◌+◌, ◌%◌, ◌^◌, Bool}
+use Rattle.std.specs.Prelude.{ℕ, zero, suc, ◌+◌, ◌%◌, ◌^◌, Bool}
 use Rattle.axp_base.specs.Numbers.{add}
 use Rattle.axp_image.specs.declared.limits.TheConstants.{INSTRUCTION_BYTES}
 use Rattle.axp_regs.specs.States.{pc_of, with_pc, with_register, with_locked, fetched_of, with_fetched}
@@ -22,13 +22,15 @@ with_value t n v = record t { state = with_register t.state n v }
 abbrev pub with_lock_flag : Table → Bool → Table
 with_lock_flag t armed = record t { state = with_locked t.state armed }
 
--- what changes with a group's end alone: all but the count of fetched instructions
-abbrev pub uncounted : State → State
-uncounted s = with_fetched s 0
-
-abbrev pub core : Table → Table
-core t = record t { state = uncounted t.state }
-
 -- with one instruction more fetched
 abbrev pub with_fetch_counted : Table → Table
 with_fetch_counted t = record t { state = with_fetched t.state ((fetched_of t.state + 1) % 2 ^ 32) }
+
+-- the count of fetched instructions after so many more
+abbrev pub count_after : ℕ → ℕ → ℕ
+count_after zero count = count
+count_after (suc n) count = (count_after n count + 1) % 2 ^ 32
+
+-- with so many instructions more fetched
+abbrev pub counted_by : ℕ → Table → Table
+counted_by n t = record t { state = with_fetched t.state (count_after n (fetched_of t.state)) }

@@ -1,5 +1,6 @@
 //! Laws of the instruction table, each proved as the contract of a function that does nothing.
-ghost use Rattle.std.specs.Prelude.{ℕ, false, not, ◌≡◌, Option, Some, None};
+ghost use Rattle.std.specs.Prelude.{ℕ, false, not, ◌≡◌, ◌≢◌, [], Option, Some, None, IfNone, IfSome};
+ghost use Rattle.axp_access.specs.declared.Access.{Access};
 ghost use Rattle.axp_access.specs.declared.Wanted.{Wanted};
 ghost use Rattle.axp_cpu.specs.declared.tables.Table.{Table};
 ghost use Rattle.axp_cpu.specs.Actors.{Actor, actor_intent};
@@ -7,11 +8,16 @@ ghost use Rattle.axp_cpu.specs.Addresses.{look_up_plan};
 ghost use Rattle.axp_cpu.specs.Plans.{given, is_built};
 ghost use Rattle.axp_cpu.specs.Refusals.{is_begun, is_refused};
 ghost use Rattle.axp_cpu.specs.Rows.{group, row};
-ghost use Rattle.axp_cpu.specs.Seats.{is_built_after};
+ghost use Rattle.axp_cpu.specs.Seats.{Seat, is_built_after};
+ghost use Rattle.axp_cpu.specs.Showing.{IsAccessOf, lock_flag, register_value, seat_shown, state_shown};
 ghost use Rattle.axp_cpu.specs.Soundness.{AnswersEnd};
+ghost use Rattle.axp_cpu.specs.Tables.{next_pc};
 ghost use Rattle.axp_decode.specs.declared.instructions.Instr.{Instr};
+ghost use Rattle.axp_decode.specs.declared.names.MemOp.{MemOp};
 ghost use Rattle.axp_line.specs.declared.messages.Reply.{Reply};
 ghost use Rattle.axp_lsu.specs.Going.{value_of};
+ghost use Rattle.axp_regs.specs.States.{locked_of, pc_of, register};
+ghost use Rattle.axp_regs.specs.declared.states.TheConstants.{ZERO_REGISTER};
 
 /// What is not built: a group that can begin with no access, since its instruction's address is in the
 /// kernel segment and not in memory, or its page cannot be looked up; what a look-up leads to; and exactly
@@ -28,4 +34,25 @@ pub fn answered_values_end_groups()
     ensures ends { (size : ℕ) (t : Table) → AnswersEnd (group size t) }
     ensures built { (a : Actor) (w : Wanted) (r : Option Reply) → (actor_intent a).wanted ≡ Some w
         → is_built_after a.seat (value_of w a.kept r) ≡ is_built_after a.seat (value_of w a.kept None) }
+{}
+
+/// The instruction gets what its access shows. After the Step of a load's access, Ra (but for R31) has the
+/// value that is shown, a longword sign-extended; after that of a store-conditional, 1 where it succeeded
+/// and else 0; no other register changes, and none by a store. A load-locked sets the lock flag, a
+/// store-conditional clears it. The instruction ends there, and the next one follows.
+pub fn registers_get_what_is_shown()
+    ensures register { (s : Seat) (op : MemOp) (a : ℕ) (x : Access) → IsAccessOf s op a x
+        → a ≢ ZERO_REGISTER
+        → IfSome (register_value op x) (λ v. register (state_shown s x) a ≡ v) }
+    ensures others { (s : Seat) (op : MemOp) (a : ℕ) (x : Access) → IsAccessOf s op a x
+        → (n : ℕ) → n ≢ a → register (state_shown s x) n ≡ register s.start.state n }
+    ensures stores { (s : Seat) (op : MemOp) (a : ℕ) (x : Access) → IsAccessOf s op a x
+        → IfNone (register_value op x)
+            ((n : ℕ) → register (state_shown s x) n ≡ register s.start.state n) }
+    ensures flag { (s : Seat) (op : MemOp) (a : ℕ) (x : Access) → IsAccessOf s op a x
+        → locked_of (state_shown s x) ≡ lock_flag op (locked_of s.start.state) }
+    ensures ends { (s : Seat) (op : MemOp) (a : ℕ) (x : Access) → IsAccessOf s op a x
+        → (seat_shown s x).values ≡ [] }
+    ensures next { (s : Seat) (op : MemOp) (a : ℕ) (x : Access) → IsAccessOf s op a x
+        → pc_of (state_shown s x) ≡ next_pc s.start }
 {}

@@ -14,7 +14,7 @@ mod sequencers;
 mod tables;
 
 pub use axp_lsu::Ask2;
-pub use laws::{answered_values_end_groups, what_is_not_built};
+pub use laws::{answered_values_end_groups, registers_get_what_is_shown, what_is_not_built};
 pub use processors::Processor;
 pub use refusals::Refusal;
 pub use sequencers::Sequencer;

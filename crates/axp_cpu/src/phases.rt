@@ -2,10 +2,10 @@
 ghost use Rattle.std.specs.Prelude.{◌≡◌, ◌<◌, ℕ};
 ghost use Rattle.axp_cpu.specs.declared.tables.Table.{Table};
 ghost use Rattle.axp_cpu.specs.Addresses.{aligned_plan, first_entry, in_kseg, look_up_plan, memory_plan};
-ghost use Rattle.axp_cpu.specs.Phases.{after, plan_of, Fits, FollowFits, PhaseFits};
+ghost use Rattle.axp_cpu.specs.Phases.{after, plan_of, table_after, Fits, FollowFits, PhaseFits};
 ghost use Rattle.axp_cpu.specs.Plans.{End, is_built};
 ghost use Rattle.axp_cpu.specs.Rows.{next_plan, group, halt_plan, register_plan, register_plan_at};
-ghost use Rattle.axp_cpu.specs.Tables.{at_pc, core};
+ghost use Rattle.axp_cpu.specs.Tables.{at_pc};
 ghost use Rattle.axp_regs.specs.States.{ptbr_of};
 ghost use Rattle.axp_regs.specs.declared.states.TheConstants.{REGISTERS};
 
@@ -107,13 +107,13 @@ fn first_entry(table: u64, address: u64) -> u64
     table.wrapping_mul(PAGE_BYTES).wrapping_add(8 * index)
 }
 
-/// What is left of a group once its wanted access gave this value. A fetch counts in the table state,
-/// which else changes with the group's end alone.
+/// What is left of a group once its wanted access gave this value. A fetch is counted in the table
+/// state, which else changes with the group's end alone.
 pub fn resume(size: u64, table: &mut Table, then: Then, value: u64) -> Phase
     requires { FollowFits then }
     ensures plan { plan_of size table.new result ≡ after size table.old then value }
     ensures fits { PhaseFits result }
-    ensures core { core table.new ≡ core table.old }
+    ensures table { table.new ≡ table_after then table.old }
 {
     match then {
         Then::Instruct => {

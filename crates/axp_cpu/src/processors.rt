@@ -6,9 +6,9 @@ ghost use Rattle.axp_lsu.specs.Fitting.{ShowsFitting};
 ghost use Rattle.axp_lsu.specs.Within.{IsAskWithin};
 ghost use Rattle.axp_cpu.specs.Actors.{Actor, actor_intent, advanced, first_actor, is_built, moved_by, outcome_of, request_of, seat_after, step_built};
 ghost use Rattle.axp_cpu.specs.ActorStands.{IsAnswered, IsAt, IsMovable, IsSeated, IsSeatedWith};
-ghost use Rattle.axp_cpu.specs.Seats.{is_finished};
+ghost use Rattle.axp_cpu.specs.Following as following;
+ghost use Rattle.axp_cpu.specs.Seats.{is_finished, table_now};
 ghost use Rattle.axp_cpu.specs.Stands.{Stands};
-ghost use Rattle.axp_cpu.specs.Tables.{uncounted};
 
 use crate::refusals::Refusal;
 use crate::sequencers::Sequencer;
@@ -47,10 +47,10 @@ impl Processor {
         }
     }
 
-    /// The registers: those at the start of the group of accesses, but for the count of fetched
-    /// instructions, which changes with the fetch.
+    /// The state as it is now: that at the start of the group of accesses, but for the count of
+    /// fetched instructions, which rises with each fetch.
     pub fn state(&self) -> &State
-        ensures { (a : Actor) → IsAt self.now a → uncounted result.now ≡ uncounted a.seat.start.state }
+        ensures { (a : Actor) → IsAt self.now a → result.now ≡ (table_now a.seat).state }
     {
         self.sequencer.state()
     }
@@ -131,13 +131,16 @@ impl Processor {
         }
     }
 
-    /// Does an act that was asked for, with the bus's answer where it asked, and tells its outcome.
+    /// Does an act that was asked for, with the bus's answer where it asked, and tells its outcome. It
+    /// goes on with the value that the outcome shows.
     #[tactic(auto, unfolding(crate::specs::Actors::outcome_of, crate::specs::Actors::advanced))]
     pub fn advance(&mut self, act: Act, reply: Option<Reply>) -> Outcome
         requires { IsAnswered self.old act reply }
         ensures outcome { (a : Actor) → IsAt self.old a → result ≡ outcome_of a act reply }
         ensures fits { ShowsFitting result }
         ensures at { (a : Actor) → IsAt self.old a → IsAt self.new (advanced a act reply) }
+        ensures shown { (a : Actor) → IsAt self.old a
+            → (advanced a act reply).seat ≡ following.seat_after act result a.seat }
     {
         let intent = self.sequencer.intent();
         let sequencer = self.moved(act, intent.wanted, reply);

@@ -1,7 +1,8 @@
 //! The rows of the instruction table.
-ghost use Rattle.std.specs.Prelude.{◌≡◌, ◌<◌, ℕ};
+ghost use Rattle.std.specs.Prelude.{◌≡◌, ◌<◌, ℕ, false};
+ghost use Rattle.axp_access.specs.Kinds.{is_fetch};
 ghost use Rattle.axp_cpu.specs.declared.tables.Table.{Table};
-ghost use Rattle.axp_cpu.specs.Phases.{after, plan_of, FollowFits, PhaseFits};
+ghost use Rattle.axp_cpu.specs.Phases.{after, is_instruction, plan_of, FollowFits, PhaseFits};
 ghost use Rattle.axp_cpu.specs.Rows.{address_of, branch_goal, branch_row, cycle_counter, barrier_plan, high_address_of, jump_row, load_locked_plan, load_plan, memory_row, misc_row, operand, operate_row, pal_row, quadword_at, row, store_conditional_plan, store_plan};
 ghost use Rattle.axp_decode.specs.Format.{FieldsFit, OperandFits};
 ghost use Rattle.axp_regs.specs.declared.states.TheConstants.{REGISTERS};
@@ -99,7 +100,8 @@ fn quadword(address: u64) -> u64
 
 /// A load, and what follows with its value; into R31 it does nothing.
 fn load(size: u64, table: &Table, what: Size, a: u8, address: u64, then: Then) -> Phase
-    requires { FollowFits then }
+    requires fits { FollowFits then }
+    requires ends { is_instruction then ≡ false }
     ensures plan { plan_of size table.now result ≡ load_plan size table.now what a address (after size table.now then) }
     ensures fits { PhaseFits result }
 {
@@ -132,7 +134,8 @@ fn store(size: u64, table: &Table, what: Size, a: u8, address: u64) -> Phase
 
 /// A load-locked, and what follows with its value; into R31 too it makes its access.
 fn load_locked_plan(size: u64, table: &Table, what: Size, address: u64, then: Then) -> Phase
-    requires { FollowFits then }
+    requires fits { FollowFits then }
+    requires ends { is_instruction then ≡ false }
     ensures plan { plan_of size table.now result ≡ load_locked_plan size what address (after size table.now then) }
     ensures fits { PhaseFits result }
 {
@@ -253,6 +256,7 @@ fn misc(table: &Table, op: MiscOp, a: u8) -> Phase
 
 /// A barrier: an access that names no memory, and then the end.
 fn fence(kind: Kind) -> Phase
+    requires { is_fetch kind ≡ false }
     ensures plan { (size : ℕ) (t : Table) → plan_of size t result ≡ barrier_plan t kind }
     ensures fits { PhaseFits result }
 {

@@ -1,8 +1,7 @@
 ghost use Rattle.std.specs.Prelude.{◌≡◌, IfSome};
 ghost use Rattle.axp_base.specs.Cpus.{cpu_number};
 ghost use Rattle.axp_cpu.specs.Phases.{plan_of, PhaseFits};
-ghost use Rattle.axp_cpu.specs.Seats.{Seat, first_seat, intent_of, is_finished, wanted};
-ghost use Rattle.axp_cpu.specs.Tables.{uncounted};
+ghost use Rattle.axp_cpu.specs.Seats.{Seat, first_seat, intent_of, is_finished, table_now, wanted};
 ghost use Rattle.axp_cpu.specs.Stands.{Going, GoesOn, IsMakeable, MakesFit, Standing, Stands, plan_left};
 
 use crate::phases::{Phase, Then, begin, resume};
@@ -49,10 +48,10 @@ impl Sequencer {
         }
     }
 
-    /// The registers: those at the start of the group of accesses, but for the count of fetched
-    /// instructions, which changes with the fetch.
+    /// The state as it is now: that at the start of the group of accesses, but for the count of
+    /// fetched instructions, which rises with each fetch.
     pub fn state(&self) -> &State
-        ensures { (s : Seat) → Stands self.now s → uncounted result.now ≡ uncounted s.start.state }
+        ensures { (s : Seat) → Stands self.now s → result.now ≡ (table_now s).state }
     {
         &self.table.state
     }

@@ -44,7 +44,7 @@ request_turn (request.Conditional address size value armed) (reply.Stored turn b
 request_turn (request.Conditional address size value armed) (reply.Refused turn) h = h
 request_turn (request.Barrier held) (reply.Barrier turn gone) h = h
 request_turn (request.CodeBarrier held) (reply.Barrier turn gone) h = h
-request_turn (request.Take bank) (reply.Late line turn) h = h.1
+request_turn (request.Take bank) (reply.Late line turn) h = h
 request_turn (request.Poll low) (reply.Polled pending turn) h = h
 request_turn (request.Signal target) (reply.Signalled turn) h = h
 request_turn (request.Console byte) (reply.Printed turn) h = h

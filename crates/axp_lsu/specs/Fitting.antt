@@ -1,6 +1,5 @@
 -- Which answers fit what was asked, and conditions under which all of it fits its numbers.
-use Rattle.std.specs.Prelude.{◌≡◌, ℕ, ◌*◌, ◌^◌, ◌<◌, ◌≤◌, true, Option, Some, None}
-use Rattle.axp_base.specs.Lines.{line_number, in_bank}
+use Rattle.std.specs.Prelude.{ℕ, ◌*◌, ◌^◌, ◌<◌, ◌≤◌, Option, Some, None}
 use Rattle.axp_line.specs.declared.messages.Reply.{Reply}
 use Rattle.axp_line.specs.declared.messages.Reply.TheVariants as reply
 use Rattle.axp_line.specs.declared.messages.Request.{Request}
@@ -19,8 +18,8 @@ use Rattle.axp_lsu.specs.Within.{IsKeptWithin, IsWantedWithin}
 abbrev pub IsTurn : ℕ → Type 0
 IsTurn turn = turn < 2 ^ 32
 
--- what the bus may answer to a request; a Take is answered with a line of its bank, since an act that
--- finds nothing late is not legal
+-- the answer is of the request's kind, which is never that nothing was late, and its turn is a number of
+-- 32 bits
 abbrev pub FitsRequest : Request → Reply → Type 0
 FitsRequest (request.Fill line) (reply.Line turn bytes) = IsTurn turn
 FitsRequest (request.FillCode line) (reply.Line turn bytes) = IsTurn turn
@@ -30,13 +29,13 @@ FitsRequest (request.Conditional address size value armed) (reply.Stored turn by
 FitsRequest (request.Conditional address size value armed) (reply.Refused turn) = IsTurn turn
 FitsRequest (request.Barrier held) (reply.Barrier turn gone) = IsTurn turn
 FitsRequest (request.CodeBarrier held) (reply.Barrier turn gone) = IsTurn turn
-FitsRequest (request.Take bank) (reply.Late line turn) = (in_bank bank (line_number line) ≡ true) × IsTurn turn
+FitsRequest (request.Take bank) (reply.Late line turn) = IsTurn turn
 FitsRequest (request.Poll low) (reply.Polled pending turn) = IsTurn turn
 FitsRequest (request.Signal target) (reply.Signalled turn) = IsTurn turn
 FitsRequest (request.Console byte) (reply.Printed turn) = IsTurn turn
 FitsRequest _ _ = ⊥
 
--- an act is allowed, and the answer is of the kind that it asked for
+-- the act is allowed, and the answer fits what it asked; one that asks nothing has none
 abbrev pub ReplyFits : Option Ask2 → Option Reply → Type 0
 ReplyFits (Some ask.Private) None = Unit {0}
 ReplyFits (Some (ask.Bus q)) (Some r) = FitsRequest q r

@@ -1,9 +1,10 @@
 //! Acts on one unit, worked out by hand. A unit that keeps its bounds is driven with answers that fit.
 ghost use Rattle.std.specs.Prelude.{ℕ, ◌≡◌, ◌^◌, ◌<◌, ◌≤◌, IsTrue};
+ghost use Rattle.axp_base.specs.declared.lines.Line.{Line};
 ghost use Rattle.axp_line.specs.declared.contents.LineData.{LineData};
 ghost use Rattle.axp_line.specs.declared.messages.Reply.TheVariants as reply;
 ghost use Rattle.axp_lsu.specs.Asking.{ask_of};
-ghost use Rattle.axp_lsu.specs.Fitting.{ReplyFits, FitsRequest, IsWantedInSome, IsWithinSome};
+ghost use Rattle.axp_lsu.specs.Fitting.{FitsRequest, IsWantedInSome, IsWithinSome, ReplyFits};
 ghost use Rattle.axp_lsu.specs.Within.{IsInMemory, IsKeptWithin, IsWantedBy, IsWantedWithin};
 
 use super::*;
@@ -142,7 +143,7 @@ fn answers_request(request: &Request, reply: Reply) -> bool
         Reply::Line { turn, .. } => is_read(request) && is_small(turn),
         Reply::Stored { turn, .. } => is_write(request) && is_small(turn),
         Reply::Barrier { turn, .. } => is_barrier(request) && is_small(turn),
-        Reply::Late { line, turn } => is_take(request, line) && is_small(turn),
+        Reply::Late { turn, .. } => is_take(request) && is_small(turn),
         _ => false,
     }
 }
@@ -178,11 +179,11 @@ fn is_barrier(request: &Request) -> bool
     }
 }
 
-fn is_take(request: &Request, line: Line) -> bool
-    ensures { (turn : ℕ) → IsTrue result → turn < 2 ^ 32 → FitsRequest request.now (reply.Late line turn) }
+fn is_take(request: &Request) -> bool
+    ensures { (line : Line) (turn : ℕ) → IsTrue result → turn < 2 ^ 32 → FitsRequest request.now (reply.Late line turn) }
 {
     match request {
-        Request::Take { bank } => *bank == line.bank(),
+        Request::Take { .. } => true,
         _ => false,
     }
 }

@@ -1,6 +1,5 @@
 -- What a granted event asks lies in memory, and the bus's answer fits it.
 use Rattle.std.proofs.Common.{◌≡◌, ℕ, ◌+◌, ◌^◌, ◌<◌, ◌&&◌, Bool, true, false, cond, List, [], ◌∷◌, length, slice_get, Option, Some, None, arith, refl, subst}
-use Rattle.std.specs.List.{AllByRecursion}
 use Rattle.std.specs.Prelude.{Ok}
 use Rattle.axp_access.specs.declared.Act.{Act}
 use Rattle.axp_access.specs.declared.Act.TheVariants as act
@@ -33,7 +32,6 @@ use Rattle.axp_model.specs.Legal.{is_timely}
 use Rattle.axp_wbuf.specs.Drains.{oldest_group}
 use Rattle.axp_wbuf.specs.Pending.{Pending}
 use Rattle.axp_base.specs.Lines.{line_at, line_of}
-use Rattle.axp_laws.proofs.RunRecords.{InBank}
 use Rattle.axp_base.specs.LatePairs.{AreBefore}
 use Rattle.axp_regs.specs.declared.asks.Kind.{Kind}
 use Rattle.axp_regs.specs.declared.asks.Kind.TheVariants as kind
@@ -140,16 +138,15 @@ tried_fits : (stored : Bool) (f : PortState) (w : Option Written) (line : Line) 
 tried_fits true f w line address size value armed few = few
 tried_fits false f w line address size value armed few = omega (arith, few)
 
-first_fits : (bank : Bank) (pairs : List (Line × ℕ)) (turns : ℕ) → turns + 1 < 2 ^ 32 → AllByRecursion (InBank bank) pairs → AreBefore (turns + 1) pairs → (first_late pairs ≡ reply.Nothing → ⊥) → FitsRequest (request.Take bank) (first_late pairs)
-first_fits bank [] turns few inside before something = absurd (something refl)
-first_fits bank ((line, turn) ∷ pairs) turns few inside before something = (inside.0, let first = before.0 in omega (arith, few, first))
+first_fits : (bank : Bank) (pairs : List (Line × ℕ)) (turns : ℕ) → turns + 1 < 2 ^ 32 → AreBefore (turns + 1) pairs → (first_late pairs ≡ reply.Nothing → ⊥) → FitsRequest (request.Take bank) (first_late pairs)
+first_fits bank [] turns few before something = absurd (something refl)
+first_fits bank ((line, turn) ∷ pairs) turns few before something = let first = before.0 in omega (arith, few, first)
 
--- what is late is in its bank, from turns that were made
-pub record IsLateWell (f : PortState) (bank : Bank) : Type 0 where
-  pub inside : AllByRecursion (InBank bank) (late_in f bank)
-  pub before : AreBefore (f.turns + 1) (late_in f bank)
+-- what is late is of turns that were made
+abbrev pub IsLateMade : PortState → Bank → Type 0
+IsLateMade f bank = AreBefore (f.turns + 1) (late_in f bank)
 
-pub reply_fits : (q : Request) (f : PortState) → f.turns + 1 < 2 ^ 32 → ((bank : Bank) → IsLateWell f bank) → (reply_by f q ≡ reply.Nothing → ⊥) → FitsRequest q (reply_by f q)
+pub reply_fits : (q : Request) (f : PortState) → f.turns + 1 < 2 ^ 32 → ((bank : Bank) → IsLateMade f bank) → (reply_by f q ≡ reply.Nothing → ⊥) → FitsRequest q (reply_by f q)
 unfolding reply_by
 reply_fits (request.Fill line) f few late something = omega (arith, few)
 reply_fits (request.FillCode line) f few late something = omega (arith, few)
@@ -158,7 +155,7 @@ reply_fits (request.Locked address) f few late something = omega (arith, few)
 reply_fits (request.Conditional address size value armed) f few late something = tried_fits (armed && is_allowed address f.block) f _ (line_at address) address size value armed few
 reply_fits (request.Barrier held) f few late something = omega (arith, few)
 reply_fits (request.CodeBarrier held) f few late something = omega (arith, few)
-reply_fits (request.Take bank) f few late something = first_fits bank (late_in f bank) f.turns few (late bank).inside (late bank).before something
+reply_fits (request.Take bank) f few late something = first_fits bank (late_in f bank) f.turns few (late bank) something
 reply_fits (request.Poll below) f few late something = omega (arith, few)
 reply_fits (request.Signal target) f few late something = few
 reply_fits (request.Console byte) f few late something = omega (arith, few)

@@ -6,7 +6,6 @@ use Rattle.std.proofs.lemmas.List.{length-reverse, reverse-append}
 use Rattle.std.proofs.lemmas.Option.{get_or_from_slice_get, slice_get-get_or, slice_get_within}
 use Rattle.std.proofs.lemmas.Bool.{cases_Bool, eqb-true, eq-eqb}
 use Rattle.std.proofs.lemmas.Nat.{mul-le}
-use Rattle.std.specs.List.{AllByRecursion}
 use Rattle.std.specs.Prelude.{Ok}
 use Rattle.std.specs.Vec.{vec_capacity}
 use Rattle.axp_access.specs.Spelling.{Spells}
@@ -34,7 +33,6 @@ use Rattle.axp_lsu.specs.declared.asks.Ask2.{Ask2}
 use Rattle.axp_lsu.specs.declared.asks.Ask2.TheVariants as ask
 use Rattle.axp_line.specs.BusCalls.{BusCall}
 use Rattle.axp_line.specs.BusReply.{port_state}
-use Rattle.axp_laws.proofs.RunRecords.{InBank, late_in}
 use Rattle.axp_wbuf.specs.Pending.{IsTidy}
 use Rattle.axp_world.specs.declared.lengths.TheConstants.{EVENTS_PER_STEP}
 use Rattle.axp_world.specs.Worlds as worlds
@@ -47,7 +45,7 @@ use Rattle.axp_machine.specs.declared.machine.Machine.TheInside.{Inside}
 use Rattle.axp_machine.specs.Playing.{MayAnswer, granted_in, actor_of}
 use Rattle.axp_machine.specs.Runs.{Seen, answer_of, with_record, world_of}
 use Rattle.axp_machine.specs.Ties.{AreAskedWithin, AreSeated, Ties, history, seen}
-use Rattle.axp_machine.proofs.AskLemmas.{IsLateWell, asked_may, may_ask_for, reply_fits}
+use Rattle.axp_machine.proofs.AskLemmas.{IsLateMade, asked_may, may_ask_for, reply_fits}
 use Rattle.axp_machine.proofs.GrantLemmas.{IsGranted, granted_is, outcome_in}
 use Rattle.axp_machine.proofs.LateLemmas.{IsToldWithin, told_within}
 use Rattle.axp_machine.proofs.RoomLemmas.{console_few, seat_size, steps_few}
@@ -115,19 +113,15 @@ pub can_answer : (a : Inside) (e : Event) (q : Ask2) → Ties a → IsGranted (s
 can_answer a e q ties is inside = by_found a e q (slice_get a.processors.items (cpu_number e.cpu)) refl ties is inside
 
 -- its answer fits
-late_well : (a : Inside) (p : ℕ) → Ties a → (bank : Bank) → IsLateWell (port_state (image_bytes a.image) (world_of (seen a)).calls p) bank
-late_well a p ties Even =
-    let is = joined a.image (length a.processors.items) a.budget (history a) ties.valid ties.run in
-    record { inside = subst (λ pairs. AllByRecursion (InBank Even) pairs) (sym (is.bus.pairs p Even)) (late_in p Even (history a)); before = (late_tidy p Even (world_of (seen a)).calls).made }
-late_well a p ties Odd =
-    let is = joined a.image (length a.processors.items) a.budget (history a) ties.valid ties.run in
-    record { inside = subst (λ pairs. AllByRecursion (InBank Odd) pairs) (sym (is.bus.pairs p Odd)) (late_in p Odd (history a)); before = (late_tidy p Odd (world_of (seen a)).calls).made }
-late_well a p ties Code = record { inside = tt; before = tt }
+late_made : (a : Inside) (p : ℕ) (bank : Bank) → IsLateMade (port_state (image_bytes a.image) (world_of (seen a)).calls p) bank
+late_made a p Even = (late_tidy p Even (world_of (seen a)).calls).made
+late_made a p Odd = (late_tidy p Odd (world_of (seen a)).calls).made
+late_made a p Code = tt
 
 by_ask : (a : Inside) (p : ℕ) (q : Ask2) → Ties a → a.bus.turns + 1 < 2 ^ 32 → (reply_for (image_bytes a.image) (world_of (seen a)).calls p (Ok q) ≡ Some reply.Nothing → ⊥) → ReplyFits (Some q) (reply_for (image_bytes a.image) (world_of (seen a)).calls p (Ok q))
 by_ask a p ask.Private ties few something = tt
 by_ask a p (ask.Bus q) ties few something =
-    reply_fits q (port_state (image_bytes a.image) (world_of (seen a)).calls p) (subst (λ n. n + 1 < 2 ^ 32) ties.bus.turns few) (late_well a p ties) (λ none. something (ap (λ (r : Reply). Some r) none))
+    reply_fits q (port_state (image_bytes a.image) (world_of (seen a)).calls p) (subst (λ n. n + 1 < 2 ^ 32) ties.bus.turns few) (late_made a p) (λ none. something (ap (λ (r : Reply). Some r) none))
 
 answer_fits : (a : Inside) (e : Event) (q : Ask2) (r : Option Reply) → Ties a → IsGranted (seen a) e q → r ≡ reply_for (image_bytes a.image) (world_of (seen a)).calls (cpu_number e.cpu) (Ok q) → ReplyFits (Some q) r
 answer_fits a e q r ties is answer = subst (λ (x : Option Reply). ReplyFits (Some q) x) (sym answer) (by_ask a (cpu_number e.cpu) q ties (has_room a e q ties is).few is.something)

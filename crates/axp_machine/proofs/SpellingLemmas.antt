@@ -201,7 +201,7 @@ drain_printed size k (Some p) e u r knows turn within at fits =
 
 -- a Take
 taken_printed : (size : ℕ) (b : Bank) (e : Event) (u : LocalMemory) (r : Option Reply) → Knows size u r → ReplyFits (Some (ask.Bus (request.Take b))) r → IsOutcomeOf (act.Take b) e (take_outcome u r)
-taken_printed size b e u (Some (reply.Late line turn)) knows fits = (line_printed size line knows.most knows.told, fits.1)
+taken_printed size b e u (Some (reply.Late line turn)) knows fits = (line_printed size line knows.most knows.told, fits)
 taken_printed size b e u _ knows fits = absurd fits
 
 take_printed : (size : ℕ) (b : Bank) (e : Event) (u : LocalMemory) (r : Option Reply) → Knows size u r → ReplyFits (take_ask b) r → IsOutcomeOf (act.Take b) e (take_outcome u r)

@@ -1,7 +1,9 @@
 ghost use Rattle.std.specs.Prelude.{◌≤◌};
 ghost use Rattle.axp_base.specs.declared.processors.TheConstants.{MAX_BUDGET};
 
+mod instructions;
 mod locks;
+mod tables;
 
 use super::*;
 use axp_access::{Access, Act, Event, Kind, Outcome, Place};

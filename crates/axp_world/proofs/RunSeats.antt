@@ -29,31 +29,9 @@ use Rattle.axp_model.specs.Records.{is_of}
 use Rattle.axp_regs.specs.declared.asks.Kind.{Kind}
 use Rattle.axp_regs.specs.declared.asks.Kind.TheVariants as kind
 use Rattle.axp_world.specs.Worlds.{IsPlayed, World, cpu_or_first, reply_at, world}
+use Rattle.axp_cpu.proofs.FollowingLemmas.{goes_as_shown}
 use Rattle.axp_world.proofs.Agreement.{world_intent}
 use Rattle.axp_world.proofs.PlayedRecords.{actor_other, actor_own, shown}
-
--- what a record shows of an access is what its instruction got
-value_same : (k : Kind) (c : Cpu) (w : Wanted) (u : LocalMemory) (r : Option Reply) (at : Place)
-    → following.value_by k (record { cpu = c; kind = k; address = w.address; size = w.size; value = shown_by k w u r; yes = success_by k r; place = at }) ≡ going.value_by k w u r
-value_same kind.Fetch c w u r at = refl
-value_same kind.Read c w u r at = refl
-value_same kind.Locked c w u r at = refl
-value_same kind.Conditional c w u r at = refl
-value_same _ c w u r at = refl
-
-step_same : (o : Option Wanted) (c : Cpu) (r : Option Reply) (a : Actor) → following.seat_after_step (going.step_outcome c o a.kept r) a.seat ≡ actors.moved_by o r a
-unfolding going.value_of
-step_same None c r a = refl
-step_same (Some w) c r a = ap (seat_after_value a.seat) (value_same w.kind c w a.kept r (going.place_by w.kind (line_of w.address) a.kept r))
-
-act_same : (e : Act) (c : Cpu) (r : Option Reply) (a : Actor) → following.seat_after e (going.outcome_by e c (actor_intent a) a.kept r) a.seat ≡ actors.seat_after e r a
-act_same act.Step c r a = step_same (actor_intent a).wanted c r a
-act_same _ c r a = refl
-
--- so a processor that acts is moved as its record says
-own_same : (a : Actor) (e : Act) (r : Option Reply) → following.seat_after e (outcome_of a e r) a.seat ≡ (advanced a e r).seat
-unfolding advanced outcome_of going.outcome_of
-own_same a e r = act_same e a.cpu r a
 
 -- at the start
 start_same : (image : Contents) (cpus budget p : ℕ) → p < MAX_CPUS → first_seat image cpus budget p ≡ (first_actor image cpus budget (cpu_or_first (cpu_of p))).seat
@@ -74,7 +52,7 @@ seats_agree image cpus budget (r ∷ h) played p less =
     let gave : r.outcome ≡ outcome_of (w.actors p) r.event.act (reply_at image w r.event) = s.outcome ∙ ap (λ n. outcome_of (w.actors n) r.event.act (reply_at image w r.event)) same in
     rw own (ap (λ x. following.seat_after r.event.act r.outcome x) before
     ∙ ap (λ o. following.seat_after r.event.act o (w.actors p).seat) gave
-    ∙ own_same (w.actors p) r.event.act (reply_at image w r.event)
+    ∙ sym (goes_as_shown (w.actors p) r.event.act (reply_at image w r.event))
     ∙ ap (λ (a : Actor). a.seat) (sym (actor_own image w r.event p own))))
     (λ (other : is_of p r ≡ false). rw other (before ∙ ap (λ (a : Actor). a.seat) (sym (actor_other image w r.event p other))))
     (cases_Bool (is_of p r))

@@ -1,0 +1,59 @@
+-- What a load, a store or a store-conditional makes of the registers, by what its access shows. It is said
+-- without plans.
+use Rattle.std.specs.Prelude.{◌≡◌, ℕ, ◌%◌, ◌^◌, Bool, true, false, if◌then◌else◌, List, [], ◌∷◌, length, Option, Some, None}
+use Rattle.axp_access.specs.declared.Access.{Access}
+use Rattle.axp_access.specs.declared.Act.TheVariants.{Step}
+use Rattle.axp_access.specs.declared.Outcome.TheVariants as outcome
+use Rattle.axp_access.specs.declared.Wanted.{Wanted}
+use Rattle.axp_base.specs.Numbers.{sign_extended}
+use Rattle.axp_decode.specs.Format.{instr_of}
+use Rattle.axp_decode.specs.declared.instructions.Instr.TheVariants.{Memory}
+use Rattle.axp_decode.specs.declared.names.MemOp.{MemOp}
+use Rattle.axp_decode.specs.declared.names.MemOp.TheVariants.{LDBU, LDWU, LDL, LDQ, LDQ_U, LDL_L, LDQ_L, STL_C, STQ_C}
+use Rattle.axp_regs.specs.declared.states.State.{State}
+use Rattle.axp_regs.specs.declared.states.TheConstants.{REGISTERS}
+use Rattle.axp_cpu.specs.Following.{seat_after}
+use Rattle.axp_cpu.specs.Seats.{Seat, wanted}
+
+-- what Ra becomes: the value that is shown, a longword sign-extended, or whether the store-conditional
+-- succeeded; None: no register changes
+abbrev pub register_value : MemOp → Access → Option ℕ
+register_value LDBU x = Some x.value
+register_value LDWU x = Some x.value
+register_value LDL x = Some (sign_extended 32 x.value)
+register_value LDQ x = Some x.value
+register_value LDQ_U x = Some x.value
+register_value LDL_L x = Some (sign_extended 32 x.value)
+register_value LDQ_L x = Some x.value
+register_value STL_C x = Some (if x.yes then 1 else 0)
+register_value STQ_C x = Some (if x.yes then 1 else 0)
+register_value _ x = None
+
+-- what the lock flag becomes: a load-locked sets it, a store-conditional clears it
+abbrev pub lock_flag : MemOp → Bool → Bool
+lock_flag LDL_L armed = true
+lock_flag LDQ_L armed = true
+lock_flag STL_C armed = false
+lock_flag STQ_C armed = false
+lock_flag _ armed = armed
+
+-- the group's one value so far is the word of an instruction of the memory format with this Ra, and the
+-- access is of the kind that it wants
+pub record IsAccessOf (s : Seat) (op : MemOp) (a : ℕ) (x : Access) : Type 0 where
+  pub word : ℕ
+  pub base : ℕ
+  pub displacement : ℕ
+  pub access : Wanted
+  pub fetched : s.values ≡ word ∷ []
+  pub stands_for : instr_of (word % 2 ^ 32) ≡ Memory op a base displacement
+  pub wants : wanted s ≡ Some access
+  pub kind : x.kind ≡ access.kind
+  pub registers : length s.start.state.registers ≡ REGISTERS
+
+-- the seat after a Step that shows this access
+abbrev pub seat_shown : Seat → Access → Seat
+seat_shown s x = seat_after Step (outcome.Access x) s
+
+-- and its state
+abbrev pub state_shown : Seat → Access → State
+state_shown s x = (seat_shown s x).start.state
