@@ -1,6 +1,6 @@
 -- Invalidations that come late, oldest first. Each is a pair: the line, and the number of the turn that
 -- wrote it.
-use Rattle.std.specs.Prelude.{◌≡◌, ℕ, ◌<◌, Bool, ◌==◌, ◌&&◌, nat_lt, List, [], ◌∷◌, Option, Some, None, slice_get, ◌+◌, if◌then◌else◌, ◌++◌}
+use Rattle.std.specs.Prelude.{◌≡◌, ℕ, ◌<◌, Bool, ◌==◌, ◌&&◌, nat_lt, List, [], ◌∷◌, Option, Some, None, slice_get, if◌then◌else◌, ◌++◌}
 use Rattle.std.specs.List.{list_any}
 use Rattle.axp_base.specs.Lines.{line_number, in_bank}
 use Rattle.axp_base.specs.declared.lines.Line.{Line}

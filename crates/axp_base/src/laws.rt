@@ -1,10 +1,24 @@
-//! Laws of parts of lists and of spans, each proved as the contract of a function that does nothing.
+//! Laws of limits, of parts of lists and of spans, each proved as the contract of a function that does nothing.
 ghost use Rattle.std.specs.Prelude.{ℕ, pos, int_lt, List, ◌≡◌, ◌+◌, ◌-◌, ◌*◌, ◌/◌, ◌%◌, ◌^◌, ◌<◌, ◌≤◌, ◌⊎◌, IsTrue, length, slice_index};
 ghost use Rattle.std.specs.Int.{cast_signed, w8, w16, w32};
-ghost use Rattle.axp_base.specs.declared.lines.TheConstants.{LINE_BYTES};
+ghost use Rattle.axp_base.specs.declared.limits.TheConstants.{BANK_COPIES, WBUF_ENTRIES};
+ghost use Rattle.axp_base.specs.declared.lines.TheConstants.{LINE_BYTES, LOCK_BYTES};
+ghost use Rattle.axp_base.specs.declared.processors.TheConstants.{MAX_BUDGET, MAX_CPUS, MIN_CPUS};
 ghost use Rattle.axp_base.specs.Masks.{IsSize, span_of, has_bit};
 ghost use Rattle.axp_base.specs.Numbers.{is_negative, sign_extended, signed};
 ghost use Rattle.axp_base.specs.Parts.{byte, part, with_part};
+
+/// The numbers of the machine: bytes of a line and of a block, entries of a write buffer, copies of
+/// a bank, processors and steps.
+pub fn limits_are_these()
+    ensures line { LINE_BYTES ≡ 64 }
+    ensures block { LOCK_BYTES ≡ 16 }
+    ensures entries { WBUF_ENTRIES ≡ 8 }
+    ensures copies { BANK_COPIES ≡ 16 }
+    ensures fewest { MIN_CPUS ≡ 2 }
+    ensures most { MAX_CPUS ≡ 8 }
+    ensures budget { MAX_BUDGET ≡ 32768 }
+{}
 
 /// The low bytes of a number that are put into a list are read back as one number. Every byte
 /// before and past them stays, and so does the length.

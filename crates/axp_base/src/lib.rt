@@ -14,7 +14,8 @@ mod sizes;
 
 pub use byte_lists::{Bytes, NoMemory};
 pub use laws::{
-    put_is_read_back, sign_bit_is_below_zero, sign_extension_keeps_the_integer, span_is_its_bytes,
+    limits_are_these, put_is_read_back, sign_bit_is_below_zero, sign_extension_keeps_the_integer,
+    span_is_its_bytes,
 };
 pub use limits::{BANK_COPIES, WBUF_ENTRIES};
 pub use lines::{Bank, LINE_BYTES, LOCK_BYTES, Line};
