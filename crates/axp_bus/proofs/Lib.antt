@@ -1,6 +1,6 @@
 pub mod LineLemmas
 pub mod GoneLemmas
-pub mod LaneLemmas
+pub mod PortLemmas
 pub mod MarkLemmas
 pub mod TidyLemmas
 pub mod StandLemmas

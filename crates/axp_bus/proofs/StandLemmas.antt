@@ -14,25 +14,25 @@ use Rattle.axp_line.specs.declared.messages.Reply.TheVariants as reply
 use Rattle.axp_base.specs.LatePairs.{late_by_other}
 use Rattle.axp_line.specs.BusCalls.{BusCall, memory, turns, late, late_by_own, line_written, overwritten, reaches_quadword, write_made, is_turn, printed_by}
 use Rattle.axp_line.specs.BusReply.{bus_reply, reply_by}
-use Rattle.axp_bus.specs.Lanes.{IsLane, late_after, lock_after, pending_after}
-use Rattle.axp_bus.specs.Buses.{State, Agrees, NotedAll, front_of}
+use Rattle.axp_bus.specs.Ports.{IsPort, late_after, lock_after, pending_after}
+use Rattle.axp_bus.specs.Buses.{State, Agrees, NotedAll, port_state_of}
 use Rattle.axp_bus.specs.Marks.{Marked}
 use Rattle.axp_bus.specs.BusStands.{Stands, call_of}
-use Rattle.axp_bus.specs.declared.lanes.Lane.{Lane}
+use Rattle.axp_bus.specs.declared.ports.Port.{Port}
 
-pub reply_is : (b : State) (image : ℕ → ℕ) (cs : List BusCall) (p : ℕ) (lane : Lane) (q : Request) → Stands b image cs → p < length b.lanes → lane ≡ get_or b.lanes p lane
-    → reply_by (front_of (memory image cs) b.turns lane) q ≡ bus_reply image cs p q
-reply_is b image cs p lane q st below here =
-    let is = subst (λ (l : Lane). IsLane l p cs) (sym here) (st.lanes p lane below) in
+pub reply_is : (b : State) (image : ℕ → ℕ) (cs : List BusCall) (p : ℕ) (port : Port) (q : Request) → Stands b image cs → p < length b.ports → port ≡ get_or b.ports p port
+    → reply_by (port_state_of (memory image cs) b.turns port) q ≡ bus_reply image cs p q
+reply_is b image cs p port q st below here =
+    let is = subst (λ (l : Port). IsPort l p cs) (sym here) (st.ports p port below) in
     rw (st.turns, is.even, is.odd, is.lock, is.pending) refl
 
 lanes_after : (old new : State) (image : ℕ → ℕ) (cs : List BusCall) (cpu : Cpu) (q : Request) (a : Reply) → Stands old image cs
-    → NotedAll (cpu_number cpu) (old.turns + 1) q a old.lanes new.lanes → length new.lanes ≡ length old.lanes
-    → (p : ℕ) (d : Lane) → p < length new.lanes → IsLane (get_or new.lanes p d) p (call_of cpu q a ∷ cs)
+    → NotedAll (cpu_number cpu) (old.turns + 1) q a old.ports new.ports → length new.ports ≡ length old.ports
+    → (p : ℕ) (d : Port) → p < length new.ports → IsPort (get_or new.ports p d) p (call_of cpu q a ∷ cs)
 lanes_after old new image cs cpu q a st noted size p d below =
-    let here : p < length old.lanes = omega (arith, size) in
+    let here : p < length old.ports = omega (arith, size) in
     let mine = noted p d here in
-    let was = st.lanes p d here in
+    let was = st.ports p d here in
     let own = eqb (cpu_number cpu) p in
     record {
       even = ap (λ (x : Queue). x.pairs) mine.even ∙ ap₂ (λ t pairs. late_after own Even q a (t + 1) pairs) st.turns was.even;
@@ -46,7 +46,7 @@ pub stands_after : (old new : State) (image : ℕ → ℕ) (cs : List BusCall) (
     → Agrees new.memory (overwritten (write_made q a) (memory image cs))
     → Marked (write_made q a) old.touched new.touched
     → new.turns ≡ cond (is_turn a) (old.turns + 1) old.turns
-    → NotedAll (cpu_number cpu) (old.turns + 1) q a old.lanes new.lanes → length new.lanes ≡ length old.lanes
+    → NotedAll (cpu_number cpu) (old.turns + 1) q a old.ports new.ports → length new.ports ≡ length old.ports
     → new.printed ≡ old.printed ++ printed_by q
     → Stands new image (call_of cpu q a ∷ cs)
 stands_after old new image cs cpu q a st replied bytes marked counted noted size printed = record {
@@ -55,7 +55,7 @@ stands_after old new image cs cpu q a st replied bytes marked counted noted size
       let here : x < length old.touched = omega (arith, below, marked.size) in
       marked.each x here ∙ ap (λ b. reaches_quadword x (write_made q a) || b) (st.touched x here);
   turns = counted ∙ ap (λ t. cond (is_turn a) (t + 1) t) st.turns;
-  lanes = lanes_after old new image cs cpu q a st noted size;
+  ports = lanes_after old new image cs cpu q a st noted size;
   printed = printed ∙ ap (λ bytes. bytes ++ printed_by q) st.printed;
   replied = (replied, st.replied);
 }
@@ -81,13 +81,13 @@ none_of_code p (c ∷ cs) = rw (none_of_code p cs) (none_after (eqb (cpu_number 
   none_after false = by_other (line_written (write_made c.ask c.answer))
 
 -- whether something is late
-pub late_is : (b : State) (image : ℕ → ℕ) (cs : List BusCall) (p : ℕ) (lane : Lane) (bank : Bank) (answer : Bool) → Stands b image cs → p < length b.lanes → lane ≡ get_or b.lanes p lane
-    → (bank ≡ Even → answer ≡ not (is_empty lane.even.pairs)) → (bank ≡ Odd → answer ≡ not (is_empty lane.odd.pairs)) → (bank ≡ Code → answer ≡ false)
+pub late_is : (b : State) (image : ℕ → ℕ) (cs : List BusCall) (p : ℕ) (port : Port) (bank : Bank) (answer : Bool) → Stands b image cs → p < length b.ports → port ≡ get_or b.ports p port
+    → (bank ≡ Even → answer ≡ not (is_empty port.even.pairs)) → (bank ≡ Odd → answer ≡ not (is_empty port.odd.pairs)) → (bank ≡ Code → answer ≡ false)
     → answer ≡ not (is_empty (late p bank cs))
-late_is b image cs p lane Even answer st below here even odd code =
-    let is = subst (λ (l : Lane). IsLane l p cs) (sym here) (st.lanes p lane below) in
+late_is b image cs p port Even answer st below here even odd code =
+    let is = subst (λ (l : Port). IsPort l p cs) (sym here) (st.ports p port below) in
     even refl ∙ ap (λ (pairs : List (Line × ℕ)). not (is_empty pairs)) is.even
-late_is b image cs p lane Odd answer st below here even odd code =
-    let is = subst (λ (l : Lane). IsLane l p cs) (sym here) (st.lanes p lane below) in
+late_is b image cs p port Odd answer st below here even odd code =
+    let is = subst (λ (l : Port). IsPort l p cs) (sym here) (st.ports p port below) in
     odd refl ∙ ap (λ (pairs : List (Line × ℕ)). not (is_empty pairs)) is.odd
-late_is b image cs p lane Code answer st below here even odd code = code refl ∙ ap (λ (pairs : List (Line × ℕ)). not (is_empty pairs)) (sym (none_of_code p cs))
+late_is b image cs p port Code answer st below here even odd code = code refl ∙ ap (λ (pairs : List (Line × ℕ)). not (is_empty pairs)) (sym (none_of_code p cs))

@@ -12,9 +12,9 @@ use Rattle.axp_line.specs.declared.messages.Request.TheVariants as request
 use Rattle.axp_line.specs.declared.messages.Reply.{Reply}
 use Rattle.axp_line.specs.declared.messages.Reply.TheVariants as reply
 use Rattle.axp_line.specs.BusCalls.{is_turn, late_by_own, line_written, printed_by, write_made}
-use Rattle.axp_bus.specs.Lanes.{HasRoom, late_after}
+use Rattle.axp_bus.specs.Ports.{HasRoom, late_after}
 use Rattle.axp_bus.specs.Buses.{NotedAll, HaveRoom, IsTidyQueue, AreTidy}
-use Rattle.axp_bus.specs.declared.lanes.Lane.{Lane}
+use Rattle.axp_bus.specs.declared.ports.Port.{Port}
 
 -- the number of turns after a call
 abbrev after : ℕ → Reply → ℕ
@@ -92,7 +92,7 @@ pub tidy_after : (own : Bool) (bank : Bank) (q : Request) (a : Reply) (t room : 
 tidy_after true bank q a t room pairs most tidy = tidy_more t (after t a) room (late_by_own bank q a pairs) most (after_more t a) (tidy_own bank q a t room pairs most tidy)
 tidy_after false bank q a t room pairs most tidy = tidy_other bank q a t room pairs most tidy
 
-pub tidy_step : (t t' room cpu : ℕ) (q : Request) (a : Reply) (old new : List Lane) → AreTidy t room old → length new ≡ length old → NotedAll cpu (t + 1) q a old new
+pub tidy_step : (t t' room cpu : ℕ) (q : Request) (a : Reply) (old new : List Port) → AreTidy t room old → length new ≡ length old → NotedAll cpu (t + 1) q a old new
     → t' ≡ after t a → AreTidy t' room new
 tidy_step t t' room cpu q a old new tidy size noted more p d below =
     let here : p < length old = omega (arith, size) in
@@ -107,9 +107,9 @@ tidy_step t t' room cpu q a old new tidy size noted more p d below =
 queue_has_room : (t room : ℕ) (q : Queue) → t < room → IsTidyQueue t room q → HasRoom (t + 1) q
 queue_has_room t room q less tidy = record { room = omega (arith, tidy.few, tidy.room); newest = tidy.made }
 
-pub have_room : (t room : ℕ) (lanes : List Lane) → t < room → AreTidy t room lanes → HaveRoom (t + 1) lanes
-have_room t room lanes less tidy p d below =
-    record { even = queue_has_room t room (get_or lanes p d).even less (tidy p d below).even; odd = queue_has_room t room (get_or lanes p d).odd less (tidy p d below).odd }
+pub have_room : (t room : ℕ) (ports : List Port) → t < room → AreTidy t room ports → HaveRoom (t + 1) ports
+have_room t room ports less tidy p d below =
+    record { even = queue_has_room t room (get_or ports p d).even less (tidy p d below).even; odd = queue_has_room t room (get_or ports p d).odd less (tidy p d below).odd }
 
 -- the counts of a bus after a call
 pub after_within : (t room : ℕ) (a : Reply) → t < room → after t a ≤ room

@@ -6,16 +6,16 @@ use Rattle.axp_line.specs.declared.messages.Request.{Request}
 use Rattle.axp_line.specs.BusCalls.{BusCall, memory, turns, console}
 use Rattle.axp_line.specs.BusReply.{AreReplied}
 use Rattle.axp_bus.specs.Buses.{State, Agrees}
-use Rattle.axp_bus.specs.Lanes.{IsLane}
+use Rattle.axp_bus.specs.Ports.{IsPort}
 use Rattle.axp_bus.specs.Marks.{AreMarks}
-use Rattle.axp_bus.specs.declared.lanes.Lane.{Lane}
+use Rattle.axp_bus.specs.declared.ports.Port.{Port}
 
 -- the bus is what it is after these calls, the newest first, where memory was the image at first
 pub record Stands (b : State) (image : ℕ → ℕ) (cs : List BusCall) : Type 0 where
   pub memory : Agrees b.memory (memory image cs)
   pub touched : AreMarks b.touched cs
   pub turns : b.turns ≡ turns cs
-  pub lanes : (p : ℕ) (d : Lane) → p < length b.lanes → IsLane (get_or b.lanes p d) p cs
+  pub ports : (p : ℕ) (d : Port) → p < length b.ports → IsPort (get_or b.ports p d) p cs
   pub printed : b.printed ≡ console cs
   pub replied : AreReplied image cs
 

@@ -10,16 +10,16 @@ use Rattle.axp_line.specs.declared.messages.Request.{Request}
 use Rattle.axp_line.specs.declared.messages.Request.TheVariants as request
 use Rattle.axp_lockreg.specs.Blocks.{locked_block}
 use Rattle.axp_line.specs.BusReply.{PortState}
-use Rattle.axp_bus.specs.Lanes.{Noted, LaneHasRoom}
-use Rattle.axp_bus.specs.declared.lanes.Lane.{Lane}
+use Rattle.axp_bus.specs.Ports.{Noted, PortHasRoom}
+use Rattle.axp_bus.specs.declared.ports.Port.{Port}
 
--- a bus is seen as memory, a mark for each of its quadwords, how many turns were made, a lane for each
+-- a bus is seen as memory, a mark for each of its quadwords, how many turns were made, a port for each
 -- processor, the bytes that went to the console, and for how many turns, and bytes, there is room
 pub record State : Type 0 where
   pub memory : List ℕ
   pub touched : List Bool
   pub turns : ℕ
-  pub lanes : List Lane
+  pub ports : List Port
   pub printed : List ℕ
   pub room : ℕ
 
@@ -38,24 +38,24 @@ MayAsk size cpus _ = Unit {0}
 abbrev pub Agrees : List ℕ → (ℕ → ℕ) → Type 0
 Agrees bytes memory = (k : ℕ) → k < length bytes → slice_index bytes k ≡ memory k
 
--- what a bus of this memory, turn count and lane is for the lane's processor
-abbrev pub front_of : (ℕ → ℕ) → ℕ → Lane → PortState
-front_of memory turns lane =
-    record { memory = memory; turns = turns; even = lane.even.pairs; odd = lane.odd.pairs; block = locked_block lane.lock; pending = lane.pending }
+-- what a bus of this memory, turn count and port is for the port's processor
+abbrev pub port_state_of : (ℕ → ℕ) → ℕ → Port → PortState
+port_state_of memory turns port =
+    record { memory = memory; turns = turns; even = port.even.pairs; odd = port.odd.pairs; block = locked_block port.lock; pending = port.pending }
 
--- each lane after a call of processor cpu
-abbrev pub NotedAll : ℕ → ℕ → Request → Reply → List Lane → List Lane → Type 0
-NotedAll cpu turn q a old new = (p : ℕ) (d : Lane) → p < length old → Noted (cpu == p) p turn q a (get_or old p d) (get_or new p d)
+-- each port after a call of processor cpu
+abbrev pub NotedAll : ℕ → ℕ → Request → Reply → List Port → List Port → Type 0
+NotedAll cpu turn q a old new = (p : ℕ) (d : Port) → p < length old → Noted (cpu == p) p turn q a (get_or old p d) (get_or new p d)
 
--- the lanes below n are noted, the others as they were
-pub record NotedBelow (n cpu turn : ℕ) (q : Request) (a : Reply) (old new : List Lane) : Type 0 where
+-- the ports below n are noted, the others as they were
+pub record NotedBelow (n cpu turn : ℕ) (q : Request) (a : Reply) (old new : List Port) : Type 0 where
   pub size : length new ≡ length old
-  pub done : (p : ℕ) (d : Lane) → p < n → p < length old → Noted (cpu == p) p turn q a (get_or old p d) (get_or new p d)
-  pub left : (p : ℕ) (d : Lane) → n ≤ p → get_or new p d ≡ get_or old p d
+  pub done : (p : ℕ) (d : Port) → p < n → p < length old → Noted (cpu == p) p turn q a (get_or old p d) (get_or new p d)
+  pub left : (p : ℕ) (d : Port) → n ≤ p → get_or new p d ≡ get_or old p d
 
--- each lane has room for one more pair, of this turn
-abbrev pub HaveRoom : ℕ → List Lane → Type 0
-HaveRoom turn lanes = (p : ℕ) (d : Lane) → p < length lanes → LaneHasRoom turn (get_or lanes p d)
+-- each port has room for one more pair, of this turn
+abbrev pub HaveRoom : ℕ → List Port → Type 0
+HaveRoom turn ports = (p : ℕ) (d : Port) → p < length ports → PortHasRoom turn (get_or ports p d)
 
 -- a queue has no more pairs than there were turns, each of one of these, and room for all
 pub record IsTidyQueue (turns most : ℕ) (q : Queue) : Type 0 where
@@ -63,9 +63,9 @@ pub record IsTidyQueue (turns most : ℕ) (q : Queue) : Type 0 where
   pub made : AreBefore (turns + 1) q.pairs
   pub room : most ≤ q.room
 
-pub record IsTidyLane (turns room : ℕ) (lane : Lane) : Type 0 where
-  pub even : IsTidyQueue turns room lane.even
-  pub odd : IsTidyQueue turns room lane.odd
+pub record IsTidyPort (turns room : ℕ) (port : Port) : Type 0 where
+  pub even : IsTidyQueue turns room port.even
+  pub odd : IsTidyQueue turns room port.odd
 
-abbrev pub AreTidy : ℕ → ℕ → List Lane → Type 0
-AreTidy turns room lanes = (p : ℕ) (d : Lane) → p < length lanes → IsTidyLane turns room (get_or lanes p d)
+abbrev pub AreTidy : ℕ → ℕ → List Port → Type 0
+AreTidy turns room ports = (p : ℕ) (d : Port) → p < length ports → IsTidyPort turns room (get_or ports p d)

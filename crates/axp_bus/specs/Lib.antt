@@ -1,5 +1,5 @@
 pub mod Writes
-pub mod Lanes
+pub mod Ports
 pub mod Marks
 pub mod Buses
 pub mod BusStands

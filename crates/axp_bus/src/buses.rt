@@ -13,8 +13,8 @@ ghost use Rattle.axp_base.specs.Lists.{is_empty};
 ghost use Rattle.axp_bus.specs.Buses.{MayAsk};
 ghost use Rattle.axp_bus.specs.BusStands.{Stands, call_of};
 
-use crate::lanes::{Lane, fresh_lanes};
 use crate::marks::mark_down;
+use crate::ports::{Port, fresh_ports};
 use crate::replies::reply_at;
 use crate::steps::{note_all, print, turns_after, write_down};
 use axp_base::{Bank, Cpu, LINE_BYTES, Line, NoMemory, QUADWORD_BYTES};
@@ -31,7 +31,7 @@ pub struct Bus {
     memory: Ram,
     touched: Vec<bool>,
     turns: u64,
-    lanes: Vec<Lane>,
+    ports: Vec<Port>,
     printed: Vec<u8>,
     room: u32,
 }
@@ -56,19 +56,19 @@ impl Bus {
         requires most { cpus ≤ MAX_CPUS }
         ensures stands { IfOk result (λ b. Stands b (byte_in image.now.segments) []) }
         ensures size { IfOk result (λ b. length b.memory ≡ image.now.size) }
-        ensures cpus { IfOk result (λ b. length b.lanes ≡ cpus) }
+        ensures cpus { IfOk result (λ b. length b.ports ≡ cpus) }
         ensures room { IfOk result (λ b. b.room ≡ room) }
     {
         let memory = Ram::load(alloc, image)?;
         let quadwords = (memory.size() / QUADWORD_BYTES) as usize;
         let touched = vec![in alloc; false; quadwords]?;
-        let lanes = fresh_lanes(alloc, cpus, room)?;
+        let ports = fresh_ports(alloc, cpus, room)?;
         let printed = Vec::with_capacity(alloc, room as usize)?;
         Ok(Bus {
             memory,
             touched,
             turns: 0,
-            lanes,
+            ports,
             printed,
             room,
         })
@@ -76,8 +76,8 @@ impl Bus {
 
     /// Answers a request of a processor.
     pub fn turn(&mut self, cpu: Cpu, request: &Request) -> Reply
-        requires cpu { cpu_number cpu < length self.old.lanes }
-        requires asks { MayAsk (length self.old.memory) (length self.old.lanes) request.now }
+        requires cpu { cpu_number cpu < length self.old.ports }
+        requires asks { MayAsk (length self.old.memory) (length self.old.ports) request.now }
         requires turns { self.old.turns < self.old.room }
         requires printed { length self.old.printed < self.old.room }
         ensures reply { (image : ℕ → ℕ) (calls : List BusCall) → Stands self.old image calls → result ≡ bus_reply image calls (cpu_number cpu) request.now }
@@ -85,13 +85,13 @@ impl Bus {
         ensures turns { self.new.turns ≡ (if is_turn result then self.old.turns + 1 else self.old.turns) }
         ensures printed { self.new.printed ≡ self.old.printed ++ printed_by request.now }
         ensures size { length self.new.memory ≡ length self.old.memory }
-        ensures cpus { length self.new.lanes ≡ length self.old.lanes }
+        ensures cpus { length self.new.ports ≡ length self.old.ports }
         ensures room { self.new.room ≡ self.old.room }
     {
-        let lane = &self.lanes[usize::from(cpu.number())];
-        let reply = reply_at(&self.memory, self.turns, lane, request);
+        let port = &self.ports[usize::from(cpu.number())];
+        let reply = reply_at(&self.memory, self.turns, port, request);
         note_all(
-            self.lanes.as_mut_slice(),
+            self.ports.as_mut_slice(),
             cpu,
             request,
             reply,
@@ -106,11 +106,11 @@ impl Bus {
 
     /// Whether something is late for a processor in a bank; in the code bank nothing ever is.
     pub fn late(&self, cpu: Cpu, bank: Bank) -> bool
-        requires { cpu_number cpu < length self.now.lanes }
+        requires { cpu_number cpu < length self.now.ports }
         ensures code { bank ≡ Code → result ≡ false }
         ensures calls { (image : ℕ → ℕ) (calls : List BusCall) → Stands self.now image calls → result ≡ not (is_empty (late (cpu_number cpu) bank calls)) }
     {
-        self.lanes[usize::from(cpu.number())].late(bank)
+        self.ports[usize::from(cpu.number())].late(bank)
     }
 
     /// The quadword at an address of memory.
@@ -158,10 +158,10 @@ impl Bus {
 
     /// The number of processors.
     pub fn cpus(&self) -> u8
-        ensures value { result ≡ length self.now.lanes }
+        ensures value { result ≡ length self.now.ports }
         ensures most { result ≤ MAX_CPUS }
     {
-        self.lanes.len() as u8
+        self.ports.len() as u8
     }
 
     /// For how many turns there is room, those made included, and for how many bytes to the console.

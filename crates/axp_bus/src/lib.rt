@@ -3,9 +3,9 @@
 #![tactic(auto)]
 
 mod buses;
-mod lanes;
 mod laws;
 mod marks;
+mod ports;
 mod replies;
 mod steps;
 mod writes;

@@ -7,10 +7,10 @@ ghost use Rattle.axp_lockreg.specs.Blocks.{locked_block};
 ghost use Rattle.axp_line.specs.BusCalls.{overwritten};
 ghost use Rattle.axp_line.specs.BusReply.{PortState, first_late, gone, is_late, late_in, line_of_memory, line_reply, reply_by, stored_reply, conditional_reply};
 ghost use Rattle.axp_base.specs.Lists.{is_empty};
-ghost use Rattle.axp_bus.specs.Buses.{Agrees, MayAsk, front_of};
+ghost use Rattle.axp_bus.specs.Buses.{Agrees, MayAsk, port_state_of};
 ghost use Rattle.axp_bus.specs.Writes.{written_of};
 
-use crate::lanes::Lane;
+use crate::ports::Port;
 use crate::writes::{Write, conditional_write, line_at};
 use axp_base::{Bank, Line};
 use axp_inval::LateQueue;
@@ -38,7 +38,7 @@ fn line_after(memory: &Ram, write: &Write) -> LineData
 /// The answer to a fill or a load-locked.
 fn line_reply(memory: &Ram, turns: u64, line: Line) -> Reply
     requires { line_number line * LINE_BYTES < length memory.now }
-    ensures { (m : ℕ → ℕ) (lane : Lane) → Agrees memory.now m → result ≡ line_reply (front_of m turns lane) line }
+    ensures { (m : ℕ → ℕ) (port : Port) → Agrees memory.now m → result ≡ line_reply (port_state_of m turns port) line }
 {
     Reply::Line {
         turn: turns,
@@ -50,7 +50,7 @@ fn line_reply(memory: &Ram, turns: u64, line: Line) -> Reply
 fn stored_reply(memory: &Ram, turns: u64, write: &Write) -> Reply
     requires inside { line_number write.now.line * LINE_BYTES < length memory.now }
     requires turns { turns < 2 ^ 32 }
-    ensures { (m : ℕ → ℕ) (lane : Lane) → Agrees memory.now m → result ≡ stored_reply (front_of m turns lane) (Some (written_of write.now)) write.now.line }
+    ensures { (m : ℕ → ℕ) (port : Port) → Agrees memory.now m → result ≡ stored_reply (port_state_of m turns port) (Some (written_of write.now)) write.now.line }
 {
     Reply::Stored {
         turn: turns + 1,
@@ -59,17 +59,17 @@ fn stored_reply(memory: &Ram, turns: u64, write: &Write) -> Reply
 }
 
 /// Whether a store-conditional to an address succeeds.
-fn succeeds(lane: &Lane, address: u64, armed: bool) -> bool
-    ensures { result ≡ (armed && is_allowed address (locked_block lane.now.lock)) }
+fn succeeds(port: &Port, address: u64, armed: bool) -> bool
+    ensures { result ≡ (armed && is_allowed address (locked_block port.now.lock)) }
 {
-    armed && lane.lock.allows(address)
+    armed && port.lock.allows(address)
 }
 
 /// The answer to a store-conditional that would write this, by whether it succeeds.
 fn tried_reply(memory: &Ram, turns: u64, write: &Write, succeeds: bool) -> Reply
     requires inside { line_number write.now.line * LINE_BYTES < length memory.now }
     requires turns { turns < 2 ^ 32 }
-    ensures { (m : ℕ → ℕ) (lane : Lane) → Agrees memory.now m → result ≡ conditional_reply succeeds (front_of m turns lane) (Some (written_of write.now)) write.now.line }
+    ensures { (m : ℕ → ℕ) (port : Port) → Agrees memory.now m → result ≡ conditional_reply succeeds (port_state_of m turns port) (Some (written_of write.now)) write.now.line }
 {
     if succeeds {
         stored_reply(memory, turns, write)
@@ -89,43 +89,43 @@ fn first_late(queue: &LateQueue) -> Reply
 }
 
 /// The answer to a take.
-fn take_reply(lane: &Lane, bank: Bank) -> Reply
-    ensures { (m : ℕ → ℕ) (turns : ℕ) → result ≡ first_late (late_in (front_of m turns lane.now) bank) }
+fn take_reply(port: &Port, bank: Bank) -> Reply
+    ensures { (m : ℕ → ℕ) (turns : ℕ) → result ≡ first_late (late_in (port_state_of m turns port.now) bank) }
 {
     match bank {
-        Bank::Even => first_late(&lane.even),
-        Bank::Odd => first_late(&lane.odd),
+        Bank::Even => first_late(&port.even),
+        Bank::Odd => first_late(&port.odd),
         Bank::Code => Reply::Nothing,
     }
 }
 
 /// Whether something late reaches a copy of the line at an address that has this stamp.
-fn is_late(lane: &Lane, address: u32, stamp: u32) -> bool
-    ensures { (m : ℕ → ℕ) (turns : ℕ) → result ≡ is_late (front_of m turns lane.now) address stamp }
+fn is_late(port: &Port, address: u32, stamp: u32) -> bool
+    ensures { (m : ℕ → ℕ) (turns : ℕ) → result ≡ is_late (port_state_of m turns port.now) address stamp }
 {
     let line = Line::of(u64::from(address));
     let stamp = u64::from(stamp);
-    lane.even.later(line, stamp) || lane.odd.later(line, stamp)
+    port.even.later(line, stamp) || port.odd.later(line, stamp)
 }
 
 /// One bit for each held copy, 1 where something late reaches it.
-fn gone(lane: &Lane, held: &Held) -> u32
-    ensures { (m : ℕ → ℕ) (turns : ℕ) → result ≡ gone (front_of m turns lane.now) held.now }
+fn gone(port: &Port, held: &Held) -> u32
+    ensures { (m : ℕ → ℕ) (turns : ℕ) → result ≡ gone (port_state_of m turns port.now) held.now }
 {
     let mut bits = 0;
     for n in (0..held.len()).rev() {
         let (address, stamp) = held.get(n);
-        bits = 2 * bits + u32::from(is_late(lane, address, stamp));
+        bits = 2 * bits + u32::from(is_late(port, address, stamp));
     }
     bits
 }
 
-/// The reply to a request, by memory, the number of turns made, and the lane of the processor.
+/// The reply to a request, by memory, the number of turns made, and the port of the processor.
 #[tactic(auto, unfolding(axp_line::specs::BusReply::reply_by))]
-pub(crate) fn reply_at(memory: &Ram, turns: u64, lane: &Lane, request: &Request) -> Reply
+pub(crate) fn reply_at(memory: &Ram, turns: u64, port: &Port, request: &Request) -> Reply
     requires asks { (cpus : ℕ) × MayAsk (length memory.now) cpus request.now }
     requires turns { turns < 2 ^ 32 }
-    ensures { (m : ℕ → ℕ) → Agrees memory.now m → result ≡ reply_by (front_of m turns lane.now) request.now }
+    ensures { (m : ℕ → ℕ) → Agrees memory.now m → result ≡ reply_by (port_state_of m turns port.now) request.now }
 {
     match request {
         Request::Fill { line } => line_reply(memory, turns, *line),
@@ -146,19 +146,19 @@ pub(crate) fn reply_at(memory: &Ram, turns: u64, lane: &Lane, request: &Request)
             armed,
         } => {
             let write = conditional_write(*address, *size, *value);
-            tried_reply(memory, turns, &write, succeeds(lane, *address, *armed))
+            tried_reply(memory, turns, &write, succeeds(port, *address, *armed))
         }
         Request::Barrier { held } => Reply::Barrier {
             turn: turns,
-            gone: gone(lane, held),
+            gone: gone(port, held),
         },
         Request::CodeBarrier { held } => Reply::Barrier {
             turn: turns,
-            gone: gone(lane, held),
+            gone: gone(port, held),
         },
-        Request::Take { bank } => take_reply(lane, *bank),
+        Request::Take { bank } => take_reply(port, *bank),
         Request::Poll { .. } => Reply::Polled {
-            pending: lane.pending,
+            pending: port.pending,
             turn: turns,
         },
         Request::Signal { .. } => Reply::Signalled { turn: turns + 1 },

@@ -6,21 +6,21 @@ ghost use Rattle.axp_memory.specs.Bytes.{AreLines};
 ghost use Rattle.axp_line.specs.BusCalls.{is_turn, overwritten, printed_by, write_made};
 ghost use Rattle.axp_bus.specs.Buses.{Agrees, HaveRoom, MayAsk, NotedAll};
 
-use crate::lanes::Lane;
+use crate::ports::Port;
 use crate::writes::conditional_write;
 use axp_base::Cpu;
 use axp_line::{Reply, Request};
 use axp_memory::Ram;
 
-/// Keeps a call in every lane.
-pub(crate) fn note_all(lanes: &mut [Lane], cpu: Cpu, request: &Request, reply: Reply, turn: u64)
-    requires few { length lanes.old < 2 ^ 8 }
-    requires room { HaveRoom turn lanes.old }
-    ensures noted { NotedAll (cpu_number cpu) turn request.now reply lanes.old lanes.new }
-    ensures size { length lanes.new ≡ length lanes.old }
+/// Keeps a call in every port.
+pub(crate) fn note_all(ports: &mut [Port], cpu: Cpu, request: &Request, reply: Reply, turn: u64)
+    requires few { length ports.old < 2 ^ 8 }
+    requires room { HaveRoom turn ports.old }
+    ensures noted { NotedAll (cpu_number cpu) turn request.now reply ports.old ports.new }
+    ensures size { length ports.new ≡ length ports.old }
 {
-    for n in 0..lanes.len() {
-        lanes[n].note(n as u8, cpu, request, reply, turn);
+    for n in 0..ports.len() {
+        ports[n].note(n as u8, cpu, request, reply, turn);
     }
 }
 

@@ -26,13 +26,13 @@ use Rattle.axp_regs.specs.States.{register, pc_of, ptbr_of}
 use Rattle.axp_regs.specs.declared.asks.Kind.{Kind}
 use Rattle.axp_regs.specs.declared.asks.Kind.TheVariants as kind
 use Rattle.axp_regs.specs.declared.states.TheConstants.{ZERO_REGISTER}
-use Rattle.axp_cpu.specs.declared.tables.Table.{Table}
+use Rattle.axp_cpu.specs.declared.cpu_states.CpuState.{CpuState}
 use Rattle.axp_cpu.specs.Addresses.{aligned_plan, first_entry, in_kseg, is_canonical, look_up_plan, physical, memory_plan}
 use Rattle.axp_cpu.specs.Plans.{Plan, End, Want, Unbuilt, along, given, is_built}
 use Rattle.axp_cpu.specs.Rows.{group, plan_of_word, row, memory_row, branch_row, operate_row, misc_row, pal_row, next_plan, register_plan, load_locked_plan, load_plan, store_conditional_plan, store_plan, as_read, as_longword, address_of, quadword_at, operand}
 use Rattle.axp_cpu.specs.Seats.{Seat, is_finished, is_built_after, plan_is_built_after, plan_now, wanted, wanted_by}
 use Rattle.axp_cpu.specs.Soundness.{AnswersEnd, EndsGroup, IsEnd}
-use Rattle.axp_cpu.specs.Tables.{with_fetch_counted, with_lock_flag}
+use Rattle.axp_cpu.specs.CpuStates.{with_fetch_counted, with_lock_flag}
 
 either : (tested : Bool) (p q : Plan) → AnswersEnd p → AnswersEnd q → AnswersEnd (cond tested p q)
 either true p q left right = left
@@ -44,20 +44,20 @@ reached_ends size k a n v follow ends more = either (in_kseg a && ltb (physical 
 aligned_ends : (size : ℕ) (k : Kind) (a n v : ℕ) (follow : ℕ → Plan) → EndsGroup k follow → ((x : ℕ) → AnswersEnd (follow x)) → AnswersEnd (aligned_plan size k a n v follow)
 aligned_ends size k a n v follow ends more = either (eqb (a % n) 0) (memory_plan size k a n v follow) Unbuilt (reached_ends size k a n v follow ends more) tt
 
-loaded_ends : (size : ℕ) (t : Table) (what : Size) (a address : ℕ) (follow : ℕ → Plan) → ((v : ℕ) → AnswersEnd (follow v)) → AnswersEnd (load_plan size t what a address follow)
+loaded_ends : (size : ℕ) (t : CpuState) (what : Size) (a address : ℕ) (follow : ℕ → Plan) → ((v : ℕ) → AnswersEnd (follow v)) → AnswersEnd (load_plan size t what a address follow)
 loaded_ends size t what a address follow more = either (eqb a ZERO_REGISTER) (next_plan t) _ tt (aligned_ends size kind.Read address (bytes_of what) 0 follow tt more)
 
-stored_ends : (size : ℕ) (t : Table) (what : Size) (a address : ℕ) → AnswersEnd (store_plan size t what a address)
+stored_ends : (size : ℕ) (t : CpuState) (what : Size) (a address : ℕ) → AnswersEnd (store_plan size t what a address)
 stored_ends size t what a address = aligned_ends size kind.Write address (bytes_of what) (low_datum what (register t.state a)) (λ _. next_plan t) tt (λ v. tt)
 
 load_locked_ends : (size : ℕ) (what : Size) (address : ℕ) (follow : ℕ → Plan) → ((v : ℕ) → IsEnd (follow v)) → ((v : ℕ) → AnswersEnd (follow v)) → AnswersEnd (load_locked_plan size what address follow)
 load_locked_ends size what address follow ends more = aligned_ends size kind.Locked address (bytes_of what) 0 follow ends more
 
-store_conditional_ends : (size : ℕ) (t : Table) (what : Size) (a address : ℕ) → AnswersEnd (store_conditional_plan size t what a address)
+store_conditional_ends : (size : ℕ) (t : CpuState) (what : Size) (a address : ℕ) → AnswersEnd (store_conditional_plan size t what a address)
 store_conditional_ends size t what a address =
     aligned_ends size kind.Conditional address (bytes_of what) (low_datum what (register t.state a)) (as_read (with_lock_flag t false) a) (λ v. tt) (λ v. tt)
 
-memory_ends : (size : ℕ) (t : Table) (op : MemOp) (a base disp : ℕ) → AnswersEnd (memory_row size t op a base disp)
+memory_ends : (size : ℕ) (t : CpuState) (op : MemOp) (a base disp : ℕ) → AnswersEnd (memory_row size t op a base disp)
 memory_ends size t memory.LDA a base disp = tt
 memory_ends size t memory.LDAH a base disp = tt
 memory_ends size t memory.LDBU a base disp = loaded_ends size t Byte a (address_of base disp) (as_read t a) (λ v. tt)
@@ -75,20 +75,20 @@ memory_ends size t memory.STQ_U a base disp = stored_ends size t Quad a (quadwor
 memory_ends size t memory.STL_C a base disp = store_conditional_ends size t Long a (address_of base disp)
 memory_ends size t memory.STQ_C a base disp = store_conditional_ends size t Quad a (address_of base disp)
 
-branch_ends : (t : Table) (op : BranchOp) (a disp : ℕ) → AnswersEnd (branch_row t op a disp)
+branch_ends : (t : CpuState) (op : BranchOp) (a disp : ℕ) → AnswersEnd (branch_row t op a disp)
 branch_ends t op a disp = search rules
 
-operate_ends : (t : Table) (op : Op) (a b c : ℕ) → AnswersEnd (operate_row t op a b c)
+operate_ends : (t : CpuState) (op : Op) (a b c : ℕ) → AnswersEnd (operate_row t op a b c)
 operate_ends t op a b c =
     either (eqb (operate_opcode op) BYTE_OPCODE) (register_plan t c (bytes.value_of op a b)) _ tt (either (integer.overflow_of op a b) Unbuilt (register_plan t c (integer.value_of op a b (register t.state c))) tt tt)
 
-misc_ends : (t : Table) (op : MiscOp) (a : ℕ) → AnswersEnd (misc_row t op a)
+misc_ends : (t : CpuState) (op : MiscOp) (a : ℕ) → AnswersEnd (misc_row t op a)
 misc_ends t op a = search rules
 
-pal_ends : (t : Table) (op : PalOp) → AnswersEnd (pal_row t op)
+pal_ends : (t : CpuState) (op : PalOp) → AnswersEnd (pal_row t op)
 pal_ends t op = search rules
 
-row_ends : (size : ℕ) (t : Table) (i : Instr) → AnswersEnd (row size t i)
+row_ends : (size : ℕ) (t : CpuState) (i : Instr) → AnswersEnd (row size t i)
 unfolding row
 row_ends size t (instr.Memory op a b disp) = memory_ends size t op a (register t.state b) disp
 row_ends size t (instr.Branch op a disp) = branch_ends t op a disp
@@ -103,7 +103,7 @@ looked_up_ends : (size table a : ℕ) → AnswersEnd (look_up_plan size table a)
 looked_up_ends size table a =
     either (is_canonical a && ltb (first_entry table a) size) (Want (record { kind = kind.Read; address = first_entry table a; size = 8; value = 0 }) (λ v. Unbuilt)) Unbuilt (tt, λ v. tt) tt
 
-pub group_ends : (size : ℕ) (t : Table) → AnswersEnd (group size t)
+pub group_ends : (size : ℕ) (t : CpuState) → AnswersEnd (group size t)
 unfolding group
 group_ends size t =
     either (in_kseg (pc_of t.state)) (memory_plan size kind.Fetch (pc_of t.state) INSTRUCTION_BYTES 0 (plan_of_word size t)) (look_up_plan size (ptbr_of t.state) (pc_of t.state))

@@ -30,12 +30,12 @@ use Rattle.axp_regs.specs.States.{register, pc_of, ptbr_of}
 use Rattle.axp_regs.specs.declared.asks.Kind.{Kind}
 use Rattle.axp_regs.specs.declared.asks.Kind.TheVariants.{Fetch, Read, Write, Locked, Conditional, Barrier, WriteBarrier, CodeBarrier}
 use Rattle.axp_regs.specs.declared.states.TheConstants.{ZERO_REGISTER}
-use Rattle.axp_cpu.specs.declared.tables.Table.{Table}
+use Rattle.axp_cpu.specs.declared.cpu_states.CpuState.{CpuState}
 use Rattle.axp_cpu.specs.Addresses.{in_kseg, physical, memory_plan, aligned_plan, is_canonical, first_entry, look_up_plan}
 use Rattle.axp_cpu.specs.Plans.{Plan, End, Want, Unbuilt, given, along}
 use Rattle.axp_cpu.specs.Rows.{group, plan_of_word, barrier_plan, row, memory_row, branch_row, branch_goal, operate_row, misc_row, pal_row, next_plan, register_plan, load_locked_plan, load_plan, store_conditional_plan, store_plan, as_read, as_longword, address_of, quadword_at, operand}
 use Rattle.axp_cpu.specs.Soundness.{IsSound, IsSoundAs}
-use Rattle.axp_cpu.specs.Tables.{with_fetch_counted, with_lock_flag, next_pc}
+use Rattle.axp_cpu.specs.CpuStates.{with_fetch_counted, with_lock_flag, next_pc}
 
 -- the end of an aligned part of whole pages lies in them
 part_within : (n a size : ℕ) → IsSize n → a % n ≡ 0 → a < size → size % PAGE_BYTES ≡ 0 → a + n ≤ size
@@ -133,10 +133,10 @@ aligned_sound size kind a n v k pages asks follows =
     either (eqb (a % n) 0) size (memory_plan size kind a n v k) Unbuilt (λ passed. reached_sound size kind a n v k pages asks (eqb-true (a % n) 0 passed) follows) (λ _. tt)
 
 -- the program counter stays a multiple of an instruction's size
-abbrev IsAligned : Table → Type 0
+abbrev IsAligned : CpuState → Type 0
 IsAligned t = pc_of t.state % INSTRUCTION_BYTES ≡ 0
 
-next_aligned : (t : Table) → IsAligned t → next_pc t % INSTRUCTION_BYTES ≡ 0
+next_aligned : (t : CpuState) → IsAligned t → next_pc t % INSTRUCTION_BYTES ≡ 0
 next_aligned t h = omega arith
 
 target_aligned : (next disp : ℕ) → next % INSTRUCTION_BYTES ≡ 0 → target_of next disp % INSTRUCTION_BYTES ≡ 0
@@ -146,27 +146,27 @@ goal_by : (taken : Bool) (target next : ℕ) → target % INSTRUCTION_BYTES ≡ 
 goal_by true target next h k = h
 goal_by false target next h k = k
 
-goal_aligned : (t : Table) (op : BranchOp) (a disp : ℕ) → IsAligned t → branch_goal t op a disp % INSTRUCTION_BYTES ≡ 0
+goal_aligned : (t : CpuState) (op : BranchOp) (a disp : ℕ) → IsAligned t → branch_goal t op a disp % INSTRUCTION_BYTES ≡ 0
 goal_aligned t op a disp h =
     goal_by (is_taken op (register t.state a)) (target_of (next_pc t) disp) (next_pc t) (target_aligned (next_pc t) disp (next_aligned t h)) (next_aligned t h)
 
-loaded_sound : (size : ℕ) (t : Table) (what : Size) (a address : ℕ) (k : ℕ → Plan) → ((v : ℕ) → IsSound size (k v)) → size % PAGE_BYTES ≡ 0 → IsAligned t → IsSound size (load_plan size t what a address k)
+loaded_sound : (size : ℕ) (t : CpuState) (what : Size) (a address : ℕ) (k : ℕ → Plan) → ((v : ℕ) → IsSound size (k v)) → size % PAGE_BYTES ≡ 0 → IsAligned t → IsSound size (load_plan size t what a address k)
 loaded_sound size t what a address k follows pages h =
     either (eqb a ZERO_REGISTER) size (next_plan t) _ (λ _. next_aligned t h)
     (λ _. aligned_sound size Read address (bytes_of what) 0 k pages (asks_read what) follows)
 
-stored_sound : (size : ℕ) (t : Table) (what : Size) (a address : ℕ) → size % PAGE_BYTES ≡ 0 → IsAligned t → IsSound size (store_plan size t what a address)
+stored_sound : (size : ℕ) (t : CpuState) (what : Size) (a address : ℕ) → size % PAGE_BYTES ≡ 0 → IsAligned t → IsSound size (store_plan size t what a address)
 stored_sound size t what a address pages h =
     aligned_sound size Write address (bytes_of what) (low_datum what (register t.state a)) (λ _. next_plan t) pages (asks_write what) (λ v. next_aligned t h)
 
 load_locked_sound : (size : ℕ) (what : Size) (address : ℕ) (k : ℕ → Plan) → ((v : ℕ) → IsSound size (k v)) → size % PAGE_BYTES ≡ 0 → IsSound size (load_locked_plan size what address k)
 load_locked_sound size what address k follows pages = aligned_sound size Locked address (bytes_of what) 0 k pages (asks_locked what) follows
 
-store_conditional_sound : (size : ℕ) (t : Table) (what : Size) (a address : ℕ) → (bytes_of what ≡ 4) ⊎ (bytes_of what ≡ 8) → size % PAGE_BYTES ≡ 0 → IsAligned t → IsSound size (store_conditional_plan size t what a address)
+store_conditional_sound : (size : ℕ) (t : CpuState) (what : Size) (a address : ℕ) → (bytes_of what ≡ 4) ⊎ (bytes_of what ≡ 8) → size % PAGE_BYTES ≡ 0 → IsAligned t → IsSound size (store_conditional_plan size t what a address)
 store_conditional_sound size t what a address long pages h =
     aligned_sound size Conditional address (bytes_of what) (low_datum what (register t.state a)) (as_read (with_lock_flag t false) a) pages (asks_conditional what long) (λ v. next_aligned t h)
 
-memory_sound : (size : ℕ) (t : Table) (op : MemOp) (a base disp : ℕ) → size % PAGE_BYTES ≡ 0 → IsAligned t → IsSound size (memory_row size t op a base disp)
+memory_sound : (size : ℕ) (t : CpuState) (op : MemOp) (a base disp : ℕ) → size % PAGE_BYTES ≡ 0 → IsAligned t → IsSound size (memory_row size t op a base disp)
 memory_sound size t memory.LDA a base disp pages h = next_aligned t h
 memory_sound size t memory.LDAH a base disp pages h = next_aligned t h
 memory_sound size t memory.LDBU a base disp pages h = loaded_sound size t Byte a (address_of base disp) (as_read t a) (λ v. next_aligned t h) pages h
@@ -184,7 +184,7 @@ memory_sound size t memory.STQ_U a base disp pages h = stored_sound size t Quad 
 memory_sound size t memory.STL_C a base disp pages h = store_conditional_sound size t Long a (address_of base disp) (inl refl) pages h
 memory_sound size t memory.STQ_C a base disp pages h = store_conditional_sound size t Quad a (address_of base disp) (inr refl) pages h
 
-branch_sound : (size : ℕ) (t : Table) (op : BranchOp) (a disp : ℕ) → IsAligned t → IsSound size (branch_row t op a disp)
+branch_sound : (size : ℕ) (t : CpuState) (op : BranchOp) (a disp : ℕ) → IsAligned t → IsSound size (branch_row t op a disp)
 branch_sound size t branch.BR a disp h = goal_aligned t branch.BR a disp h
 branch_sound size t branch.BSR a disp h = goal_aligned t branch.BSR a disp h
 branch_sound size t branch.BLBC a disp h = goal_aligned t branch.BLBC a disp h
@@ -196,15 +196,15 @@ branch_sound size t branch.BLE a disp h = goal_aligned t branch.BLE a disp h
 branch_sound size t branch.BGE a disp h = goal_aligned t branch.BGE a disp h
 branch_sound size t branch.BGT a disp h = goal_aligned t branch.BGT a disp h
 
-operate_sound : (size : ℕ) (t : Table) (op : Op) (a b c : ℕ) → IsAligned t → IsSound size (operate_row t op a b c)
+operate_sound : (size : ℕ) (t : CpuState) (op : Op) (a b c : ℕ) → IsAligned t → IsSound size (operate_row t op a b c)
 operate_sound size t op a b c h =
     either (eqb (operate_opcode op) BYTE_OPCODE) size (register_plan t c (bytes.value_of op a b)) _ (λ _. next_aligned t h)
     (λ _. either (integer.overflow_of op a b) size Unbuilt (register_plan t c (integer.value_of op a b (register t.state c))) (λ _. tt) (λ _. next_aligned t h))
 
-fenced_sound : (size : ℕ) (t : Table) (kind : Kind) → IsSoundAs size kind (record { kind = kind; address = 0; size = 0; value = 0 }) → IsAligned t → IsSound size (barrier_plan t kind)
+fenced_sound : (size : ℕ) (t : CpuState) (kind : Kind) → IsSoundAs size kind (record { kind = kind; address = 0; size = 0; value = 0 }) → IsAligned t → IsSound size (barrier_plan t kind)
 fenced_sound size t kind sound h = (sound, λ v. next_aligned t h)
 
-misc_sound : (size : ℕ) (t : Table) (op : MiscOp) (a : ℕ) → IsAligned t → IsSound size (misc_row t op a)
+misc_sound : (size : ℕ) (t : CpuState) (op : MiscOp) (a : ℕ) → IsAligned t → IsSound size (misc_row t op a)
 misc_sound size t misc.TRAPB a h = next_aligned t h
 misc_sound size t misc.EXCB a h = next_aligned t h
 misc_sound size t misc.FETCH a h = next_aligned t h
@@ -215,12 +215,12 @@ misc_sound size t misc.MB a h = fenced_sound size t Barrier (record { address = 
 misc_sound size t misc.WMB a h = fenced_sound size t WriteBarrier (record { address = refl; size = refl; value = refl }) h
 misc_sound size t misc.RPCC a h = next_aligned t h
 
-pal_sound : (size : ℕ) (t : Table) (op : PalOp) → IsAligned t → IsSound size (pal_row t op)
+pal_sound : (size : ℕ) (t : CpuState) (op : PalOp) → IsAligned t → IsSound size (pal_row t op)
 pal_sound size t pal.HALT h = next_aligned t h
 pal_sound size t pal.IMB h = fenced_sound size t CodeBarrier (record { address = refl; size = refl; value = refl }) h
 pal_sound size t op h = search rules
 
-row_sound : (size : ℕ) (t : Table) (i : Instr) → size % PAGE_BYTES ≡ 0 → IsAligned t → IsSound size (row size t i)
+row_sound : (size : ℕ) (t : CpuState) (i : Instr) → size % PAGE_BYTES ≡ 0 → IsAligned t → IsSound size (row size t i)
 unfolding row
 row_sound size t (instr.Memory op a b disp) pages h = memory_sound size t op a (register t.state b) disp pages h
 row_sound size t (instr.Branch op a disp) pages h = branch_sound size t op a disp h
@@ -248,7 +248,7 @@ looked_up_sound size table a pages =
       entry_aligned : (n : ℕ) → n % 8 ≡ 0 → n % 2 ^ 64 % 8 ≡ 0
       entry_aligned n e = omega arith
 
-pub group_sound : (size : ℕ) (t : Table) → size % PAGE_BYTES ≡ 0 → IsAligned t → IsSound size (group size t)
+pub group_sound : (size : ℕ) (t : CpuState) → size % PAGE_BYTES ≡ 0 → IsAligned t → IsSound size (group size t)
 unfolding group
 group_sound size t pages h =
     either (in_kseg (pc_of t.state)) size (memory_plan size Fetch (pc_of t.state) INSTRUCTION_BYTES 0 (plan_of_word size t)) (look_up_plan size (ptbr_of t.state) (pc_of t.state))

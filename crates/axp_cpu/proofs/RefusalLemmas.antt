@@ -21,10 +21,10 @@ use Rattle.axp_regs.specs.States.{register, pc_of, ptbr_of}
 use Rattle.axp_regs.specs.declared.asks.Kind.{Kind}
 use Rattle.axp_regs.specs.declared.asks.Kind.TheVariants.{Fetch, Read, Write, Locked, Conditional}
 use Rattle.axp_regs.specs.declared.states.TheConstants.{ZERO_REGISTER}
-use Rattle.axp_cpu.specs.declared.tables.Table.{Table}
+use Rattle.axp_cpu.specs.declared.cpu_states.CpuState.{CpuState}
 use Rattle.axp_cpu.specs.Addresses.{aligned_plan, first_entry, in_kseg, is_canonical, look_up_plan, memory_plan}
 use Rattle.axp_cpu.specs.Plans.{Plan, Want, Unbuilt, given, is_built}
-use Rattle.axp_cpu.specs.Tables.{with_lock_flag}
+use Rattle.axp_cpu.specs.CpuStates.{with_lock_flag}
 use Rattle.axp_cpu.specs.Refusals.{is_reached, is_accessible, load_refused, store_refused, memory_refused, pal_refused, is_refused, is_begun}
 use Rattle.axp_cpu.specs.Rows.{group, plan_of_word, row, memory_row, branch_row, operate_row, misc_row, pal_row, next_plan, register_plan, load_locked_plan, load_plan, store_conditional_plan, store_plan, as_read, as_longword, address_of, quadword_at, operand}
 
@@ -50,21 +50,21 @@ loaded_if : (lost : Bool) (p q : Plan) (r : Bool) → is_built p ≡ true → is
 loaded_if true p q r ends is = ends
 loaded_if false p q r ends is = is ∙ twice r
 
-loaded_built : (size : ℕ) (t : Table) (what : Size) (a address : ℕ) (k : ℕ → Plan) → is_built (load_plan size t what a address k) ≡ not (load_refused size what a address)
+loaded_built : (size : ℕ) (t : CpuState) (what : Size) (a address : ℕ) (k : ℕ → Plan) → is_built (load_plan size t what a address k) ≡ not (load_refused size what a address)
 loaded_built size t what a address k =
     loaded_if (eqb a ZERO_REGISTER) (next_plan t) _ (is_accessible size what address) refl (aligned_built size Read what address 0 k)
 
-stored_built : (size : ℕ) (t : Table) (what : Size) (a address : ℕ) → is_built (store_plan size t what a address) ≡ not (store_refused size what address)
+stored_built : (size : ℕ) (t : CpuState) (what : Size) (a address : ℕ) → is_built (store_plan size t what a address) ≡ not (store_refused size what address)
 stored_built size t what a address = aligned_built size Write what address (low_datum what (register t.state a)) (λ _. next_plan t) ∙ twice (is_accessible size what address)
 
 load_locked_built : (size : ℕ) (what : Size) (address : ℕ) (k : ℕ → Plan) → is_built (load_locked_plan size what address k) ≡ not (store_refused size what address)
 load_locked_built size what address k = aligned_built size Locked what address 0 k ∙ twice (is_accessible size what address)
 
-store_conditional_built : (size : ℕ) (t : Table) (what : Size) (a address : ℕ) → is_built (store_conditional_plan size t what a address) ≡ not (store_refused size what address)
+store_conditional_built : (size : ℕ) (t : CpuState) (what : Size) (a address : ℕ) → is_built (store_conditional_plan size t what a address) ≡ not (store_refused size what address)
 store_conditional_built size t what a address =
     aligned_built size Conditional what address (low_datum what (register t.state a)) (as_read (with_lock_flag t false) a) ∙ twice (is_accessible size what address)
 
-memory_built : (size : ℕ) (t : Table) (op : MemOp) (a base disp : ℕ) → is_built (memory_row size t op a base disp) ≡ not (memory_refused size op a (address_of base disp))
+memory_built : (size : ℕ) (t : CpuState) (op : MemOp) (a base disp : ℕ) → is_built (memory_row size t op a base disp) ≡ not (memory_refused size op a (address_of base disp))
 memory_built size t memory.LDA a base disp = refl
 memory_built size t memory.LDAH a base disp = refl
 memory_built size t memory.LDBU a base disp = loaded_built size t Byte a (address_of base disp) (as_read t a)
@@ -82,13 +82,13 @@ memory_built size t memory.STQ_U a base disp = stored_built size t Quad a (quadw
 memory_built size t memory.STL_C a base disp = store_conditional_built size t Long a (address_of base disp)
 memory_built size t memory.STQ_C a base disp = store_conditional_built size t Quad a (address_of base disp)
 
-branch_built : (t : Table) (op : BranchOp) (a disp : ℕ) → is_built (branch_row t op a disp) ≡ true
+branch_built : (t : CpuState) (op : BranchOp) (a disp : ℕ) → is_built (branch_row t op a disp) ≡ true
 branch_built t op a disp = search rules
 
-misc_built : (t : Table) (op : MiscOp) (a : ℕ) → is_built (misc_row t op a) ≡ true
+misc_built : (t : CpuState) (op : MiscOp) (a : ℕ) → is_built (misc_row t op a) ≡ true
 misc_built t op a = search rules
 
-pal_built : (t : Table) (op : PalOp) → is_built (pal_row t op) ≡ not (pal_refused op)
+pal_built : (t : CpuState) (op : PalOp) → is_built (pal_row t op) ≡ not (pal_refused op)
 pal_built t op = search rules
 
 -- no instruction of opcode 12 overflows
@@ -101,11 +101,11 @@ operate_if true over p q left right never = left ∙ sym (ap not (never refl))
 operate_if false true p q left right never = refl
 operate_if false false p q left right never = right
 
-operate_built : (t : Table) (op : Op) (a b c : ℕ) → is_built (operate_row t op a b c) ≡ not (integer.overflow_of op a b)
+operate_built : (t : CpuState) (op : Op) (a b c : ℕ) → is_built (operate_row t op a b c) ≡ not (integer.overflow_of op a b)
 operate_built t op a b c =
     operate_if (eqb (operate_opcode op) BYTE_OPCODE) (integer.overflow_of op a b) (register_plan t c (bytes.value_of op a b)) (register_plan t c (integer.value_of op a b (register t.state c))) refl refl (never_overflows op a b)
 
-pub row_built : (size : ℕ) (t : Table) (i : Instr) → is_built (row size t i) ≡ not (is_refused size t i)
+pub row_built : (size : ℕ) (t : CpuState) (i : Instr) → is_built (row size t i) ≡ not (is_refused size t i)
 unfolding row
 row_built size t (instr.Memory op a b disp) = memory_built size t op a (register t.state b) disp
 row_built size t (instr.Branch op a disp) = branch_built t op a disp
@@ -125,7 +125,7 @@ looked_up_leads size v table a = leads_if (is_canonical a && ltb (first_entry ta
   leads_if true = refl
   leads_if false = refl
 
-pub group_built : (size : ℕ) (t : Table) → is_built (group size t) ≡ is_begun size t
+pub group_built : (size : ℕ) (t : CpuState) → is_built (group size t) ≡ is_begun size t
 unfolding group
 group_built size t =
     both (in_kseg (pc_of t.state)) _ _ _ _ (reached_built size Fetch (pc_of t.state) INSTRUCTION_BYTES 0 (plan_of_word size t)) (looked_up_built size (ptbr_of t.state) (pc_of t.state)) where

@@ -1,4 +1,4 @@
-pub mod Tables
+pub mod CpuStates
 pub mod Plans
 pub mod Addresses
 pub mod Rows

@@ -2,11 +2,11 @@
 use Rattle.std.specs.Prelude.{ℕ, ◌+◌, if◌then◌else◌, Bool, true, false, List, [], ◌∷◌}
 use Rattle.axp_access.specs.Kinds.{is_fetch}
 use Rattle.axp_access.specs.declared.Wanted.{Wanted}
-use Rattle.axp_cpu.specs.declared.tables.Table.{Table}
+use Rattle.axp_cpu.specs.declared.cpu_states.CpuState.{CpuState}
 
 pub data Plan : Type 0 where
   -- the group ends in this table state
-  End : Table → Plan
+  End : CpuState → Plan
   -- the group wants this access, and goes on so with the value that it gives
   Want : Wanted → (ℕ → Plan) → Plan
   -- the group comes to what is not built

@@ -12,7 +12,7 @@ use Rattle.axp_decode.specs.declared.names.PalOp.TheVariants.{HALT, IMB}
 use Rattle.axp_integer.specs.Rows.{overflow_of}
 use Rattle.axp_regs.specs.States.{register, pc_of, ptbr_of}
 use Rattle.axp_regs.specs.declared.states.TheConstants.{ZERO_REGISTER}
-use Rattle.axp_cpu.specs.declared.tables.Table.{Table}
+use Rattle.axp_cpu.specs.declared.cpu_states.CpuState.{CpuState}
 use Rattle.axp_cpu.specs.Addresses.{first_entry, in_kseg, is_canonical, physical}
 use Rattle.axp_cpu.specs.Rows.{address_of, operand, quadword_at}
 
@@ -57,7 +57,7 @@ pal_refused _ = true
 
 -- the instruction is not built: an access of an address that is not accessible, a /V form that overflows,
 -- a PAL call other than halt and imb, and every word that is floating or reserved
-abbrev pub is_refused : ℕ → Table → Instr → Bool
+abbrev pub is_refused : ℕ → CpuState → Instr → Bool
 is_refused size t (Memory op a b disp) = memory_refused size op a (address_of (register t.state b) disp)
 is_refused size t (Branch op a disp) = false
 is_refused size t (Jump kind a b hint) = false
@@ -68,9 +68,9 @@ is_refused size t (Floating word) = true
 is_refused size t (Reserved word) = true
 
 -- the page of an instruction's address is looked up
-abbrev pub is_looked_up : ℕ → Table → Bool
+abbrev pub is_looked_up : ℕ → CpuState → Bool
 is_looked_up size t = is_canonical (pc_of t.state) && nat_lt (first_entry (ptbr_of t.state) (pc_of t.state)) size
 
 -- the group wants an access: a fetch in the kernel segment and in memory, or outside of it the look-up
-abbrev pub is_begun : ℕ → Table → Bool
+abbrev pub is_begun : ℕ → CpuState → Bool
 is_begun size t = if in_kseg (pc_of t.state) then is_reached size (pc_of t.state) else is_looked_up size t

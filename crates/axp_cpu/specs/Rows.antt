@@ -30,48 +30,48 @@ use Rattle.axp_regs.specs.States.{register, pc_of, ptbr_of, fetched_of, offset_o
 use Rattle.axp_regs.specs.declared.asks.Kind.{Kind}
 use Rattle.axp_regs.specs.declared.asks.Kind.TheVariants.{Fetch, Read, Write, Locked, Conditional, Barrier, WriteBarrier, CodeBarrier}
 use Rattle.axp_regs.specs.declared.states.TheConstants.{ZERO_REGISTER}
-use Rattle.axp_cpu.specs.declared.tables.Table.{Table}
+use Rattle.axp_cpu.specs.declared.cpu_states.CpuState.{CpuState}
 use Rattle.axp_cpu.specs.Addresses.{aligned_plan, in_kseg, look_up_plan, memory_plan}
 use Rattle.axp_cpu.specs.Plans.{Plan, End, Want, Unbuilt}
-use Rattle.axp_cpu.specs.Tables.{next_pc, at_pc, with_value, with_lock_flag, with_fetch_counted}
+use Rattle.axp_cpu.specs.CpuStates.{next_pc, at_pc, with_value, with_lock_flag, with_fetch_counted}
 
 -- the instruction ends
-abbrev pub next_plan : Table → Plan
+abbrev pub next_plan : CpuState → Plan
 next_plan t = End (at_pc t (next_pc t))
 
 -- it writes a register, and goes on here
-abbrev pub register_plan_at : Table → ℕ → ℕ → ℕ → Plan
+abbrev pub register_plan_at : CpuState → ℕ → ℕ → ℕ → Plan
 register_plan_at t n v pc = End (at_pc (with_value t n v) pc)
 
 -- it writes a register and ends
-abbrev pub register_plan : Table → ℕ → ℕ → Plan
+abbrev pub register_plan : CpuState → ℕ → ℕ → Plan
 register_plan t n v = register_plan_at t n v (next_pc t)
 
 -- it goes on elsewhere, and its register holds the updated program counter
-abbrev pub link_plan : Table → ℕ → ℕ → Plan
+abbrev pub link_plan : CpuState → ℕ → ℕ → Plan
 link_plan t n target = register_plan_at t n (next_pc t) target
 
 -- a barrier: an access that names no memory
-abbrev pub barrier_plan : Table → Kind → Plan
+abbrev pub barrier_plan : CpuState → Kind → Plan
 barrier_plan t kind = Want (record { kind = kind; address = 0; size = 0; value = 0 }) (λ v. next_plan t)
 
 -- the processor halts behind the instruction
-abbrev pub halt_plan : Table → ℕ → Plan
+abbrev pub halt_plan : CpuState → ℕ → Plan
 halt_plan t code = End (record { state = (at_pc t (next_pc t)).state; halted = Some code })
 
 -- a load: into R31 it does nothing
-abbrev pub load_plan : ℕ → Table → Size → ℕ → ℕ → (ℕ → Plan) → Plan
+abbrev pub load_plan : ℕ → CpuState → Size → ℕ → ℕ → (ℕ → Plan) → Plan
 load_plan size t what a address k = if a == ZERO_REGISTER then next_plan t else aligned_plan size Read address (bytes_of what) 0 k
 
 -- Ra becomes the value that was read, or the longword sign-extended
-abbrev pub as_read : Table → ℕ → ℕ → Plan
+abbrev pub as_read : CpuState → ℕ → ℕ → Plan
 as_read t a v = register_plan t a v
 
-abbrev pub as_longword : Table → ℕ → ℕ → Plan
+abbrev pub as_longword : CpuState → ℕ → ℕ → Plan
 as_longword t a v = register_plan t a (sign_extended 32 v)
 
 -- a store of the low datum of Ra
-abbrev pub store_plan : ℕ → Table → Size → ℕ → ℕ → Plan
+abbrev pub store_plan : ℕ → CpuState → Size → ℕ → ℕ → Plan
 store_plan size t what a address = aligned_plan size Write address (bytes_of what) (low_datum what (register t.state a)) (λ _. next_plan t)
 
 -- a load-locked: also into R31 it makes its access; its end sets the lock flag
@@ -80,7 +80,7 @@ load_locked_plan size what address k = aligned_plan size Locked address (bytes_o
 
 -- a store-conditional of the low datum of Ra: Ra becomes 1 where it stored, else 0, and the lock flag is
 -- cleared
-abbrev pub store_conditional_plan : ℕ → Table → Size → ℕ → ℕ → Plan
+abbrev pub store_conditional_plan : ℕ → CpuState → Size → ℕ → ℕ → Plan
 store_conditional_plan size t what a address = aligned_plan size Conditional address (bytes_of what) (low_datum what (register t.state a)) (as_read (with_lock_flag t false) a)
 
 -- the quadword that has the byte at an address
@@ -96,7 +96,7 @@ abbrev pub high_address_of : ℕ → ℕ → ℕ
 high_address_of base disp = add base (mul (sign_extended 16 disp) 65536)
 
 -- the memory format; base is the value of Rb
-abbrev pub memory_row : ℕ → Table → MemOp → ℕ → ℕ → ℕ → Plan
+abbrev pub memory_row : ℕ → CpuState → MemOp → ℕ → ℕ → ℕ → Plan
 memory_row size t LDA a base disp = register_plan t a (address_of base disp)
 memory_row size t LDAH a base disp = register_plan t a (high_address_of base disp)
 memory_row size t LDBU a base disp = load_plan size t Byte a (address_of base disp) (as_read t a)
@@ -115,10 +115,10 @@ memory_row size t STL_C a base disp = store_conditional_plan size t Long a (addr
 memory_row size t STQ_C a base disp = store_conditional_plan size t Quad a (address_of base disp)
 
 -- where a branch goes on, and whether it links
-abbrev pub branch_goal : Table → BranchOp → ℕ → ℕ → ℕ
+abbrev pub branch_goal : CpuState → BranchOp → ℕ → ℕ → ℕ
 branch_goal t op a disp = if is_taken op (register t.state a) then target_of (next_pc t) disp else next_pc t
 
-abbrev pub branch_row : Table → BranchOp → ℕ → ℕ → Plan
+abbrev pub branch_row : CpuState → BranchOp → ℕ → ℕ → Plan
 branch_row t BR a disp = link_plan t a (branch_goal t BR a disp)
 branch_row t BSR a disp = link_plan t a (branch_goal t BSR a disp)
 branch_row t BLBC a disp = End (at_pc t (branch_goal t BLBC a disp))
@@ -131,27 +131,27 @@ branch_row t BGE a disp = End (at_pc t (branch_goal t BGE a disp))
 branch_row t BGT a disp = End (at_pc t (branch_goal t BGT a disp))
 
 -- a jump goes to Rb with its two low bits cleared, whatever its hint
-abbrev pub jump_row : Table → ℕ → ℕ → Plan
+abbrev pub jump_row : CpuState → ℕ → ℕ → Plan
 jump_row t a b = link_plan t a (register t.state b / 4 * 4)
 
 -- the second operand of the operate format
-abbrev pub operand : Table → Operand → ℕ
+abbrev pub operand : CpuState → Operand → ℕ
 operand t (Reg n pad) = register t.state n
 operand t (Literal value) = value
 
 -- the operate format: an overflow is not built
-abbrev pub operate_row : Table → Op → ℕ → ℕ → ℕ → Plan
+abbrev pub operate_row : CpuState → Op → ℕ → ℕ → ℕ → Plan
 operate_row t op a b c =
     if operate_opcode op == BYTE_OPCODE then register_plan t c (bytes.value_of op a b) else
     if integer.overflow_of op a b then Unbuilt else
     register_plan t c (integer.value_of op a b (register t.state c))
 
 -- the counter of fetched instructions, below the offset
-abbrev pub cycle_counter : Table → ℕ
+abbrev pub cycle_counter : CpuState → ℕ
 cycle_counter t = offset_of t.state * 2 ^ 32 + fetched_of t.state
 
 -- opcode 18
-abbrev pub misc_row : Table → MiscOp → ℕ → Plan
+abbrev pub misc_row : CpuState → MiscOp → ℕ → Plan
 misc_row t TRAPB a = next_plan t
 misc_row t EXCB a = next_plan t
 misc_row t FETCH a = next_plan t
@@ -163,13 +163,13 @@ misc_row t WMB a = barrier_plan t WriteBarrier
 misc_row t RPCC a = register_plan t a (cycle_counter t)
 
 -- the PAL calls
-abbrev pub pal_row : Table → PalOp → Plan
+abbrev pub pal_row : CpuState → PalOp → Plan
 pal_row t HALT = halt_plan t 1
 pal_row t IMB = barrier_plan t CodeBarrier
 pal_row t _ = Unbuilt
 
 -- what an instruction does once its word is fetched
-unfoldable pub row : ℕ → Table → Instr → Plan
+unfoldable pub row : ℕ → CpuState → Instr → Plan
 row size t (Memory op a b disp) = memory_row size t op a (register t.state b) disp
 row size t (Branch op a disp) = branch_row t op a disp
 row size t (Jump kind a b hint) = jump_row t a b
@@ -180,12 +180,12 @@ row size t (Floating word) = Unbuilt
 row size t (Reserved word) = Unbuilt
 
 -- what follows the fetch of a word
-abbrev pub plan_of_word : ℕ → Table → ℕ → Plan
+abbrev pub plan_of_word : ℕ → CpuState → ℕ → Plan
 plan_of_word size t v = row size (with_fetch_counted t) (instr_of (v % 2 ^ 32))
 
 -- the group that begins at a table state: the fetch of the instruction at the program counter, and its
 -- row; outside of the kernel segment the look-up of its page
-unfoldable pub group : ℕ → Table → Plan
+unfoldable pub group : ℕ → CpuState → Plan
 group size t =
     if in_kseg (pc_of t.state)
     then memory_plan size Fetch (pc_of t.state) INSTRUCTION_BYTES 0 (plan_of_word size t)

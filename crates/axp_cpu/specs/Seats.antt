@@ -6,10 +6,10 @@ use Rattle.axp_base.specs.Lists.{is_empty}
 use Rattle.axp_image.specs.Contents.{Contents}
 use Rattle.axp_regs.specs.States.{first_state, locked_of, ps_of, with_pc, with_ptbr, with_register}
 use Rattle.axp_regs.specs.declared.states.State.{State}
-use Rattle.axp_cpu.specs.declared.tables.Table.{Table}
+use Rattle.axp_cpu.specs.declared.cpu_states.CpuState.{CpuState}
 use Rattle.axp_cpu.specs.Plans.{Plan, End, Want, Unbuilt, along, fetches, is_built}
 use Rattle.axp_cpu.specs.Rows.{group}
-use Rattle.axp_cpu.specs.Tables.{counted_by}
+use Rattle.axp_cpu.specs.CpuStates.{counted_by}
 
 -- where a processor stands: the size of memory, how many processors there are, the budget of steps, the
 -- table state at the start of its group, the values that the group's accesses gave so far, and the steps
@@ -18,12 +18,12 @@ pub record Seat : Type 0 where
   pub size : ℕ
   pub cpus : ℕ
   pub budget : ℕ
-  pub start : Table
+  pub start : CpuState
   pub values : List ℕ
   pub steps : ℕ
 
 -- the table state at the start: R16 is the processor's number, R30 the image's stack word
-abbrev pub first_table : Contents → ℕ → Table
+abbrev pub first_table : Contents → ℕ → CpuState
 first_table image p = record {
   state = with_ptbr (with_pc (with_register (with_register (first_state p) 16 p) 30 image.stack) image.entry) image.table;
   halted = None;
@@ -37,7 +37,7 @@ abbrev pub plan_now : Seat → Plan
 plan_now s = along s.values (group s.size s.start)
 
 -- the table state as it is now: each fetch is counted as it is made, all else changes with the group's end
-abbrev pub table_now : Seat → Table
+abbrev pub table_now : Seat → CpuState
 table_now s = counted_by (fetches s.values (group s.size s.start)) s.start
 
 -- halted, or with its budget of steps made

@@ -3,9 +3,9 @@ use Rattle.std.specs.Prelude.{is_none, ◌≡◌, ℕ, ◌*◌, ◌%◌, ◌^◌
 use Rattle.axp_access.specs.declared.Wanted.{Wanted}
 use Rattle.axp_image.specs.declared.limits.TheConstants.{INSTRUCTION_BYTES, MAX_MEMORY, PAGE_BYTES}
 use Rattle.axp_regs.specs.States.{pc_of}
-use Rattle.axp_cpu.specs.declared.phases.Then.{Then}
+use Rattle.axp_cpu.specs.declared.phases.Continuation.{Continuation}
 use Rattle.axp_cpu.specs.declared.sequencers.Sequencer.{Sequencer}
-use Rattle.axp_cpu.specs.declared.tables.Table.{Table}
+use Rattle.axp_cpu.specs.declared.cpu_states.CpuState.{CpuState}
 use Rattle.axp_base.specs.Lists.{is_empty}
 use Rattle.axp_cpu.specs.Phases.{Fits, after}
 use Rattle.axp_cpu.specs.Plans.{Plan, Want}
@@ -14,14 +14,14 @@ use Rattle.axp_cpu.specs.Seats.{Seat, is_finished, is_built_after, plan_now, sea
 use Rattle.axp_cpu.specs.Soundness.{IsSoundAs}
 
 -- what a processor's group still has to do
-abbrev pub left_by : ℕ → Table → Option (Wanted × Then) → Plan
+abbrev pub left_by : ℕ → CpuState → Option (Wanted × Continuation) → Plan
 left_by size t None = group size t
 left_by size t (Some (w, next)) = Want w (after size t next)
 
 abbrev pub plan_left : Sequencer → Plan
 plan_left p = left_by p.size p.table p.making
 
-abbrev pub MakesFit : Option (Wanted × Then) → Type 0
+abbrev pub MakesFit : Option (Wanted × Continuation) → Type 0
 MakesFit None = Unit {0}
 MakesFit (Some (w, next)) = Fits w next
 

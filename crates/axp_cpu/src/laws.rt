@@ -2,7 +2,7 @@
 ghost use Rattle.std.specs.Prelude.{ℕ, false, not, ◌≡◌, ◌≢◌, [], Option, Some, None, IfNone, IfSome};
 ghost use Rattle.axp_access.specs.declared.Access.{Access};
 ghost use Rattle.axp_access.specs.declared.Wanted.{Wanted};
-ghost use Rattle.axp_cpu.specs.declared.tables.Table.{Table};
+ghost use Rattle.axp_cpu.specs.declared.cpu_states.CpuState.{CpuState};
 ghost use Rattle.axp_cpu.specs.Actors.{Actor, actor_intent};
 ghost use Rattle.axp_cpu.specs.Addresses.{look_up_plan};
 ghost use Rattle.axp_cpu.specs.Plans.{given, is_built};
@@ -11,7 +11,7 @@ ghost use Rattle.axp_cpu.specs.Rows.{group, row};
 ghost use Rattle.axp_cpu.specs.Seats.{Seat, is_built_after};
 ghost use Rattle.axp_cpu.specs.Showing.{IsAccessOf, lock_flag, register_value, seat_shown, state_shown};
 ghost use Rattle.axp_cpu.specs.Soundness.{AnswersEnd};
-ghost use Rattle.axp_cpu.specs.Tables.{next_pc};
+ghost use Rattle.axp_cpu.specs.CpuStates.{next_pc};
 ghost use Rattle.axp_decode.specs.declared.instructions.Instr.{Instr};
 ghost use Rattle.axp_decode.specs.declared.names.MemOp.{MemOp};
 ghost use Rattle.axp_line.specs.declared.messages.Reply.{Reply};
@@ -23,15 +23,15 @@ ghost use Rattle.axp_regs.specs.declared.states.TheConstants.{ZERO_REGISTER};
 /// kernel segment and not in memory, or its page cannot be looked up; what a look-up leads to; and exactly
 /// the instructions that `is_refused` lists.
 pub fn what_is_not_built()
-    ensures fetch { (size : ℕ) (t : Table) → is_built (group size t) ≡ is_begun size t }
+    ensures fetch { (size : ℕ) (t : CpuState) → is_built (group size t) ≡ is_begun size t }
     ensures look_up { (size v table address : ℕ) → is_built (given v (look_up_plan size table address)) ≡ false }
-    ensures instruction { (size : ℕ) (t : Table) (i : Instr) → is_built (row size t i) ≡ not (is_refused size t i) }
+    ensures instruction { (size : ℕ) (t : CpuState) (i : Instr) → is_built (row size t i) ≡ not (is_refused size t i) }
 {}
 
 /// Where the bus tells the value of an access, the group ends with it, whatever the value. So whether all
 /// is built that a step leads to can be tested before the bus is asked: its answer changes nothing.
 pub fn answered_values_end_groups()
-    ensures ends { (size : ℕ) (t : Table) → AnswersEnd (group size t) }
+    ensures ends { (size : ℕ) (t : CpuState) → AnswersEnd (group size t) }
     ensures built { (a : Actor) (w : Wanted) (r : Option Reply) → (actor_intent a).wanted ≡ Some w
         → is_built_after a.seat (value_of w a.kept r) ≡ is_built_after a.seat (value_of w a.kept None) }
 {}
@@ -48,7 +48,7 @@ pub fn registers_get_what_is_shown()
         → (n : ℕ) → n ≢ a → register (state_shown s x) n ≡ register s.start.state n }
     ensures stores { (s : Seat) (op : MemOp) (a : ℕ) (x : Access) → IsAccessOf s op a x
         → IfNone (register_value op x)
-            ((n : ℕ) → register (state_shown s x) n ≡ register s.start.state n) }
+        ((n : ℕ) → register (state_shown s x) n ≡ register s.start.state n) }
     ensures flag { (s : Seat) (op : MemOp) (a : ℕ) (x : Access) → IsAccessOf s op a x
         → locked_of (state_shown s x) ≡ lock_flag op (locked_of s.start.state) }
     ensures ends { (s : Seat) (op : MemOp) (a : ℕ) (x : Access) → IsAccessOf s op a x

@@ -5,13 +5,13 @@
 //! phases. A processor stands for a seat, where the definitions have it (`specs/Seats.antt`).
 #![tactic(auto)]
 
+mod cpu_states;
 mod laws;
 mod phases;
 mod processors;
 mod refusals;
 mod rows;
 mod sequencers;
-mod tables;
 
 pub use axp_lsu::Ask2;
 pub use laws::{answered_values_end_groups, registers_get_what_is_shown, what_is_not_built};

@@ -1,16 +1,16 @@
 //! How far a group of accesses has come.
 ghost use Rattle.std.specs.Prelude.{◌≡◌, ◌<◌, ℕ};
-ghost use Rattle.axp_cpu.specs.declared.tables.Table.{Table};
+ghost use Rattle.axp_cpu.specs.declared.cpu_states.CpuState.{CpuState};
 ghost use Rattle.axp_cpu.specs.Addresses.{aligned_plan, first_entry, in_kseg, look_up_plan, memory_plan};
 ghost use Rattle.axp_cpu.specs.Phases.{after, plan_of, table_after, Fits, FollowFits, PhaseFits};
 ghost use Rattle.axp_cpu.specs.Plans.{End, is_built};
 ghost use Rattle.axp_cpu.specs.Rows.{next_plan, group, halt_plan, register_plan, register_plan_at};
-ghost use Rattle.axp_cpu.specs.Tables.{at_pc};
+ghost use Rattle.axp_cpu.specs.CpuStates.{at_pc};
 ghost use Rattle.axp_regs.specs.States.{ptbr_of};
 ghost use Rattle.axp_regs.specs.declared.states.TheConstants.{REGISTERS};
 
+use crate::cpu_states::CpuState;
 use crate::rows::instruct;
-use crate::tables::Table;
 use axp_access::Wanted;
 use axp_base::{QUADWORD_BYTES, sext};
 use axp_decode::decode;
@@ -23,7 +23,7 @@ const KSEG_BYTES: u64 = 1 << 41;
 
 /// What a group does with the value that its access gives.
 #[derive(Clone, Copy, Debug, PartialEq, Eq)]
-pub enum Then {
+pub enum Continuation {
     /// Does the instruction that was fetched.
     Instruct,
     /// Writes it to a register.
@@ -35,7 +35,7 @@ pub enum Then {
     /// Writes the longword to a register, sign-extended, and sets the lock flag.
     LoadLockedLong { a: u8 },
     /// Writes to a register whether it stored, and clears the lock flag.
-    Conclude { a: u8 },
+    StoreConditional { a: u8 },
     /// Ends.
     Finish,
     /// Translates the instruction's address, which is not built.
@@ -46,16 +46,16 @@ pub enum Then {
 #[derive(Clone, Copy, Debug)]
 pub enum Phase {
     /// It wants an access, and does this with its value.
-    Makes(Wanted, Then),
+    Wants(Wanted, Continuation),
     /// It ends in this table state.
-    Ends(Table),
+    Ends(CpuState),
     /// It comes to what is not built.
     NotBuilt,
 }
 
 /// The group that begins at a table state.
 #[tactic(auto, unfolding(crate::specs::Rows::group))]
-pub fn begin(size: u64, table: &Table) -> Phase
+pub fn begin(size: u64, table: &CpuState) -> Phase
     ensures plan { plan_of size table.now result ≡ group size table.now }
     ensures fits { PhaseFits result }
 {
@@ -69,7 +69,7 @@ pub fn begin(size: u64, table: &Table) -> Phase
         size: INSTRUCTION_BYTES as u8,
         value: 0,
     };
-    reach(size, table, fetch, Then::Instruct)
+    reach(size, table, fetch, Continuation::Instruct)
 }
 
 /// Whether a virtual address lies in the kernel segment.
@@ -81,7 +81,7 @@ fn in_kseg(address: u64) -> bool
 
 /// The look-up of an instruction's address outside of the kernel segment: the read of its page-table
 /// entry of level 1.
-fn look_up(size: u64, table: &Table, pc: u64) -> Phase
+fn look_up(size: u64, table: &CpuState, pc: u64) -> Phase
     ensures plan { plan_of size table.now result ≡ look_up_plan size (ptbr_of table.now.state) pc }
     ensures fits { PhaseFits result }
 {
@@ -93,7 +93,7 @@ fn look_up(size: u64, table: &Table, pc: u64) -> Phase
             size: QUADWORD_BYTES as u8,
             value: 0,
         };
-        Phase::Makes(entry, Then::Translate)
+        Phase::Wants(entry, Continuation::Translate)
     } else {
         Phase::NotBuilt
     }
@@ -109,29 +109,33 @@ fn first_entry(table: u64, address: u64) -> u64
 
 /// What is left of a group once its wanted access gave this value. A fetch is counted in the table
 /// state, which else changes with the group's end alone.
-pub fn resume(size: u64, table: &mut Table, then: Then, value: u64) -> Phase
+pub fn resume(size: u64, table: &mut CpuState, then: Continuation, value: u64) -> Phase
     requires { FollowFits then }
     ensures plan { plan_of size table.new result ≡ after size table.old then value }
     ensures fits { PhaseFits result }
     ensures table { table.new ≡ table_after then table.old }
 {
     match then {
-        Then::Instruct => {
+        Continuation::Instruct => {
             table.count_fetch();
             instruct(size, table, decode((value & 0xFFFF_FFFF) as u32))
         }
-        Then::Load { a } => write(table, a, value),
-        Then::LoadLong { a } => write(table, a, sext(value, 32)),
-        Then::LoadLocked { a } => write(&table.with_lock_flag(true), a, value),
-        Then::LoadLockedLong { a } => write(&table.with_lock_flag(true), a, sext(value, 32)),
-        Then::Conclude { a } => write(&table.with_lock_flag(false), a, value),
-        Then::Finish => end(table),
-        Then::Translate => Phase::NotBuilt,
+        Continuation::Load { a } => write(table, a, value),
+        Continuation::LoadLong { a } => write(table, a, sext(value, 32)),
+        Continuation::LoadLocked { a } => write(&table.with_lock_flag(true), a, value),
+        Continuation::LoadLockedLong { a } => write(
+            &table.with_lock_flag(true),
+            a,
+            sext(value, 32),
+        ),
+        Continuation::StoreConditional { a } => write(&table.with_lock_flag(false), a, value),
+        Continuation::Finish => end(table),
+        Continuation::Translate => Phase::NotBuilt,
     }
 }
 
 /// An access whose virtual address must be a multiple of its size.
-pub fn align(size: u64, table: &Table, far: Wanted, then: Then) -> Phase
+pub fn align(size: u64, table: &CpuState, far: Wanted, then: Continuation) -> Phase
     requires sized { 0 < far.size }
     requires fits { Fits far then }
     ensures plan { plan_of size table.now result
@@ -146,7 +150,7 @@ pub fn align(size: u64, table: &Table, far: Wanted, then: Then) -> Phase
 }
 
 /// An access to a virtual address, which must lie in the kernel segment and in memory.
-fn reach(size: u64, table: &Table, far: Wanted, then: Then) -> Phase
+fn reach(size: u64, table: &CpuState, far: Wanted, then: Continuation) -> Phase
     requires { Fits far then }
     ensures plan { plan_of size table.now result
         ≡ memory_plan size far.kind far.address far.size far.value (after size table.now then) }
@@ -154,24 +158,24 @@ fn reach(size: u64, table: &Table, far: Wanted, then: Then) -> Phase
 {
     let address = far.address % KSEG_BYTES;
     if in_kseg(far.address) && address < size {
-        Phase::Makes(Wanted { address, ..far }, then)
+        Phase::Wants(Wanted { address, ..far }, then)
     } else {
         Phase::NotBuilt
     }
 }
 
 /// Goes on at an address.
-pub fn go_to(table: &Table, pc: u64) -> Phase
+pub fn go_to(table: &CpuState, pc: u64) -> Phase
     ensures plan { (size : ℕ) → plan_of size table.now result ≡ End (at_pc table.now pc) }
     ensures fits { PhaseFits result }
 {
     let mut state = table.state;
     state.set_pc(pc);
-    Phase::Ends(Table { state, ..*table })
+    Phase::Ends(CpuState { state, ..*table })
 }
 
 /// Ends.
-pub fn end(table: &Table) -> Phase
+pub fn end(table: &CpuState) -> Phase
     ensures plan { (size : ℕ) → plan_of size table.now result ≡ next_plan table.now }
     ensures fits { PhaseFits result }
 {
@@ -179,34 +183,34 @@ pub fn end(table: &Table) -> Phase
 }
 
 /// Writes a register and goes on at an address.
-pub fn write_and_go(table: &Table, n: u8, value: u64, pc: u64) -> Phase
+pub fn write_and_go(table: &CpuState, n: u8, value: u64, pc: u64) -> Phase
     requires { n < REGISTERS }
-    ensures plan { (size : ℕ) (t : Table) → plan_of size t result ≡ register_plan_at table.now n value pc }
+    ensures plan { (size : ℕ) (t : CpuState) → plan_of size t result ≡ register_plan_at table.now n value pc }
     ensures fits { PhaseFits result }
 {
     let mut state = table.state;
     state.set(n, value);
     state.set_pc(pc);
-    Phase::Ends(Table { state, ..*table })
+    Phase::Ends(CpuState { state, ..*table })
 }
 
 /// Writes a register and ends.
-pub fn write(table: &Table, n: u8, value: u64) -> Phase
+pub fn write(table: &CpuState, n: u8, value: u64) -> Phase
     requires { n < REGISTERS }
-    ensures plan { (size : ℕ) (t : Table) → plan_of size t result ≡ register_plan table.now n value }
+    ensures plan { (size : ℕ) (t : CpuState) → plan_of size t result ≡ register_plan table.now n value }
     ensures fits { PhaseFits result }
 {
     write_and_go(table, n, value, table.next_pc())
 }
 
 /// Halts with a code behind the instruction.
-pub fn halt(table: &Table, code: u8) -> Phase
+pub fn halt(table: &CpuState, code: u8) -> Phase
     ensures plan { (size : ℕ) → plan_of size table.now result ≡ halt_plan table.now code }
     ensures fits { PhaseFits result }
 {
     let mut state = table.state;
     state.set_pc(table.next_pc());
-    Phase::Ends(Table {
+    Phase::Ends(CpuState {
         state,
         halted: Some(code),
     })

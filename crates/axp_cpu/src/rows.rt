@@ -1,14 +1,14 @@
 //! The rows of the instruction table.
 ghost use Rattle.std.specs.Prelude.{◌≡◌, ◌<◌, ℕ, false};
 ghost use Rattle.axp_access.specs.Kinds.{is_fetch};
-ghost use Rattle.axp_cpu.specs.declared.tables.Table.{Table};
+ghost use Rattle.axp_cpu.specs.declared.cpu_states.CpuState.{CpuState};
 ghost use Rattle.axp_cpu.specs.Phases.{after, is_instruction, plan_of, FollowFits, PhaseFits};
 ghost use Rattle.axp_cpu.specs.Rows.{address_of, branch_goal, branch_row, cycle_counter, barrier_plan, high_address_of, jump_row, load_locked_plan, load_plan, memory_row, misc_row, operand, operate_row, pal_row, quadword_at, row, store_conditional_plan, store_plan};
 ghost use Rattle.axp_decode.specs.Format.{FieldsFit, OperandFits};
 ghost use Rattle.axp_regs.specs.declared.states.TheConstants.{REGISTERS};
 
-use crate::phases::{Phase, Then, align, end, go_to, halt, write, write_and_go};
-use crate::tables::Table;
+use crate::cpu_states::CpuState;
+use crate::phases::{Continuation, Phase, align, end, go_to, halt, write, write_and_go};
 use axp_access::Wanted;
 use axp_base::{Size, sext};
 use axp_branch::{taken, target};
@@ -19,7 +19,7 @@ use axp_regs::{Kind, ZERO_REGISTER};
 
 /// The row of an instruction.
 #[tactic(auto, unfolding(crate::specs::Rows::row))]
-pub fn instruct(size: u64, table: &Table, instr: Instr) -> Phase
+pub fn instruct(size: u64, table: &CpuState, instr: Instr) -> Phase
     requires { FieldsFit instr }
     ensures plan { plan_of size table.now result ≡ row size table.now instr }
     ensures fits { PhaseFits result }
@@ -38,7 +38,7 @@ pub fn instruct(size: u64, table: &Table, instr: Instr) -> Phase
 }
 
 /// The memory format.
-fn access(size: u64, table: &Table, op: MemOp, a: u8, base: u64, disp: u16) -> Phase
+fn access(size: u64, table: &CpuState, op: MemOp, a: u8, base: u64, disp: u16) -> Phase
     requires { a < REGISTERS }
     ensures plan { plan_of size table.now result ≡ memory_row size table.now op a base disp }
     ensures fits { PhaseFits result }
@@ -47,17 +47,45 @@ fn access(size: u64, table: &Table, op: MemOp, a: u8, base: u64, disp: u16) -> P
     match op {
         MemOp::LDA => write(table, a, address),
         MemOp::LDAH => write(table, a, displaced_high(base, disp)),
-        MemOp::LDBU => load(size, table, Size::Byte, a, address, Then::Load { a }),
-        MemOp::LDWU => load(size, table, Size::Word, a, address, Then::Load { a }),
-        MemOp::LDL => load(size, table, Size::Long, a, address, Then::LoadLong { a }),
-        MemOp::LDQ => load(size, table, Size::Quad, a, address, Then::Load { a }),
+        MemOp::LDBU => load(
+            size,
+            table,
+            Size::Byte,
+            a,
+            address,
+            Continuation::Load { a },
+        ),
+        MemOp::LDWU => load(
+            size,
+            table,
+            Size::Word,
+            a,
+            address,
+            Continuation::Load { a },
+        ),
+        MemOp::LDL => load(
+            size,
+            table,
+            Size::Long,
+            a,
+            address,
+            Continuation::LoadLong { a },
+        ),
+        MemOp::LDQ => load(
+            size,
+            table,
+            Size::Quad,
+            a,
+            address,
+            Continuation::Load { a },
+        ),
         MemOp::LDQ_U => load(
             size,
             table,
             Size::Quad,
             a,
             quadword(address),
-            Then::Load { a },
+            Continuation::Load { a },
         ),
         MemOp::STB => store(size, table, Size::Byte, a, address),
         MemOp::STW => store(size, table, Size::Word, a, address),
@@ -69,9 +97,15 @@ fn access(size: u64, table: &Table, op: MemOp, a: u8, base: u64, disp: u16) -> P
             table,
             Size::Long,
             address,
-            Then::LoadLockedLong { a },
+            Continuation::LoadLockedLong { a },
         ),
-        MemOp::LDQ_L => load_locked_plan(size, table, Size::Quad, address, Then::LoadLocked { a }),
+        MemOp::LDQ_L => load_locked_plan(
+            size,
+            table,
+            Size::Quad,
+            address,
+            Continuation::LoadLocked { a },
+        ),
         MemOp::STL_C => store_conditional_plan(size, table, Size::Long, a, address),
         MemOp::STQ_C => store_conditional_plan(size, table, Size::Quad, a, address),
     }
@@ -99,7 +133,7 @@ fn quadword(address: u64) -> u64
 }
 
 /// A load, and what follows with its value; into R31 it does nothing.
-fn load(size: u64, table: &Table, what: Size, a: u8, address: u64, then: Then) -> Phase
+fn load(size: u64, table: &CpuState, what: Size, a: u8, address: u64, then: Continuation) -> Phase
     requires fits { FollowFits then }
     requires ends { is_instruction then ≡ false }
     ensures plan { plan_of size table.now result ≡ load_plan size table.now what a address (after size table.now then) }
@@ -118,7 +152,7 @@ fn load(size: u64, table: &Table, what: Size, a: u8, address: u64, then: Then) -
 }
 
 /// A store of the low datum of Ra.
-fn store(size: u64, table: &Table, what: Size, a: u8, address: u64) -> Phase
+fn store(size: u64, table: &CpuState, what: Size, a: u8, address: u64) -> Phase
     requires { a < REGISTERS }
     ensures plan { plan_of size table.now result ≡ store_plan size table.now what a address }
     ensures fits { PhaseFits result }
@@ -129,11 +163,17 @@ fn store(size: u64, table: &Table, what: Size, a: u8, address: u64) -> Phase
         size: what.bytes(),
         value: what.low(table.state.get(a)),
     };
-    align(size, table, write, Then::Finish)
+    align(size, table, write, Continuation::Finish)
 }
 
 /// A load-locked, and what follows with its value; into R31 too it makes its access.
-fn load_locked_plan(size: u64, table: &Table, what: Size, address: u64, then: Then) -> Phase
+fn load_locked_plan(
+    size: u64,
+    table: &CpuState,
+    what: Size,
+    address: u64,
+    then: Continuation,
+) -> Phase
     requires fits { FollowFits then }
     requires ends { is_instruction then ≡ false }
     ensures plan { plan_of size table.now result ≡ load_locked_plan size what address (after size table.now then) }
@@ -149,7 +189,7 @@ fn load_locked_plan(size: u64, table: &Table, what: Size, address: u64, then: Th
 }
 
 /// A store-conditional of the low datum of Ra, which tells Ra whether it stored.
-fn store_conditional_plan(size: u64, table: &Table, what: Size, a: u8, address: u64) -> Phase
+fn store_conditional_plan(size: u64, table: &CpuState, what: Size, a: u8, address: u64) -> Phase
     requires { a < REGISTERS }
     ensures plan { plan_of size table.now result ≡ store_conditional_plan size table.now what a address }
     ensures fits { PhaseFits result }
@@ -160,11 +200,11 @@ fn store_conditional_plan(size: u64, table: &Table, what: Size, a: u8, address: 
         size: what.bytes(),
         value: what.low(table.state.get(a)),
     };
-    align(size, table, write, Then::Conclude { a })
+    align(size, table, write, Continuation::StoreConditional { a })
 }
 
 /// The branch format.
-fn branch(table: &Table, op: BranchOp, a: u8, disp: u32) -> Phase
+fn branch(table: &CpuState, op: BranchOp, a: u8, disp: u32) -> Phase
     requires { a < REGISTERS }
     ensures plan { (size : ℕ) → plan_of size table.now result ≡ branch_row table.now op a disp }
     ensures fits { PhaseFits result }
@@ -184,7 +224,7 @@ fn branch(table: &Table, op: BranchOp, a: u8, disp: u32) -> Phase
 }
 
 /// Where a branch goes on.
-fn goal_of(table: &Table, op: BranchOp, a: u8, disp: u32) -> u64
+fn goal_of(table: &CpuState, op: BranchOp, a: u8, disp: u32) -> u64
     requires { a < REGISTERS }
     ensures { result ≡ branch_goal table.now op a disp }
 {
@@ -197,7 +237,7 @@ fn goal_of(table: &Table, op: BranchOp, a: u8, disp: u32) -> u64
 }
 
 /// A jump: Rb is read before Ra is written.
-fn jump(table: &Table, a: u8, b: u8) -> Phase
+fn jump(table: &CpuState, a: u8, b: u8) -> Phase
     requires a { a < REGISTERS }
     requires b { b < REGISTERS }
     ensures plan { (size : ℕ) → plan_of size table.now result ≡ jump_row table.now a b }
@@ -208,7 +248,7 @@ fn jump(table: &Table, a: u8, b: u8) -> Phase
 }
 
 /// The second operand of the operate format.
-fn read_operand(table: &Table, b: Operand) -> u64
+fn read_operand(table: &CpuState, b: Operand) -> u64
     requires { OperandFits b }
     ensures { result ≡ operand table.now b }
 {
@@ -219,7 +259,7 @@ fn read_operand(table: &Table, b: Operand) -> u64
 }
 
 /// The operate format.
-fn compute(table: &Table, op: Op, a: u64, b: u64, c: u8) -> Phase
+fn compute(table: &CpuState, op: Op, a: u64, b: u64, c: u8) -> Phase
     requires { c < REGISTERS }
     ensures plan { (size : ℕ) → plan_of size table.now result ≡ operate_row table.now op a b c }
     ensures fits { PhaseFits result }
@@ -236,7 +276,7 @@ fn compute(table: &Table, op: Op, a: u64, b: u64, c: u8) -> Phase
 }
 
 /// The instructions of opcode 18.
-fn misc(table: &Table, op: MiscOp, a: u8) -> Phase
+fn misc(table: &CpuState, op: MiscOp, a: u8) -> Phase
     requires { a < REGISTERS }
     ensures plan { (size : ℕ) → plan_of size table.now result ≡ misc_row table.now op a }
     ensures fits { PhaseFits result }
@@ -257,7 +297,7 @@ fn misc(table: &Table, op: MiscOp, a: u8) -> Phase
 /// A barrier: an access that names no memory, and then the end.
 fn fence(kind: Kind) -> Phase
     requires { is_fetch kind ≡ false }
-    ensures plan { (size : ℕ) (t : Table) → plan_of size t result ≡ barrier_plan t kind }
+    ensures plan { (size : ℕ) (t : CpuState) → plan_of size t result ≡ barrier_plan t kind }
     ensures fits { PhaseFits result }
 {
     let barrier = Wanted {
@@ -266,18 +306,18 @@ fn fence(kind: Kind) -> Phase
         size: 0,
         value: 0,
     };
-    Phase::Makes(barrier, Then::Finish)
+    Phase::Wants(barrier, Continuation::Finish)
 }
 
 /// The cycle counter: the number of fetched instructions, below the offset.
-fn count(table: &Table) -> u64
+fn count(table: &CpuState) -> u64
     ensures { result ≡ cycle_counter table.now }
 {
     (u64::from(table.state.offset()) << 32) + u64::from(table.state.fetched())
 }
 
 /// The PAL calls.
-fn call_pal(table: &Table, op: PalOp) -> Phase
+fn call_pal(table: &CpuState, op: PalOp) -> Phase
     ensures plan { (size : ℕ) → plan_of size table.now result ≡ pal_row table.now op }
     ensures fits { PhaseFits result }
 {

@@ -4,8 +4,8 @@ ghost use Rattle.axp_cpu.specs.Phases.{plan_of, PhaseFits};
 ghost use Rattle.axp_cpu.specs.Seats.{Seat, first_seat, intent_of, is_finished, table_now, wanted};
 ghost use Rattle.axp_cpu.specs.Stands.{Going, GoesOn, IsMakeable, MakesFit, Standing, Stands, plan_left};
 
-use crate::phases::{Phase, Then, begin, resume};
-use crate::tables::Table;
+use crate::cpu_states::CpuState;
+use crate::phases::{Continuation, Phase, begin, resume};
 use axp_access::{Intent, Wanted};
 use axp_base::Cpu;
 use axp_image::Image;
@@ -18,8 +18,8 @@ pub struct Sequencer {
     size: u64,
     cpus: u8,
     budget: u32,
-    table: Table,
-    making: Option<(Wanted, Then)>,
+    table: CpuState,
+    making: Option<(Wanted, Continuation)>,
     steps: u32,
 }
 
@@ -39,7 +39,7 @@ impl Sequencer {
             size: image.size(),
             cpus,
             budget,
-            table: Table {
+            table: CpuState {
                 state,
                 halted: None,
             },
@@ -87,7 +87,7 @@ impl Sequencer {
             return None;
         }
         match self.next() {
-            Phase::Makes(wanted, _) => Some(wanted),
+            Phase::Wants(wanted, _) => Some(wanted),
             Phase::Ends(_) | Phase::NotBuilt => None,
         }
     }
@@ -113,13 +113,13 @@ impl Sequencer {
         requires { Going self.now }
         ensures { (s : Seat) → Stands self.now s → GoesOn s value result }
     {
-        let Phase::Makes(_, then) = self.next() else {
+        let Phase::Wants(_, then) = self.next() else {
             return None;
         };
         let mut table = self.table;
         let phase = resume(self.size, &mut table, then, value);
         match phase {
-            Phase::Makes(wanted, then) => Some(Sequencer {
+            Phase::Wants(wanted, then) => Some(Sequencer {
                 table,
                 making: Some((wanted, then)),
                 steps: self.steps + 1,
@@ -143,7 +143,7 @@ impl Sequencer {
     {
         match self.making {
             None => begin(self.size, &self.table),
-            Some((wanted, then)) => Phase::Makes(wanted, then),
+            Some((wanted, then)) => Phase::Wants(wanted, then),
         }
     }
 }

@@ -129,9 +129,9 @@ asked_may p a e q cpus at is inside =
     ask_may q a.seat.size cpus inside unasked
 
 -- the size and processors that the bus has
-pub may_ask_for : (q : Ask2) (b : State) (size : ℕ) → size ≡ length b.memory → MayBoth size (length b.lanes) q → MayAskFor b q
+pub may_ask_for : (q : Ask2) (b : State) (size : ℕ) → size ≡ length b.memory → MayBoth size (length b.ports) q → MayAskFor b q
 may_ask_for ask.Private b size is may = tt
-may_ask_for (ask.Bus q) b size is may = subst (λ n. MayAsk n (length b.lanes) q) is may
+may_ask_for (ask.Bus q) b size is may = subst (λ n. MayAsk n (length b.ports) q) is may
 
 -- the bus's answers fit
 tried_fits : (stored : Bool) (f : PortState) (w : Option Written) (line : Line) (address size value : ℕ) (armed : Bool) → f.turns + 1 < 2 ^ 32 → FitsRequest (request.Conditional address size value armed) (conditional_reply stored f w line)

@@ -93,9 +93,9 @@ may_answer a e q p ties is inside at =
     let size = seat_size a.image (length a.processors.items) a.budget (history a) (cpu_number e.cpu) in
     let room = has_room a e q ties is in
     record {
-      below = subst (λ n. cpu_number e.cpu < n) (sym ties.lanes) is.below;
+      below = subst (λ n. cpu_number e.cpu < n) (sym ties.ports) is.below;
       asks = may_ask_for q a.bus (actor_of (seen a) (cpu_number e.cpu)).seat.size (size ∙ sym ties.size)
-          (asked_may p (actor_of (seen a) (cpu_number e.cpu)) e.act q (length a.bus.lanes) at is.asked (subst (λ n. IsAskWithin n q) (sym size) inside));
+          (asked_may p (actor_of (seen a) (cpu_number e.cpu)) e.act q (length a.bus.ports) at is.asked (subst (λ n. IsAskWithin n q) (sym size) inside));
       turns = room.turns;
       printed = room.printed;
     }
@@ -190,7 +190,7 @@ pub record Makes (a b : Inside) (e : Event) (q : Ask2) (new : Processor) : Type 
   pub at : IsAt new (advanced (actor_of (seen a) (cpu_number e.cpu)) e.act (reply_at a.image (world_of (seen a)) e))
   pub bus : bus.Stands b.bus (image_bytes a.image) (calls_for (image_bytes a.image) (world_of (seen a)).calls e.cpu (Ok q))
   pub size : length b.bus.memory ≡ length a.bus.memory
-  pub lanes : length b.bus.lanes ≡ length a.bus.lanes
+  pub ports : length b.bus.ports ≡ length a.bus.ports
   pub room : b.bus.room ≡ a.bus.room
   pub records : b.records.items ≡ a.records.items ++ made (seen a) e ∷ []
   pub capacity : vec_capacity b.records ≡ vec_capacity a.records
@@ -215,7 +215,7 @@ ties_made a b e q new ties is inside makes =
       bus = rw (count, makes.image, makes.budget, past) (subst (λ cs. bus.Stands b.bus (image_bytes a.image) cs) (sym (calls_made a.image (world_of (seen a)) e q is.asked)) makes.bus);
       asked = rw (count, makes.image, makes.budget, past) (subst (AreAskedWithin a.image.size) (sym (calls_made a.image (world_of (seen a)) e q is.asked)) (asked_made a.image.size (image_bytes a.image) (world_of (seen a)).calls e.cpu q inside ties.asked));
       size = makes.size ∙ ties.size ∙ ap (λ (i : Contents). i.size) (sym makes.image);
-      lanes = makes.lanes ∙ ties.lanes ∙ sym count;
+      ports = makes.ports ∙ ties.ports ∙ sym count;
       run = rw (makes.image, makes.budget, past) (subst (λ n. IsPlayed a.image n a.budget (made (seen a) e ∷ history a)) (sym count) (played a e q ties is));
       least_cpus = rw count ties.least_cpus;
       most_cpus = rw count ties.most_cpus;
@@ -235,9 +235,9 @@ granted_of a m e q shown is = granted_is (seen a) e q (subst (λ (n : Seen). gra
 -- the parts after, by what the bus answered and the processor gave
 pub makes_of : (a b : Inside) (e : Event) (q : Ask2) (new : Processor) (r : Option Reply) (o : Outcome) → IsGranted (seen a) e q → b.image ≡ a.image → b.budget ≡ a.budget → b.processors.items ≡ set a.processors.items (cpu_number e.cpu) new
     → r ≡ reply_for (image_bytes a.image) (world_of (seen a)).calls (cpu_number e.cpu) (Ok q) → IsAt new (advanced (actor_of (seen a) (cpu_number e.cpu)) e.act r) → o ≡ outcome_of (actor_of (seen a) (cpu_number e.cpu)) e.act r
-    → bus.Stands b.bus (image_bytes a.image) (calls_for (image_bytes a.image) (world_of (seen a)).calls e.cpu (Ok q)) → length b.bus.memory ≡ length a.bus.memory → length b.bus.lanes ≡ length a.bus.lanes → b.bus.room ≡ a.bus.room
+    → bus.Stands b.bus (image_bytes a.image) (calls_for (image_bytes a.image) (world_of (seen a)).calls e.cpu (Ok q)) → length b.bus.memory ≡ length a.bus.memory → length b.bus.ports ≡ length a.bus.ports → b.bus.room ≡ a.bus.room
     → b.records.items ≡ a.records.items ++ record { event = e; outcome = o } ∷ [] → vec_capacity b.records ≡ vec_capacity a.records → Makes a b e q new × (o ≡ outcome_in (seen a) e)
-makes_of a b e q new r o is image budget processors answered at gives stands size lanes room records capacity =
+makes_of a b e q new r o is image budget processors answered at gives stands size ports room records capacity =
     let told : r ≡ reply_at a.image (world_of (seen a)) e = answered ∙ ap (reply_for (image_bytes a.image) (world_of (seen a)).calls (cpu_number e.cpu)) (sym is.asked) in
     let same : o ≡ outcome_in (seen a) e = gives ∙ ap (outcome_of (actor_of (seen a) (cpu_number e.cpu)) e.act) told in (
       record {
@@ -247,7 +247,7 @@ makes_of a b e q new r o is image budget processors answered at gives stands siz
         at = subst (λ (x : Option Reply). IsAt new (advanced (actor_of (seen a) (cpu_number e.cpu)) e.act x)) told at;
         bus = stands;
         size = size;
-        lanes = lanes;
+        ports = ports;
         room = room;
         records = records ∙ ap (λ (x : Outcome). a.records.items ++ record { event = e; outcome = x } ∷ []) same;
         capacity = capacity;

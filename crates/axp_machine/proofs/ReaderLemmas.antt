@@ -57,10 +57,10 @@ started_more image cpus budget ps qs new n starts at pushes = rw pushes (record 
 })
 
 -- a machine's parts at the start
-pub ties_start : (a : Inside) (cpus : ℕ) → IsValid a.image → StartsAll a.image cpus a.budget cpus a.processors.items → bus.Stands a.bus (image_bytes a.image) [] → length a.bus.memory ≡ a.image.size → length a.bus.lanes ≡ cpus → a.records.items ≡ []
+pub ties_start : (a : Inside) (cpus : ℕ) → IsValid a.image → StartsAll a.image cpus a.budget cpus a.processors.items → bus.Stands a.bus (image_bytes a.image) [] → length a.bus.memory ≡ a.image.size → length a.bus.ports ≡ cpus → a.records.items ≡ []
     → MIN_CPUS ≤ cpus → cpus ≤ MAX_CPUS → 1 ≤ a.budget → a.budget ≤ MAX_BUDGET → vec_capacity a.records ≡ EVENTS_PER_STEP * cpus * a.budget → a.bus.room ≡ EVENTS_PER_STEP * cpus * a.budget
     → Ties a
-ties_start a cpus valid starts stands size lanes none least most some few room bus_room =
+ties_start a cpus valid starts stands size ports none least most some few room bus_room =
     let empty : history a ≡ [] = ap reverse none in
     record {
       valid = valid;
@@ -68,7 +68,7 @@ ties_start a cpus valid starts stands size lanes none least most some few room b
       bus = rw empty stands;
       asked = rw empty tt;
       size = size;
-      lanes = lanes ∙ sym starts.count;
+      ports = ports ∙ sym starts.count;
       run = rw empty tt;
       least_cpus = rw starts.count least;
       most_cpus = rw starts.count most;

@@ -51,10 +51,10 @@ IsTakenInVain b cpu q result = (image : ℕ → ℕ) (cs : List BusCall) → Sta
 -- the bus may be asked this by this processor, and has room for the turn
 abbrev pub MayAskFor : State → Ask2 → Type 0
 MayAskFor b ask.Private = Unit {0}
-MayAskFor b (ask.Bus q) = MayAsk (length b.memory) (length b.lanes) q
+MayAskFor b (ask.Bus q) = MayAsk (length b.memory) (length b.ports) q
 
 pub record MayAnswer (b : State) (cpu : Cpu) (q : Ask2) : Type 0 where
-  pub below : cpu_number cpu < length b.lanes
+  pub below : cpu_number cpu < length b.ports
   pub asks : MayAskFor b q
   pub turns : b.turns < b.room
   pub printed : length b.printed < b.room

@@ -6,7 +6,7 @@ use Rattle.axp_access.specs.declared.Record.{Record}
 use Rattle.axp_cpu.specs.Following.{processors, seat_in}
 use Rattle.axp_cpu.specs.Seats.{Seat}
 use Rattle.axp_cpu.specs.declared.refusals.Refusal.{Refusal}
-use Rattle.axp_cpu.specs.declared.tables.Table.{Table}
+use Rattle.axp_cpu.specs.declared.cpu_states.CpuState.{CpuState}
 use Rattle.axp_image.specs.Contents.{Contents}
 use Rattle.axp_model.specs.Legal as model
 use Rattle.axp_model.specs.Memory.{is_touched, quadword}
@@ -66,7 +66,7 @@ processors_of m = processors m.image m.cpus m.budget
 abbrev pub seat_of : Seen → ℕ → Seat
 seat_of m p = seat_in m.image m.cpus m.budget p m.records
 
-abbrev pub table_of : Seen → ℕ → Table
+abbrev pub table_of : Seen → ℕ → CpuState
 table_of m p = (seat_of m p).start
 
 -- how many steps a processor made

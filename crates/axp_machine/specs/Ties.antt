@@ -36,7 +36,7 @@ pub record Ties (a : Inside) : Type 0 where
   pub bus : bus.Stands a.bus (image_bytes a.image) (world a.image (length a.processors.items) a.budget (history a)).calls
   pub asked : AreAskedWithin a.image.size (world a.image (length a.processors.items) a.budget (history a)).calls
   pub size : length a.bus.memory ≡ a.image.size
-  pub lanes : length a.bus.lanes ≡ length a.processors.items
+  pub ports : length a.bus.ports ≡ length a.processors.items
   pub run : IsPlayed a.image (length a.processors.items) a.budget (history a)
   pub least_cpus : MIN_CPUS ≤ length a.processors.items
   pub most_cpus : length a.processors.items ≤ MAX_CPUS

@@ -253,7 +253,7 @@ fn is_done(processor: &Processor) -> bool
 
 /// Whether it is a take where nothing is late.
 fn is_vain(ask: &Ask2, bus: &Bus, cpu: Cpu) -> bool
-    requires { cpu_number cpu < length bus.now.lanes }
+    requires { cpu_number cpu < length bus.now.ports }
     ensures { IsTakenInVain bus.now cpu ask.now result }
 {
     match bank_taken(ask) {
@@ -278,7 +278,7 @@ fn answer(bus: &mut Bus, cpu: Cpu, ask: Ask2) -> Option<Reply>
     ensures reply { (image : ℕ → ℕ) (cs : List BusCall) → Stands bus.old image cs → result ≡ reply_for image cs (cpu_number cpu) (Ok ask) }
     ensures stands { (image : ℕ → ℕ) (cs : List BusCall) → Stands bus.old image cs → Stands bus.new image (calls_for image cs cpu (Ok ask)) }
     ensures size { length bus.new.memory ≡ length bus.old.memory }
-    ensures cpus { length bus.new.lanes ≡ length bus.old.lanes }
+    ensures cpus { length bus.new.ports ≡ length bus.old.ports }
     ensures room { bus.new.room ≡ bus.old.room }
 {
     match ask {

@@ -1,5 +1,5 @@
 use Rattle.axp_cpu.proofs.SeatLemmas.{makeable}
 use Rattle.axp_cpu.proofs.sequencers.Sequencer.wanted.Goals as goal
 
-pub returns-in-Makes-clause-makeable : goal.returns-in-Makes-clause-makeable
-returns-in-Makes-clause-makeable c = λ s stands. makeable c.args.self.now s c.in-Makes.wanted c.in-Makes.field-1 stands c.in-Makes.ensures.plan c.in-Makes.ensures.fits
+pub returns-in-Wants-clause-makeable : goal.returns-in-Wants-clause-makeable
+returns-in-Wants-clause-makeable c = λ s stands. makeable c.args.self.now s c.in-Wants.wanted c.in-Wants.field-1 stands c.in-Wants.ensures.plan c.in-Wants.ensures.fits

@@ -1,4 +1,4 @@
--- A call is kept in each lane.
+-- A call is kept in each port.
 use Rattle.std.proofs.Common.{◌≡◌, ℕ, ◌+◌, ◌-◌, ◌<◌, ◌≤◌, eqb, List, [], ◌++◌, ◌∷◌, length, get_or, set, refl, sym, subst, ◌∙◌, arith, ⊎_elim, get_or-set_other, length-set}
 use Rattle.std.proofs.lemmas.Bool.{cases_eq, cases_lt}
 use Rattle.std.proofs.lemmas.List.{get_or-append_right, get_or_append_left, length-append}
@@ -6,12 +6,12 @@ use Rattle.std.proofs.lemmas.Option.{slice_get-get_or, get_or_from_slice_get}
 use Rattle.std.proofs.lemmas.Grind.{get_or-set_at}
 use Rattle.axp_line.specs.declared.messages.Request.{Request}
 use Rattle.axp_line.specs.declared.messages.Reply.{Reply}
-use Rattle.axp_bus.specs.Lanes.{Noted, LaneHasRoom, IsFresh, AreFresh}
+use Rattle.axp_bus.specs.Ports.{Noted, PortHasRoom, IsFresh, AreFresh}
 use Rattle.axp_bus.specs.Buses.{NotedBelow, HaveRoom}
-use Rattle.axp_bus.specs.declared.lanes.Lane.{Lane}
+use Rattle.axp_bus.specs.declared.ports.Port.{Port}
 
 -- an element does not depend on what stands for a missing one
-pub any_default : (xs : List Lane) (p : ℕ) (d e : Lane) → p < length xs → get_or xs p d ≡ get_or xs p e
+pub any_default : (xs : List Port) (p : ℕ) (d e : Port) → p < length xs → get_or xs p d ≡ get_or xs p e
 any_default xs p d e below = get_or_from_slice_get xs p (get_or xs p e) d (slice_get-get_or xs p e below)
 
 below_next : (p n : ℕ) → p < n + 1 → (p ≡ n → ⊥) → p < n
@@ -20,10 +20,10 @@ below_next p n less other = omega (arith, less, other)
 later_is_another : (p n : ℕ) → n + 1 ≤ p → p ≡ n → ⊥
 later_is_another p n from back = omega arith
 
-pub noted_start : (cpu turn : ℕ) (q : Request) (a : Reply) (old : List Lane) → NotedBelow 0 cpu turn q a old old
+pub noted_start : (cpu turn : ℕ) (q : Request) (a : Reply) (old : List Port) → NotedBelow 0 cpu turn q a old old
 noted_start cpu turn q a old = record { size = refl; done = λ p d none below. absurd (omega arith); left = λ p d from. refl }
 
-pub noted_step : (n cpu turn : ℕ) (q : Request) (a : Reply) (old mid : List Lane) (d0 y : Lane) → NotedBelow n cpu turn q a old mid → n < length old
+pub noted_step : (n cpu turn : ℕ) (q : Request) (a : Reply) (old mid : List Port) (d0 y : Port) → NotedBelow n cpu turn q a old mid → n < length old
     → Noted (eqb cpu n) n turn q a (get_or mid n d0) y → NotedBelow (n + 1) cpu turn q a old (set mid n y)
 noted_step n cpu turn q a old mid d0 y sofar below noted =
     let within : n < length mid = omega (arith, sofar.size) in
@@ -38,22 +38,22 @@ noted_step n cpu turn q a old mid d0 y sofar below noted =
       left = λ p d from. get_or-set_other mid n p y d (later_is_another p n from) ∙ sofar.left p d (omega arith);
     }
 
-pub room_at : (n cpu turn : ℕ) (q : Request) (a : Reply) (old mid : List Lane) (d : Lane) → NotedBelow n cpu turn q a old mid → n < length old → HaveRoom turn old → LaneHasRoom turn (get_or mid n d)
+pub room_at : (n cpu turn : ℕ) (q : Request) (a : Reply) (old mid : List Port) (d : Port) → NotedBelow n cpu turn q a old mid → n < length old → HaveRoom turn old → PortHasRoom turn (get_or mid n d)
 room_at n cpu turn q a old mid d sofar below room = rw (sofar.left n d (omega arith)) (room n d below)
 
--- lanes of nothing, one by one
-pub fresh_none : (room : ℕ) (lanes : List Lane) → lanes ≡ [] → AreFresh room lanes × (length lanes ≡ 0)
-fresh_none room lanes e = rw e (λ p d below. absurd (omega (arith, below)), refl)
+-- ports of nothing, one by one
+pub fresh_none : (room : ℕ) (ports : List Port) → ports ≡ [] → AreFresh room ports × (length ports ≡ 0)
+fresh_none room ports e = rw e (λ p d below. absurd (omega (arith, below)), refl)
 
-pub fresh_more : (room n : ℕ) (lanes new : List Lane) (lane : Lane) → AreFresh room lanes × (length lanes ≡ n) → IsFresh room lane → new ≡ lanes ++ lane ∷ [] → AreFresh room new × (length new ≡ n + 1)
-fresh_more room n lanes new lane sofar fresh more =
-    let size = length-append lanes (lane ∷ []) in
+pub fresh_more : (room n : ℕ) (ports new : List Port) (port : Port) → AreFresh room ports × (length ports ≡ n) → IsFresh room port → new ≡ ports ++ port ∷ [] → AreFresh room new × (length new ≡ n + 1)
+fresh_more room n ports new port sofar fresh more =
+    let size = length-append ports (port ∷ []) in
     subst (λ ls. AreFresh room ls × (length ls ≡ n + 1)) (sym more) (
       λ p d below. ⊎_elim
-          (λ before. rw (get_or_append_left lanes (lane ∷ []) d p before) (sofar.0 p d before))
+          (λ before. rw (get_or_append_left ports (port ∷ []) d p before) (sofar.0 p d before))
           (λ from.
-          let last : p - length lanes ≡ 0 = omega (arith, size, below) in
-          rw (get_or-append_right lanes (lane ∷ []) (length lanes) p d refl from, last) fresh)
-          (cases_lt p (length lanes)),
+          let last : p - length ports ≡ 0 = omega (arith, size, below) in
+          rw (get_or-append_right ports (port ∷ []) (length ports) p d refl from, last) fresh)
+          (cases_lt p (length ports)),
       omega (arith, size, sofar.1),
     )

@@ -10,7 +10,7 @@ use Rattle.axp_line.specs.declared.messages.Request.{Request}
 use Rattle.axp_lockreg.specs.Blocks.{locked_block}
 use Rattle.axp_base.specs.Blocks.{lock_by_other}
 use Rattle.axp_line.specs.BusCalls.{BusCall, write_made, line_written, late, late_by_own, lock_by_own, register, signals, takes_interrupt, pending}
-use Rattle.axp_bus.specs.declared.lanes.Lane.{Lane}
+use Rattle.axp_bus.specs.declared.ports.Port.{Port}
 
 -- what a call leaves late for a processor, by whether it is its own
 abbrev pub late_after : Bool → Bank → Request → Reply → ℕ → List (Line × ℕ) → List (Line × ℕ)
@@ -24,8 +24,8 @@ lock_after own q a block = if own then lock_by_own q block else lock_by_other (l
 abbrev pub pending_after : Bool → ℕ → Request → Bool → Bool
 pending_after own p q before = if signals p q then true else if own && takes_interrupt q then false else before
 
--- a lane of processor p after a call, whose turn has this number if it makes one
-pub record Noted (own : Bool) (p turn : ℕ) (q : Request) (a : Reply) (old new : Lane) : Type 0 where
+-- a port of processor p after a call, whose turn has this number if it makes one
+pub record Noted (own : Bool) (p turn : ℕ) (q : Request) (a : Reply) (old new : Port) : Type 0 where
   pub even : new.even ≡ queue (late_after own Even q a turn old.even.pairs) old.even.room
   pub odd : new.odd ≡ queue (late_after own Odd q a turn old.odd.pairs) old.odd.room
   pub lock : locked_block new.lock ≡ lock_after own q a (locked_block old.lock)
@@ -36,24 +36,24 @@ pub record HasRoom (turn : ℕ) (q : Queue) : Type 0 where
   pub room : length q.pairs < q.room
   pub newest : AreBefore turn q.pairs
 
-pub record LaneHasRoom (turn : ℕ) (lane : Lane) : Type 0 where
-  pub even : HasRoom turn lane.even
-  pub odd : HasRoom turn lane.odd
+pub record PortHasRoom (turn : ℕ) (port : Port) : Type 0 where
+  pub even : HasRoom turn port.even
+  pub odd : HasRoom turn port.odd
 
--- a lane of nothing, with this room
-pub record IsFresh (room : ℕ) (lane : Lane) : Type 0 where
-  pub even : lane.even ≡ queue [] room
-  pub odd : lane.odd ≡ queue [] room
-  pub lock : locked_block lane.lock ≡ None
-  pub pending : lane.pending ≡ false
+-- a port of nothing, with this room
+pub record IsFresh (room : ℕ) (port : Port) : Type 0 where
+  pub even : port.even ≡ queue [] room
+  pub odd : port.odd ≡ queue [] room
+  pub lock : locked_block port.lock ≡ None
+  pub pending : port.pending ≡ false
 
--- each lane is of nothing, with this room
-abbrev pub AreFresh : ℕ → List Lane → Type 0
-AreFresh room lanes = (p : ℕ) (d : Lane) → p < length lanes → IsFresh room (get_or lanes p d)
+-- each port is of nothing, with this room
+abbrev pub AreFresh : ℕ → List Port → Type 0
+AreFresh room ports = (p : ℕ) (d : Port) → p < length ports → IsFresh room (get_or ports p d)
 
--- the lane is processor p's after these calls
-pub record IsLane (lane : Lane) (p : ℕ) (cs : List BusCall) : Type 0 where
-  pub even : lane.even.pairs ≡ late p Even cs
-  pub odd : lane.odd.pairs ≡ late p Odd cs
-  pub lock : locked_block lane.lock ≡ register p cs
-  pub pending : lane.pending ≡ pending p cs
+-- the port is processor p's after these calls
+pub record IsPort (port : Port) (p : ℕ) (cs : List BusCall) : Type 0 where
+  pub even : port.even.pairs ≡ late p Even cs
+  pub odd : port.odd.pairs ≡ late p Odd cs
+  pub lock : locked_block port.lock ≡ register p cs
+  pub pending : port.pending ≡ pending p cs

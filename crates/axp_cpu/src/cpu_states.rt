@@ -1,19 +1,19 @@
 ghost use Rattle.std.specs.Prelude.{◌≡◌};
-ghost use Rattle.axp_cpu.specs.Tables.{with_fetch_counted, with_lock_flag, next_pc};
+ghost use Rattle.axp_cpu.specs.CpuStates.{with_fetch_counted, with_lock_flag, next_pc};
 
 use axp_image::INSTRUCTION_BYTES;
 use axp_regs::State;
 
 /// What the instruction table speaks of: a processor's registers, and its halt code once it is halted.
 #[derive(Clone, Copy, Debug)]
-pub struct Table {
+pub struct CpuState {
     /// The registers.
     pub state: State,
     /// The halt code, 1 to 4.
     pub halted: Option<u8>,
 }
 
-impl Table {
+impl CpuState {
     /// The address of the next instruction.
     pub fn next_pc(&self) -> u64
         ensures { result ≡ next_pc self.now }
@@ -22,12 +22,12 @@ impl Table {
     }
 
     /// It with the lock flag set or cleared.
-    pub fn with_lock_flag(&self, armed: bool) -> Table
+    pub fn with_lock_flag(&self, armed: bool) -> CpuState
         ensures { result ≡ with_lock_flag self.now armed }
     {
         let mut state = self.state;
         state.set_locked(armed);
-        Table { state, ..*self }
+        CpuState { state, ..*self }
     }
 
     /// Counts the instruction that was fetched.

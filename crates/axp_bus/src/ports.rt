@@ -9,7 +9,7 @@ ghost use Rattle.axp_base.specs.Lists.{is_empty};
 ghost use Rattle.axp_base.specs.Blocks.{lock_by_other};
 ghost use Rattle.axp_line.specs.BusCalls.{late_by_own, lock_by_own, signals, takes_interrupt};
 ghost use Rattle.axp_line.specs.declared.messages.Request.TheVariants as request;
-ghost use Rattle.axp_bus.specs.Lanes.{AreFresh, IsFresh, LaneHasRoom, Noted, pending_after};
+ghost use Rattle.axp_bus.specs.Ports.{AreFresh, IsFresh, PortHasRoom, Noted, pending_after};
 
 use crate::writes::line_written;
 use axp_base::{Bank, Cpu, Line, NoMemory};
@@ -21,21 +21,21 @@ use std::alloc::Global;
 /// What the bus keeps for one processor: the writes of others to lines of each data bank that it has
 /// not yet seen, its lock register, and whether an interrupt of it is requested.
 #[derive(Debug, Drop)]
-pub(crate) struct Lane {
+pub(crate) struct Port {
     pub(crate) even: LateQueue,
     pub(crate) odd: LateQueue,
     pub(crate) lock: LockReg,
     pub(crate) pending: bool,
 }
 
-impl Lane {
-    /// A lane of nothing, with room for this many pairs of each bank.
-    pub(crate) fn with_room(alloc: Global, room: u32) -> Result<Lane, NoMemory>
+impl Port {
+    /// A port of nothing, with room for this many pairs of each bank.
+    pub(crate) fn with_room(alloc: Global, room: u32) -> Result<Port, NoMemory>
         ensures { IfOk result (IsFresh room) }
     {
         let even = LateQueue::with_room(alloc, room)?;
         let odd = LateQueue::with_room(alloc, room)?;
-        Ok(Lane {
+        Ok(Port {
             even,
             odd,
             lock: LockReg::clear(),
@@ -59,7 +59,7 @@ impl Lane {
     /// Keeps what a call of processor `cpu` means for this processor, `number`. The call's turn, if it
     /// makes one, is `turn`.
     pub(crate) fn note(&mut self, number: u8, cpu: Cpu, request: &Request, reply: Reply, turn: u64)
-        requires { LaneHasRoom turn self.old }
+        requires { PortHasRoom turn self.old }
         ensures { Noted (cpu_number cpu == number) number turn request.now reply self.old self.new }
     {
         let own = cpu.number() == number;
@@ -120,7 +120,7 @@ impl Lane {
 
     /// Keeps what another processor's call means that wrote this line, if one, in this turn.
     fn note_other(&mut self, line: Option<Line>, turn: u64)
-        requires { LaneHasRoom turn self.old }
+        requires { PortHasRoom turn self.old }
         ensures even { self.new.even ≡ queue (late_by_other Even line turn self.old.even.pairs) self.old.even.room }
         ensures odd { self.new.odd ≡ queue (late_by_other Odd line turn self.old.odd.pairs) self.old.odd.room }
         ensures lock { locked_block self.new.lock ≡ lock_by_other line (locked_block self.old.lock) }
@@ -142,16 +142,16 @@ fn has_pair(queue: &LateQueue) -> bool
     queue.oldest().is_some()
 }
 
-/// A lane of nothing for each of `cpus` processors, with room for this many pairs of each bank.
-pub(crate) fn fresh_lanes(alloc: Global, cpus: u8, room: u32) -> Result<Vec<Lane>, NoMemory>
-    ensures fresh { IfOk result (λ lanes. AreFresh room lanes.items) }
-    ensures count { IfOk result (λ lanes. length lanes.items ≡ cpus) }
+/// A port of nothing for each of `cpus` processors, with room for this many pairs of each bank.
+pub(crate) fn fresh_ports(alloc: Global, cpus: u8, room: u32) -> Result<Vec<Port>, NoMemory>
+    ensures fresh { IfOk result (λ ports. AreFresh room ports.items) }
+    ensures count { IfOk result (λ ports. length ports.items ≡ cpus) }
 {
-    let mut lanes = Vec::with_capacity(alloc, usize::from(cpus))?;
+    let mut ports = Vec::with_capacity(alloc, usize::from(cpus))?;
     for _ in 0..cpus {
-        lanes.push(Lane::with_room(alloc, room)?)?;
+        ports.push(Port::with_room(alloc, room)?)?;
     }
-    Ok(lanes)
+    Ok(ports)
 }
 
 /// Whether an interrupt of processor `number` is requested after a call.
