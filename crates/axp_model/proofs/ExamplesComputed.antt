@@ -4,7 +4,7 @@ use Rattle.axp_base.specs.Parts.{number_at}
 use Rattle.axp_access.specs.Order.{key_before}
 use Rattle.axp_model.specs.Legal.{legal}
 use Rattle.axp_model.specs.Outcomes.{outcome_of}
-use Rattle.axp_model.specs.Examples.{StoreBuffering, MixedSources, Merging, WriteBarrierBetween, YoungerGroupWaits, FullBuffer, RoomAfterDrain, DependentLoad, TakenInTime, ReadWantsCopy, BarrierBetween, LockRange, AnotherBlock, OwnStoreWaits, OwnStoreDrained, CodeAfterMb, CodeAfterImb}
+use Rattle.axp_model.specs.Examples.{StoreBuffering, MixedSources, Merging, WriteBarrierBetween, YoungerGroupWaits, FullBuffer, RoomAfterDrain, DependentLoad, TakenInTime, ReadWantsCopy, BarrierBetween, DroppedAndFilled, OneDropAStep, SignalIsATurn, SignalBehindBarrier, LockRange, AnotherBlock, OwnStoreWaits, OwnStoreDrained, CodeAfterMb, CodeAfterImb}
 
 pub store_buffering : StoreBuffering
 unfolding legal outcome_of key_before number_at
@@ -73,3 +73,19 @@ code_after_mb = refl
 pub code_after_imb : CodeAfterImb
 unfolding legal outcome_of key_before number_at
 code_after_imb = refl
+
+pub dropped_and_filled : DroppedAndFilled
+unfolding legal outcome_of key_before number_at
+dropped_and_filled = refl
+
+pub one_drop_a_step : OneDropAStep
+unfolding legal outcome_of key_before number_at
+one_drop_a_step = (refl, refl)
+
+pub signal_is_a_turn : SignalIsATurn
+unfolding legal outcome_of key_before number_at
+signal_is_a_turn = refl
+
+pub signal_behind_barrier : SignalBehindBarrier
+unfolding legal outcome_of key_before number_at
+signal_behind_barrier = (refl, refl)

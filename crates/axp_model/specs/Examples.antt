@@ -67,6 +67,12 @@ wmb = wanted kind.WriteBarrier 0 0 0
 abbrev pub imb : Wanted
 imb = wanted kind.CodeBarrier 0 0 0
 
+abbrev pub signal : ℕ → Wanted
+signal target = wanted kind.Signal 0 0 target
+
+abbrev pub console : ℕ → Wanted
+console char = wanted kind.Console 0 0 char
+
 -- events of a processor
 abbrev pub event_of : Cpu → Act → Event
 event_of c a = record { cpu = c; act = a }
@@ -143,6 +149,25 @@ abbrev pub ◌drains◌entry◌line◌at◌ : Cpu → ℕ → ℕ → ℕ → �
 infix 75 ◌takes◌line◌at◌gone
 abbrev pub ◌takes◌line◌at◌gone : Cpu → Bank → ℕ → ℕ → Record
 ◌takes◌line◌at◌gone c b address turn = record { event = event_of c (act.Take b); outcome = outcome.Taken (line_at address) turn true }
+
+-- one that finds a younger copy, which is kept
+infix 75 ◌takes◌line◌at◌kept
+abbrev pub ◌takes◌line◌at◌kept : Cpu → Bank → ℕ → ℕ → Record
+◌takes◌line◌at◌kept c b address turn = record { event = event_of c (act.Take b); outcome = outcome.Taken (line_at address) turn false }
+
+-- a Drop of a bank's copy
+infix 75 ◌drops◌line◌
+abbrev pub ◌drops◌line◌ : Cpu → Bank → ℕ → Record
+◌drops◌line◌ c b address = record { event = event_of c (act.Drop b (line_at address)); outcome = outcome.Done }
+
+-- a signal to a processor, which is a turn, and a byte for the console
+infix 75 ◌signals◌at◌
+abbrev pub ◌signals◌at◌ : Cpu → ℕ → ℕ → Record
+◌signals◌at◌ c target turn = access_line c (signal target) target false (At turn)
+
+infix 75 ◌prints◌at◌
+abbrev pub ◌prints◌at◌ : Cpu → ℕ → ℕ → Record
+◌prints◌at◌ c char turn = access_line c (console char) char false (At turn)
 
 -- memory at the start: longwords at some addresses, all other bytes 0
 abbrev pub longwords : List (ℕ × ℕ) → ℕ → ℕ
@@ -379,6 +404,52 @@ BarrierBetween =
     ∷ cpu1 fills Odd line 0x4040 at 2
     ∷ cpu1 reads 0x4040 value 1 at 2
     ∷ [])
+
+-- A copy given up and filled again is younger than the turn that is late for its line: the Take keeps it.
+abbrev pub DroppedAndFilled : Type 0
+DroppedAndFilled =
+    Shows zeros (both (stq 0x4040 1 ∷ []) (ldq 0x4040 ∷ ldq 0x4040 ∷ ldq 0x4040 ∷ []))
+    (cpu1 fills Odd line 0x4040 at 0
+    ∷ cpu1 reads 0x4040 value 0 at 0
+    ∷ cpu0 writes 0x4040 value 1 entry 1
+    ∷ cpu0 drains 0 entry 1 line 0x4040 at 1
+    ∷ cpu1 drops Odd line 0x4040
+    ∷ cpu1 fills Odd line 0x4040 at 1
+    ∷ cpu1 reads 0x4040 value 1 at 1
+    ∷ cpu1 takes Odd line 0x4040 at 1 kept
+    ∷ cpu1 reads 0x4040 value 1 at 1
+    ∷ [])
+
+-- A second Drop from one bank with no Step between is not legal, also of another line.
+abbrev pub OneDropAStep : Type 0
+OneDropAStep =
+    Refuses zeros (alone (ldq 0x4040 ∷ ldq 0x40C0 ∷ ldq 0x4040 ∷ []))
+    (cpu0 fills Odd line 0x4040 at 0
+    ∷ cpu0 reads 0x4040 value 0 at 0
+    ∷ cpu0 fills Odd line 0x40C0 at 0
+    ∷ cpu0 reads 0x40C0 value 0 at 0
+    ∷ cpu0 drops Odd line 0x40C0
+    ∷ [])
+    (event_of cpu0 (act.Drop Odd (line_at 0x4040)))
+
+-- A signal is a turn, and a write that waits may reach memory behind it; a byte for the console is none.
+abbrev pub SignalIsATurn : Type 0
+SignalIsATurn =
+    Shows zeros (alone (stq 0x4000 1 ∷ signal 1 ∷ console 0x4B ∷ []))
+    (cpu0 writes 0x4000 value 1 entry 1
+    ∷ cpu0 signals 1 at 1
+    ∷ cpu0 prints 0x4B at 1
+    ∷ cpu0 drains 0 entry 1 line 0x4000 at 2
+    ∷ [])
+
+-- A write barrier closes a group, and a signal behind it waits until the group is empty.
+abbrev pub SignalBehindBarrier : Type 0
+SignalBehindBarrier =
+    Refuses zeros (alone (stq 0x4000 1 ∷ wmb ∷ signal 1 ∷ []))
+    (cpu0 writes 0x4000 value 1 entry 1
+    ∷ cpu0 makes wmb without_place
+    ∷ [])
+    (step cpu0)
 
 -- The lock range: the STQ_C fails, since the other processor wrote the line, though not the block of
 -- 16 bytes that was locked.

@@ -3,7 +3,7 @@
 //! outcome that stands beside it. Where an example is a refusal, one event more is not legal.
 ghost use Rattle.std.specs.Prelude.{ℕ, List, reverse};
 ghost use Rattle.axp_access.specs.declared.Record.{Record};
-ghost use Rattle.axp_model.specs.Examples.{Programs, processors, Shows, AnotherBlock, BarrierBetween, CodeAfterImb, CodeAfterMb, DependentLoad, FullBuffer, LockRange, Merging, MixedSources, OwnStoreDrained, OwnStoreWaits, ReadWantsCopy, RoomAfterDrain, StoreBuffering, TakenInTime, WriteBarrierBetween, YoungerGroupWaits};
+ghost use Rattle.axp_model.specs.Examples.{Programs, processors, Shows, AnotherBlock, BarrierBetween, CodeAfterImb, CodeAfterMb, DependentLoad, DroppedAndFilled, FullBuffer, LockRange, Merging, MixedSources, OneDropAStep, OwnStoreDrained, OwnStoreWaits, ReadWantsCopy, RoomAfterDrain, SignalBehindBarrier, SignalIsATurn, StoreBuffering, TakenInTime, WriteBarrierBetween, YoungerGroupWaits};
 ghost use Rattle.axp_model.specs.Outcomes.{IsRun};
 
 /// A trace that an example shows is a run, as the laws of the model speak of one: what holds of every
@@ -30,12 +30,23 @@ pub fn writes_wait()
 
 /// Invalidations come late. So a load by a new pointer may give an old datum (`dependent_load`). Where
 /// the invalidation is taken in time, the read is refused (`read_wants_copy`) until the line is filled
-/// again (`taken_in_time`); a barrier delivers all that are late (`barrier_between`).
+/// again (`taken_in_time`); a barrier delivers all that are late (`barrier_between`). A copy that was given
+/// up and filled again is younger than what is late, and is kept (`dropped_and_filled`); a bank's copies
+/// are given up one a Step (`one_drop_a_step`).
 pub fn invalidations_come_late()
     ensures dependent_load { DependentLoad }
     ensures taken_in_time { TakenInTime }
     ensures read_wants_copy { ReadWantsCopy }
     ensures barrier_between { BarrierBetween }
+    ensures dropped_and_filled { DroppedAndFilled }
+    ensures one_drop_a_step { OneDropAStep }
+{}
+
+/// A signal to another processor is a turn (`signal_is_a_turn`), ordered by write barriers like a write
+/// (`signal_behind_barrier`).
+pub fn signals_are_turns()
+    ensures signal_is_a_turn { SignalIsATurn }
+    ensures signal_behind_barrier { SignalBehindBarrier }
 {}
 
 /// A lock is of a block of 16 bytes: a store-conditional to another block fails (`another_block`), but

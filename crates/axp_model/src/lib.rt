@@ -5,6 +5,6 @@
 mod examples;
 
 pub use examples::{
-    invalidations_come_late, locks_are_of_blocks, shown_traces_are_runs, writes_wait,
-    written_code_wants_imb,
+    invalidations_come_late, locks_are_of_blocks, shown_traces_are_runs, signals_are_turns,
+    writes_wait, written_code_wants_imb,
 };

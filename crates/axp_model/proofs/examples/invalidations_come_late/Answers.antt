@@ -7,4 +7,6 @@ returns c = record {
   taken_in_time = example.taken_in_time;
   read_wants_copy = example.read_wants_copy;
   barrier_between = example.barrier_between;
+  dropped_and_filled = example.dropped_and_filled;
+  one_drop_a_step = example.one_drop_a_step;
 }
