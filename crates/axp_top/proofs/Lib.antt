@@ -4,3 +4,4 @@ pub mod Ending
 pub mod Settling
 pub mod Wholes
 pub mod Lawful
+pub mod ServingLemmas

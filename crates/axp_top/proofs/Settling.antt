@@ -1,192 +1,252 @@
--- From the end of the work to the clauses of the top call.
-use Rattle.std.proofs.Common.{◌≡◌, ℕ, ◌≤◌, ◌<◌, Bool, true, false, cond, List, [], ◌∷◌, ◌++◌, length, Option, Some, None, Result, Ok, Err, IfSome, refl, sym, ap, ◌∙◌, subst, inl, inr, append_assoc, append-nil, arith}
-use Rattle.std.proofs.lemmas.Bool.{lt-ltb, le-ltb}
+-- From how the work ended to what each status says.
+use Rattle.std.proofs.Common.{◌≡◌, ◌⊎◌, ℕ, zero, suc, ◌<◌, Bool, true, false, cond, List, [], ◌∷◌, ◌++◌, length, Option, Some, None, refl, sym, ap, ◌∙◌, subst, inl, inr, append_assoc, arith}
+use Rattle.std.specs.Prelude.{nat_lt}
+use Rattle.std.specs.List.{concat}
+use Rattle.std.proofs.lemmas.List.Folds.{concat-append}
 use Rattle.axp_cpu.specs.declared.refusals.Refusal.{Refusal}
 use Rattle.axp_cpu.specs.declared.refusals.Refusal.TheVariants.{NotLegal, NotBuilt}
-use Rattle.axp_image.specs.Contents.{Contents, IsValid}
-use Rattle.axp_io.specs.declared.FetchFault.{FetchFault}
-use Rattle.axp_io.specs.declared.FetchFault.TheVariants as fetch
-use Rattle.axp_io.specs.Causes.{Ask, FetchAsks, Rose}
-use Rattle.axp_io.proofs.Fronts.{front_none}
+use Rattle.axp_image.specs.Contents.{Contents}
+use Rattle.axp_io.specs.Causes.{AppendsFront, Ask, Rose, raised}
+use Rattle.axp_io.proofs.Fronts.{front_none, rose_by_one}
 use Rattle.axp_machine.specs.Runs.{Seen, is_complete, started}
 use Rattle.axp_trace.specs.declared.reading.Header.{Header}
 use Rattle.axp_trace.specs.Files.{lines_of}
 use Rattle.axp_trace.specs.Reading.{header_of}
-use Rattle.axp_top.specs.declared.limits.TheConstants.{MAX_IMAGE_BYTES, MAX_TRACE_BYTES}
+use Rattle.axp_top.specs.declared.limits.TheConstants.{MAX_TRACE_BYTES}
+use Rattle.axp_top.specs.declared.printing.Stop.TheVariants as stop
 use Rattle.axp_top.specs.declared.status.Status.{Status}
 use Rattle.axp_top.specs.declared.status.Status.TheVariants as status
-use Rattle.axp_image.specs.Grammar as grammar
-use Rattle.axp_image.specs.Grammar.{image_of}
-use Rattle.axp_top.specs.Answers.{answer_of_files, answer_of_trace, image_in, read_fault_answer}
-use Rattle.axp_top.specs.Statuses.{SettlesLawfully, SettlesSomeTrace, AsksFront, DeskCount, Settles, SinkCount}
-use Rattle.axp_top.specs.Printing.{Ends}
-use Rattle.axp_top.proofs.Lawful.{trace_lawful}
-use Rattle.axp_top.specs.Replays.{Answer, not_built_at_all, answer_of_lines, answer_of_list, ending_of, replayed}
+use Rattle.axp_top.specs.Answers.{answer_by, answer_of_trace, answer_over, asks_by, asks_of, image_in, read_fault_answer}
+use Rattle.axp_top.specs.Lawful.{image_over}
+use Rattle.axp_top.specs.Outside.{Outside, SinkState}
+use Rattle.axp_top.specs.Printing.{Ends, Stopped, StopsAt, after_puts}
+use Rattle.axp_top.specs.Replays.{Answer, FileLine, answer_of_lines, answer_of_list, answer_of_run, ending_of, not_built_at_all, replayed}
+use Rattle.axp_top.specs.Serving.{Course}
+use Rattle.axp_top.specs.Statuses.{AsksFailed, AsksFront, AsksInTurn, AsksNeeded, DeskCount, PutsEach, PutsLines, Settles, SinkCount}
+use Rattle.axp_top.specs.Texts.{Lines, header_text, record_lines}
+use Rattle.axp_top.specs.Words.{Order, Replay}
 
--- the answer is no read fault
-pub record IsNoReadFault (a : Answer) : Type 0 where
-  pub differs : status.ReadFault ≡ a.0 → ⊥
+-- ---- answers
 
-pub not_built_is : IsNoReadFault not_built_at_all
-not_built_is = record { differs = λ e. cc }
+-- an answer is no read fault, and has a line
+pub record IsAnswer (a : Answer) : Type 0 where
+  pub differs : status.ReadFault ≡ a.status → ⊥
+  pub some : 0 < length a.lines
 
-by_done : (done : Bool) (k : ℕ) (t u : List ℕ) → status.ReadFault ≡ (let e : Answer = cond done (status.Done, t) (status.Incomplete k, u) in e.0) → ⊥
-by_done true k t u e = cc
-by_done false k t u e = cc
+not_built_is : IsAnswer not_built_at_all
+not_built_is = record { differs = λ e. cc; some = omega arith }
 
-by_ending : (m : Seen) (refused : Option Refusal) → status.ReadFault ≡ (ending_of m refused).0 → ⊥
+by_done : (done : Bool) (k : ℕ) (xs ys : Lines) → status.ReadFault ≡ (let e : Answer = cond done (record { status = status.Done; lines = xs }) (record { status = status.Incomplete k; lines = ys }) in e.status) → ⊥
+by_done true k xs ys e = cc
+by_done false k xs ys e = cc
+
+by_ending : (m : Seen) (refused : Option Refusal) → status.ReadFault ≡ (ending_of m refused).status → ⊥
 by_ending m None e = by_done (is_complete m) _ _ _ e
 by_ending m (Some NotLegal) e = cc
 by_ending m (Some NotBuilt) e = cc
 
-list_is : (image : Contents) (h : Option Header) (ls : List (Option (List ℕ))) → IsNoReadFault (answer_of_list image h ls)
-list_is image None ls = not_built_is
-list_is image (Some h) ls =
-    let end : Seen × Option Refusal = replayed (started image h.cpus h.budget) ls in
-    record { differs = λ e. by_ending end.0 end.1 e }
+headed : (x : List ℕ) (xs ys : Lines) → 0 < length ((x ∷ xs) ++ ys)
+headed x xs ys = omega arith
 
-lines_are : (image : Contents) (ls : List (Option (List ℕ))) → IsNoReadFault (answer_of_lines image ls)
+run_is : (m : Seen) (refused : Option Refusal) → IsAnswer (answer_of_run m refused)
+run_is m refused = record { differs = by_ending m refused; some = headed (header_text m) (record_lines m.records) (ending_of m refused).lines }
+
+list_is : (image : Contents) (h : Option Header) (ls : List FileLine) → IsAnswer (answer_of_list image h ls)
+list_is image None ls = not_built_is
+list_is image (Some h) ls = run_is (replayed (started image h.cpus h.budget) ls).0 (replayed (started image h.cpus h.budget) ls).1
+
+lines_are : (image : Contents) (ls : List FileLine) → IsAnswer (answer_of_lines image ls)
 lines_are image [] = not_built_is
 lines_are image (None ∷ ls) = not_built_is
 lines_are image (Some first ∷ ls) = list_is image (header_of first) ls
 
-pub ends_settles : (b n : Option (List ℕ)) (c c' d d' : ℕ) (a : Answer) (s : Status) → IsNoReadFault a → Ends b n c c' a s → Settles b n d d' a s
-ends_settles b n c c' d d' a status.Done is h = (h.0, h.1)
-ends_settles b n c c' d d' a status.ReadFault is h = absurd (is.differs h.0)
-ends_settles b n c c' d d' a status.WriteFault is h = inl h.0
-ends_settles b n c c' d d' a status.Memory is h = inl h.0
-ends_settles b n c c' d d' a (status.NotLegal k) is h = (h.0, h.1)
-ends_settles b n c c' d d' a (status.Incomplete k) is h = (h.0, h.1)
-ends_settles b n c c' d d' a (status.NotBuilt k) is h = (h.0, h.1)
+by_length : (long : Bool) (a : Answer) → IsAnswer a → IsAnswer (cond long not_built_at_all a)
+by_length true a is = not_built_is
+by_length false a is = is
 
-pub ends_count : (b n : Option (List ℕ)) (c c' : ℕ) (a : Answer) (s : Status) → Ends b n c c' a s → SinkCount c c' s
-ends_count b n c c' a status.Done h = h.2
-ends_count b n c c' a status.ReadFault h = h.2
-ends_count b n c c' a status.WriteFault h = h.1
-ends_count b n c c' a status.Memory h = h.1
-ends_count b n c c' a (status.NotLegal k) h = h.2
-ends_count b n c c' a (status.Incomplete k) h = h.2
-ends_count b n c c' a (status.NotBuilt k) h = h.2
+pub trace_is : (image : Contents) (bytes : List ℕ) → IsAnswer (answer_of_trace image bytes)
+trace_is image bytes = by_length (nat_lt MAX_TRACE_BYTES (length bytes)) (answer_of_lines image (lines_of bytes)) (lines_are image (lines_of bytes))
 
--- a read fault was printed, whatever the answer would be
-pub fault_settles : (b n : Option (List ℕ)) (c c' d d' : ℕ) (a : Answer) (s : Status) → Rose d d' → Ends b n c c' read_fault_answer s → Settles b n d d' a s
-fault_settles b n c c' d d' a status.Done rose h = cc
-fault_settles b n c c' d d' a status.ReadFault rose h = h.1
-fault_settles b n c c' d d' a status.WriteFault rose h = inr (h.0, rose)
-fault_settles b n c c' d d' a status.Memory rose h = inr (h.0, rose)
-fault_settles b n c c' d d' a (status.NotLegal k) rose h = cc
-fault_settles b n c c' d d' a (status.Incomplete k) rose h = cc
-fault_settles b n c c' d d' a (status.NotBuilt k) rose h = cc
+pub answer_is : (image : Option Contents) (bytes : List ℕ) → IsAnswer (answer_by image bytes)
+answer_is None bytes = not_built_is
+answer_is (Some image) bytes = trace_is image bytes
 
-pub desk_kept : (b n : Option (List ℕ)) (c c' : ℕ) (a : Answer) (s : Status) (d d' : ℕ) → IsNoReadFault a → Ends b n c c' a s → d' ≡ d → DeskCount d d' s
-desk_kept b n c c' a status.Done d d' is h e = e
-desk_kept b n c c' a status.ReadFault d d' is h e = absurd (is.differs h.0)
-desk_kept b n c c' a status.WriteFault d d' is h e = omega arith
-desk_kept b n c c' a status.Memory d d' is h e = omega arith
-desk_kept b n c c' a (status.NotLegal k) d d' is h e = e
-desk_kept b n c c' a (status.Incomplete k) d d' is h e = e
-desk_kept b n c c' a (status.NotBuilt k) d d' is h e = e
+pub over_is : (order : Option Order) (image trace : List ℕ) → IsAnswer (answer_over order image trace)
+over_is None image trace = not_built_is
+over_is (Some order) image trace = answer_is (image_in image) trace
 
-pub desk_rose : (b n : Option (List ℕ)) (c c' : ℕ) (s : Status) (d d' : ℕ) → Ends b n c c' read_fault_answer s → Rose d d' → d ≤ d' → DeskCount d d' s
-desk_rose b n c c' status.Done d d' h rose more = cc
-desk_rose b n c c' status.ReadFault d d' h rose more = rose
-desk_rose b n c c' status.WriteFault d d' h rose more = more
-desk_rose b n c c' status.Memory d d' h rose more = more
-desk_rose b n c c' (status.NotLegal k) d d' h rose more = cc
-desk_rose b n c c' (status.Incomplete k) d d' h rose more = cc
-desk_rose b n c c' (status.NotBuilt k) d d' h rose more = cc
+-- ---- the text
 
--- a fetch more before
-pub desk_before : (s : Status) (d d' d'' : ℕ) → d' ≡ d → DeskCount d' d'' s → DeskCount d d'' s
-desk_before s d d' d'' e h = subst (λ x. DeskCount x d'' s) e h
+-- where a line was not taken whole, a front of the text was
+stops_front : (b n : SinkState) (xs : Lines) (part : List ℕ) → StopsAt b n xs part → AppendsFront b.taken n.taken (concat xs)
+stops_front b n xs part stops = (
+  concat stops.whole ++ part,
+  stops.missing ++ concat stops.others,
+  ap concat stops.parted ∙ concat-append stops.whole (stops.line ∷ stops.others) ∙ ap (λ (t : List ℕ). concat stops.whole ++ (t ++ concat stops.others)) stops.cut ∙ simp append_assoc,
+  stops.text,
+)
 
-pub settles_nothing : (b : Option (List ℕ)) (d d' : ℕ) (a : Answer) → Settles b b d d' a status.Memory
-settles_nothing b d d' a = inl (front_none b a.1)
+unmoved_front : (b n : SinkState) (text : List ℕ) → n ≡ b → AppendsFront b.taken n.taken text
+unmoved_front b n text same = subst (λ (x : SinkState). AppendsFront b.taken x.taken text) (sym same) (front_none b.taken text)
 
--- a fetch that counted no fault before
-pub settles_before : (b n : Option (List ℕ)) (d d' d'' : ℕ) (a : Answer) (s : Status) → d' ≡ d → Settles b n d' d'' a s → Settles b n d d'' a s
-settles_before b n d d' d'' a s e h = subst (λ x. Settles b n x d'' a s) e h
+-- a front for want of memory
+unfound_front : (b n : SinkState) (xs : Lines) → (n ≡ b) ⊎ Stopped b n xs stop.Memory → AppendsFront b.taken n.taken (concat xs)
+unfound_front b n xs (inl same) = unmoved_front b n (concat xs) same
+unfound_front b n xs (inr stops) = stops_front b n xs [] stops.0
 
--- ---- where the event list is told
+pub settles : (b n : Outside) (a : Answer) (asks : List Ask) (s : Status) → IsAnswer a → Course b n a asks s → Settles b n a s
+settles b n a asks status.Done is (inl h) = (h.ends.0, h.ends.1.text)
+settles b n a asks (status.NotLegal k) is (inl h) = (h.ends.0, h.ends.1.text)
+settles b n a asks (status.Incomplete k) is (inl h) = (h.ends.0, h.ends.1.text)
+settles b n a asks (status.NotBuilt k) is (inl h) = (h.ends.0, h.ends.1.text)
+settles b n a asks status.ReadFault is (inl h) = absurd (is.differs h.ends.0)
+settles b n a asks status.WriteFault is (inl h) = inl (stops_front b.sink n.sink a.lines h.ends.0.0 h.ends.0.1)
+settles b n a asks status.Memory is (inl h) = inl (unfound_front b.sink n.sink a.lines h.ends)
+settles b n a asks status.Done is (inr h) = let e : status.Done ≡ status.ReadFault = h.ends.0 in cc
+settles b n a asks (status.NotLegal k) is (inr h) = let e : status.NotLegal k ≡ status.ReadFault = h.ends.0 in cc
+settles b n a asks (status.Incomplete k) is (inr h) = let e : status.Incomplete k ≡ status.ReadFault = h.ends.0 in cc
+settles b n a asks (status.NotBuilt k) is (inr h) = let e : status.NotBuilt k ≡ status.ReadFault = h.ends.0 in cc
+settles b n a asks status.ReadFault is (inr h) = (refl, h.ends.1.text)
+settles b n a asks status.WriteFault is (inr h) = inr (stops_front b.sink n.sink read_fault_answer.lines h.ends.0.0 h.ends.0.1, rose_by_one _ _ h.count)
+settles b n a asks status.Memory is (inr h) = inr (unfound_front b.sink n.sink read_fault_answer.lines h.ends, rose_by_one _ _ h.count)
 
-pub trace_told : (b n : Option (List ℕ)) (c c' d d' : ℕ) (image : Contents) (list : List ℕ) (told : Option (List ℕ)) (s : Status) → IfSome told (λ t. (list ≡ t) × (length t ≤ MAX_TRACE_BYTES)) → Ends b n c c' (answer_of_lines image (lines_of list)) s
-    → IfSome told (λ t. Settles b n d d' (answer_of_trace image t) s)
-trace_told b n c c' d d' image list None s told h = tt
-trace_told b n c c' d d' image list (Some t) s told h =
-    rw (le-ltb MAX_TRACE_BYTES (length t) told.1)
-    (ends_settles b n c c' d d' (answer_of_lines image (lines_of t)) s (lines_are image (lines_of t)) (subst (λ x. Ends b n c c' (answer_of_lines image (lines_of x)) s) told.0 h))
+-- ---- the puts
 
-pub trace_long : (b n : Option (List ℕ)) (c c' d d' : ℕ) (image : Contents) (told : Option (List ℕ)) (s : Status) → IfSome told (λ t. MAX_TRACE_BYTES < length t) → Ends b n c c' not_built_at_all s → IfSome told (λ t. Settles b n d d' (answer_of_trace image t) s)
-trace_long b n c c' d d' image None s long h = tt
-trace_long b n c c' d d' image (Some t) s long h = rw (lt-ltb MAX_TRACE_BYTES (length t) long) (ends_settles b n c c' d d' not_built_at_all s not_built_is h)
+puts_some : (b n : SinkState) (xs : Lines) (k : ℕ) → k ≡ length xs → 0 < k → n.puts ≡ after_puts b.puts k → n.puts ≡ raised b.puts k
+puts_some b n xs zero count some puts = let none : 0 < 0 = some in omega arith
+puts_some b n xs (suc k) count some puts = puts
 
-pub trace_fault : (b n : Option (List ℕ)) (c c' d d' : ℕ) (image : Contents) (told : Option (List ℕ)) (s : Status) → Rose d d' → Ends b n c c' read_fault_answer s → IfSome told (λ t. Settles b n d d' (answer_of_trace image t) s)
-trace_fault b n c c' d d' image None s rose h = tt
-trace_fault b n c c' d d' image (Some t) s rose h = fault_settles b n c c' d d' (answer_of_trace image t) s rose h
+puts_lines : (b n : SinkState) (xs : Lines) → 0 < length xs → n.puts ≡ after_puts b.puts (length xs) → PutsLines b n xs
+puts_lines b n xs some puts = puts_some b n xs (length xs) refl some puts
 
-pub trace_memory : (b : Option (List ℕ)) (d d' : ℕ) (image : Contents) (told : Option (List ℕ)) → IfSome told (λ t. Settles b b d d' (answer_of_trace image t) status.Memory)
-trace_memory b d d' image None = tt
-trace_memory b d d' image (Some t) = settles_nothing b d d' (answer_of_trace image t)
+pub puts_each : (b n : Outside) (a : Answer) (asks : List Ask) (s : Status) → IsAnswer a → Course b n a asks s → PutsEach b n a s
+puts_each b n a asks status.Done is (inl h) = puts_lines b.sink n.sink a.lines is.some h.ends.1.each
+puts_each b n a asks (status.NotLegal k) is (inl h) = puts_lines b.sink n.sink a.lines is.some h.ends.1.each
+puts_each b n a asks (status.Incomplete k) is (inl h) = puts_lines b.sink n.sink a.lines is.some h.ends.1.each
+puts_each b n a asks (status.NotBuilt k) is (inl h) = puts_lines b.sink n.sink a.lines is.some h.ends.1.each
+puts_each b n a asks status.ReadFault is (inl h) = absurd (is.differs h.ends.0)
+puts_each b n a asks status.WriteFault is (inl h) = (h.ends.0.0, inl h.ends.0.1)
+puts_each b n a asks status.Memory is (inl h) = unfound b n a h.ends
+  where
+    unfound : (b n : Outside) (a : Answer) → (n.sink ≡ b.sink) ⊎ Stopped b.sink n.sink a.lines stop.Memory → PutsEach b n a status.Memory
+    unfound b n a (inl same) = inl same
+    unfound b n a (inr stops) = inr (inl stops.0)
+puts_each b n a asks status.Done is (inr h) = let e : status.Done ≡ status.ReadFault = h.ends.0 in cc
+puts_each b n a asks (status.NotLegal k) is (inr h) = let e : status.NotLegal k ≡ status.ReadFault = h.ends.0 in cc
+puts_each b n a asks (status.Incomplete k) is (inr h) = let e : status.Incomplete k ≡ status.ReadFault = h.ends.0 in cc
+puts_each b n a asks (status.NotBuilt k) is (inr h) = let e : status.NotBuilt k ≡ status.ReadFault = h.ends.0 in cc
+puts_each b n a asks status.ReadFault is (inr h) = puts_lines b.sink n.sink read_fault_answer.lines (omega arith) h.ends.1.each
+puts_each b n a asks status.WriteFault is (inr h) = (h.ends.0.0, inr (h.ends.0.1, rose_by_one _ _ h.count))
+puts_each b n a asks status.Memory is (inr h) = unfound b n a (rose_by_one _ _ h.count) h.ends
+  where
+    unfound : (b n : Outside) (a : Answer) → Rose b.desk.faults n.desk.faults → (n.sink ≡ b.sink) ⊎ Stopped b.sink n.sink read_fault_answer.lines stop.Memory → PutsEach b n a status.Memory
+    unfound b n a rose (inl same) = inl same
+    unfound b n a rose (inr stops) = inr (inr (stops.0, rose))
 
-pub lines_count : (b n : Option (List ℕ)) (c c' : ℕ) (image : Contents) (ls : List (Option (List ℕ))) (s : Status) (d d' : ℕ) → Ends b n c c' (answer_of_lines image ls) s → d' ≡ d → DeskCount d d' s
-lines_count b n c c' image ls s d d' h e = desk_kept b n c c' (answer_of_lines image ls) s d d' (lines_are image ls) h e
+-- ---- the counts of faults
 
--- ---- asks
+unfound_count : (b n : SinkState) (xs : Lines) → (n ≡ b) ⊎ Stopped b n xs stop.Memory → n.faults ≡ b.faults
+unfound_count b n xs (inl same) = ap (λ (x : SinkState). x.faults) same
+unfound_count b n xs (inr stops) = stops.1
 
-pub asks_none : (before : List Ask) (asks : List Ask) → AsksFront before before asks
-asks_none before asks = ([], asks, refl, sym (append-nil before))
+ends_count : (b n : SinkState) (a : Answer) (s : Status) → Ends b n a s → SinkCount b.faults n.faults s
+ends_count b n a status.Done h = h.1.count
+ends_count b n a status.ReadFault h = h.1.count
+ends_count b n a status.WriteFault h = h.1
+ends_count b n a status.Memory h = unfound_count b n a.lines h
+ends_count b n a (status.NotLegal k) h = h.1.count
+ends_count b n a (status.Incomplete k) h = h.1.count
+ends_count b n a (status.NotBuilt k) h = h.1.count
 
-asks_one : (before now : List Ask) (ask : Ask) (more : List Ask) → now ≡ before ++ ask ∷ [] → AsksFront before now (ask ∷ more)
-asks_one before now ask more is = (ask ∷ [], more, refl, is)
+pub sink_count : (b n : Outside) (a : Answer) (asks : List Ask) (s : Status) → Course b n a asks s → SinkCount b.sink.faults n.sink.faults s
+sink_count b n a asks s (inl h) = ends_count b.sink n.sink a s h.ends
+sink_count b n a asks s (inr h) = ends_count b.sink n.sink read_fault_answer s h.ends
 
--- a fetch that was the last
-pub asks_first : (before now : List Ask) (ask : Ask) (more : List Ask) (r : Result (List ℕ) FetchFault) → FetchAsks before now ask r → AsksFront before now (ask ∷ more)
-asks_first before now ask more (Ok bytes) is = asks_one before now ask more is
-asks_first before now ask more (Err fetch.Failed) is = asks_one before now ask more is
-asks_first before now ask more (Err fetch.TooLong) is = asks_one before now ask more is
-asks_first before now ask more (Err fetch.Memory) (inl e) = ([], ask ∷ more, refl, e ∙ sym (append-nil before))
-asks_first before now ask more (Err fetch.Memory) (inr e) = asks_one before now ask more e
+pub desk_count : (b n : Outside) (a : Answer) (asks : List Ask) (s : Status) → IsAnswer a → Course b n a asks s → DeskCount b.desk.faults n.desk.faults s
+desk_count b n a asks status.Done is (inl h) = h.count
+desk_count b n a asks (status.NotLegal k) is (inl h) = h.count
+desk_count b n a asks (status.Incomplete k) is (inl h) = h.count
+desk_count b n a asks (status.NotBuilt k) is (inl h) = h.count
+desk_count b n a asks status.ReadFault is (inl h) = absurd (is.differs h.ends.0)
+desk_count b n a asks status.WriteFault is (inl h) = inl h.count
+desk_count b n a asks status.Memory is (inl h) = inl h.count
+desk_count b n a asks status.Done is (inr h) = let e : status.Done ≡ status.ReadFault = h.ends.0 in cc
+desk_count b n a asks (status.NotLegal k) is (inr h) = let e : status.NotLegal k ≡ status.ReadFault = h.ends.0 in cc
+desk_count b n a asks (status.Incomplete k) is (inr h) = let e : status.Incomplete k ≡ status.ReadFault = h.ends.0 in cc
+desk_count b n a asks (status.NotBuilt k) is (inr h) = let e : status.NotBuilt k ≡ status.ReadFault = h.ends.0 in cc
+desk_count b n a asks status.ReadFault is (inr h) = h.count
+desk_count b n a asks status.WriteFault is (inr h) = inr h.count
+desk_count b n a asks status.Memory is (inr h) = inr h.count
 
-pub asks_then : (before between now : List Ask) (ask : Ask) (more : List Ask) → between ≡ before ++ ask ∷ [] → AsksFront between now more → AsksFront before now (ask ∷ more)
-asks_then before between now ask more is next = (ask ∷ next.0, next.1, ap (λ (xs : List Ask). ask ∷ xs) next.2, next.3 ∙ ap (λ (xs : List Ask). xs ++ next.0) is ∙ append_assoc before (ask ∷ []) next.0)
+-- ---- the asks
 
--- want of memory, with nothing printed
-pub nothing_settles : (b : Option (List ℕ)) (d d' : ℕ) (answer : Option Answer) → IfSome answer (λ a. Settles b b d d' a status.Memory)
-nothing_settles b d d' None = tt
-nothing_settles b d d' (Some a) = settles_nothing b d d' a
+-- those up to one that failed are a front
+failed_front : (before now asks : List Ask) → AsksFailed before now asks → AsksFront before now asks
+failed_front before now asks h = (h.0 ++ h.1 ∷ [], h.2, h.3 ∙ sym (append_assoc h.0 (h.1 ∷ []) h.2), h.4)
 
--- ---- where the desk tells nothing
+front_further : (before now asks more : List Ask) → AsksFront before now asks → AsksFront before now (asks ++ more)
+front_further before now asks more h = (h.0, h.1 ++ more, ap (λ (xs : List Ask). xs ++ more) h.2 ∙ append_assoc h.0 h.1 more, h.3)
 
-pub some_trace : (b n : Option (List ℕ)) (c c' d d' : ℕ) (image : Contents) (list : List ℕ) (s : Status) → length list ≤ MAX_TRACE_BYTES → Ends b n c c' (answer_of_lines image (lines_of list)) s → SettlesSomeTrace b n d d' image s
-some_trace b n c c' d d' image list s short h = (list, rw (le-ltb MAX_TRACE_BYTES (length list) short) (ends_settles b n c c' d d' (answer_of_lines image (lines_of list)) s (lines_are image (lines_of list)) h))
+failed_further : (before now asks more : List Ask) → AsksFailed before now asks → AsksFailed before now (asks ++ more)
+failed_further before now asks more h = (h.0, h.1, h.2 ++ more, ap (λ (xs : List Ask). xs ++ more) h.3 ∙ append_assoc h.0 (h.1 ∷ h.2) more, h.4)
 
--- the empty list has the answer of a list that is too long
-pub some_long : (b n : Option (List ℕ)) (c c' d d' : ℕ) (image : Contents) (s : Status) → Ends b n c c' not_built_at_all s → SettlesSomeTrace b n d d' image s
-some_long b n c c' d d' image s h = ([], ends_settles b n c c' d d' not_built_at_all s not_built_is h)
+pub asks_needed : (b n : Outside) (a : Answer) (asks : List Ask) (s : Status) → IsAnswer a → Course b n a asks s → AsksNeeded b.desk n.desk asks s
+asks_needed b n a asks status.Done is (inl h) = h.all (λ e. cc)
+asks_needed b n a asks (status.NotLegal k) is (inl h) = h.all (λ e. cc)
+asks_needed b n a asks (status.Incomplete k) is (inl h) = h.all (λ e. cc)
+asks_needed b n a asks (status.NotBuilt k) is (inl h) = h.all (λ e. cc)
+asks_needed b n a asks status.ReadFault is (inl h) = absurd (is.differs h.ends.0)
+asks_needed b n a asks status.WriteFault is (inl h) = inl (h.all (λ e. cc))
+asks_needed b n a asks status.Memory is (inl h) = h.some
+asks_needed b n a asks status.Done is (inr h) = let e : status.Done ≡ status.ReadFault = h.ends.0 in cc
+asks_needed b n a asks (status.NotLegal k) is (inr h) = let e : status.NotLegal k ≡ status.ReadFault = h.ends.0 in cc
+asks_needed b n a asks (status.Incomplete k) is (inr h) = let e : status.Incomplete k ≡ status.ReadFault = h.ends.0 in cc
+asks_needed b n a asks (status.NotBuilt k) is (inr h) = let e : status.NotBuilt k ≡ status.ReadFault = h.ends.0 in cc
+asks_needed b n a asks status.ReadFault is (inr h) = h.failed
+asks_needed b n a asks status.WriteFault is (inr h) = inr (h.failed, rose_by_one _ _ h.count)
+asks_needed b n a asks status.Memory is (inr h) = failed_front b.desk.asks n.desk.asks asks h.failed
 
-pub some_fault : (b n : Option (List ℕ)) (c c' d d' : ℕ) (image : Contents) (s : Status) → Rose d d' → Ends b n c c' read_fault_answer s → SettlesSomeTrace b n d d' image s
-some_fault b n c c' d d' image s rose h = ([], fault_settles b n c c' d d' not_built_at_all s rose h)
+-- where all is asked for that the command may ask for
+turn_all : (b n : Outside) (a : Answer) (asks : List Ask) (s : Status) → IsAnswer a → Course b n a asks s → AsksInTurn b.desk.asks n.desk.asks asks s
+turn_all b n a asks status.Done is h = asks_needed b n a asks status.Done is h
+turn_all b n a asks (status.NotLegal k) is h = asks_needed b n a asks (status.NotLegal k) is h
+turn_all b n a asks (status.Incomplete k) is h = asks_needed b n a asks (status.Incomplete k) is h
+turn_all b n a asks status.ReadFault is h = asks_needed b n a asks status.ReadFault is h
+turn_all b n a asks (status.NotBuilt (suc k)) is h = asks_needed b n a asks (status.NotBuilt (suc k)) is h
+turn_all b n a asks (status.NotBuilt zero) is (inl h) = h.some
+turn_all b n a asks (status.NotBuilt zero) is (inr h) = failed_front b.desk.asks n.desk.asks asks h.failed
+turn_all b n a asks status.WriteFault is (inl h) = h.some
+turn_all b n a asks status.WriteFault is (inr h) = failed_front b.desk.asks n.desk.asks asks h.failed
+turn_all b n a asks status.Memory is (inl h) = h.some
+turn_all b n a asks status.Memory is (inr h) = failed_front b.desk.asks n.desk.asks asks h.failed
 
-pub some_memory : (b : Option (List ℕ)) (d d' : ℕ) (image : Contents) → SettlesSomeTrace b b d d' image status.Memory
-some_memory b d d' image = ([], settles_nothing b d d' not_built_at_all)
+zero_is_no_event : (k : ℕ) → status.NotBuilt (suc k) ≡ status.NotBuilt 0 → ⊥
+zero_is_no_event k e = let same : suc k ≡ 0 = cc in omega arith
 
-abbrev pub SettlesSomeFiles : Option (List ℕ) → Option (List ℕ) → ℕ → ℕ → Status → Type 0
-SettlesSomeFiles b n d d' s = (image trace : List ℕ) × IfSome (answer_of_files (Some image) (Some trace)) (SettlesLawfully b n d d' (image_in image) s)
+-- where the first file is refused, and more might have been asked for
+turn_first : (b n : Outside) (asks more : List Ask) (s : Status) → Course b n not_built_at_all asks s → AsksInTurn b.desk.asks n.desk.asks (asks ++ more) s
+turn_first b n asks more status.Done (inl h) = let e : status.Done ≡ status.NotBuilt 0 = h.ends.0 in cc
+turn_first b n asks more (status.NotLegal k) (inl h) = let e : status.NotLegal k ≡ status.NotBuilt 0 = h.ends.0 in cc
+turn_first b n asks more (status.Incomplete k) (inl h) = let e : status.Incomplete k ≡ status.NotBuilt 0 = h.ends.0 in cc
+turn_first b n asks more (status.NotBuilt zero) (inl h) = front_further b.desk.asks n.desk.asks asks more h.some
+turn_first b n asks more (status.NotBuilt (suc k)) (inl h) = absurd (zero_is_no_event k h.ends.0)
+turn_first b n asks more status.ReadFault (inl h) = let e : status.ReadFault ≡ status.NotBuilt 0 = h.ends.0 in cc
+turn_first b n asks more status.WriteFault (inl h) = front_further b.desk.asks n.desk.asks asks more h.some
+turn_first b n asks more status.Memory (inl h) = front_further b.desk.asks n.desk.asks asks more h.some
+turn_first b n asks more status.Done (inr h) = let e : status.Done ≡ status.ReadFault = h.ends.0 in cc
+turn_first b n asks more (status.NotLegal k) (inr h) = let e : status.NotLegal k ≡ status.ReadFault = h.ends.0 in cc
+turn_first b n asks more (status.Incomplete k) (inr h) = let e : status.Incomplete k ≡ status.ReadFault = h.ends.0 in cc
+turn_first b n asks more (status.NotBuilt zero) (inr h) = let e : status.NotBuilt 0 ≡ status.ReadFault = h.ends.0 in cc
+turn_first b n asks more (status.NotBuilt (suc k)) (inr h) = let e : status.NotBuilt (suc k) ≡ status.ReadFault = h.ends.0 in cc
+turn_first b n asks more status.ReadFault (inr h) = failed_further b.desk.asks n.desk.asks asks more h.failed
+turn_first b n asks more status.WriteFault (inr h) = front_further b.desk.asks n.desk.asks asks more (failed_front b.desk.asks n.desk.asks asks h.failed)
+turn_first b n asks more status.Memory (inr h) = front_further b.desk.asks n.desk.asks asks more (failed_front b.desk.asks n.desk.asks asks h.failed)
 
-pub files_of_image : (b n : Option (List ℕ)) (d d' d'' : ℕ) (bytes : List ℕ) (image : Contents) (s : Status) → length bytes ≤ MAX_IMAGE_BYTES → Some image ≡ image_of bytes → IsValid image → d' ≡ d → SettlesSomeTrace b n d' d'' image s → SettlesSomeFiles b n d d'' s
-files_of_image b n d d' d'' bytes image s short is valid counted h =
-    (bytes, h.0, rw (le-ltb MAX_IMAGE_BYTES (length bytes) short) (rw (sym is) (settles_before b n d d' d'' (answer_of_trace image h.0) s counted h.1, trace_lawful image h.0 valid)))
+turn_by : (b n : Outside) (first second : List ℕ) (image : Option Contents) (trace : List ℕ) (s : Status) → Course b n (answer_by image trace) (asks_by (Some (Replay first second)) image) s
+    → AsksInTurn b.desk.asks n.desk.asks (asks_of (Some (Replay first second))) s
+turn_by b n first second None trace s h = turn_first b n _ _ s h
+turn_by b n first second (Some image) trace s h = turn_all b n (answer_of_trace image trace) _ s (trace_is image trace) h
 
-no_image : image_of [] ≡ None
-unfolding image_of grammar.header_of grammar.number_at grammar.piece_at
-no_image = refl
-
--- the empty list is no image
-pub files_refused : (b n : Option (List ℕ)) (c c' d d' : ℕ) (s : Status) → Ends b n c c' not_built_at_all s → SettlesSomeFiles b n d d' s
-files_refused b n c c' d d' s h = ([], [], rw no_image (ends_settles b n c c' d d' not_built_at_all s not_built_is h, refl))
-
-pub files_fault : (b n : Option (List ℕ)) (c c' d d' : ℕ) (s : Status) → Rose d d' → Ends b n c c' read_fault_answer s → SettlesSomeFiles b n d d' s
-files_fault b n c c' d d' s rose h = ([], [], rw no_image (fault_settles b n c c' d d' not_built_at_all s rose h, refl))
-
-pub files_memory : (b : Option (List ℕ)) (d d' : ℕ) → SettlesSomeFiles b b d d' status.Memory
-files_memory b d d' = ([], [], rw no_image (settles_nothing b d d' not_built_at_all, refl))
+pub asks_in_turn : (b n : Outside) (order : Option Order) (image trace : List ℕ) (s : Status) → Course b n (answer_over order image trace) (asks_by order (image_over order image)) s → AsksInTurn b.desk.asks n.desk.asks (asks_of order) s
+asks_in_turn b n None image trace s h = turn_all b n not_built_at_all [] s not_built_is h
+asks_in_turn b n (Some (Replay first second)) image trace s h = turn_by b n first second (image_in image) trace s h

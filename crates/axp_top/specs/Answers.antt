@@ -1,28 +1,17 @@
 -- What the program answers, by its words and the lists that the desk tells.
-use Rattle.std.specs.Prelude.{ℕ, nat_lt, List, [], ◌∷◌, length, codes, Option, Some, None, if◌then◌else◌}
+use Rattle.std.specs.Prelude.{ℕ, nat_lt, List, [], ◌∷◌, length, Option, Some, None, if◌then◌else◌}
 use Rattle.axp_image.specs.Contents.{Contents}
 use Rattle.axp_image.specs.Grammar.{image_of}
 use Rattle.axp_io.specs.Causes.{Ask}
 use Rattle.axp_trace.specs.Files.{lines_of}
-use Rattle.axp_trace.specs.Lines.{with_feed}
+use Rattle.axp_trace.specs.Lines.{read_fault_line}
 use Rattle.axp_top.specs.declared.status.Status.TheVariants as status
 use Rattle.axp_top.specs.declared.limits.TheConstants.{MAX_IMAGE_BYTES, MAX_TRACE_BYTES}
-use Rattle.axp_top.specs.Replays.{Answer, not_built_at_all, answer_of_lines}
+use Rattle.axp_top.specs.Replays.{Answer, answer_in_one_line, not_built_at_all, answer_of_lines}
 use Rattle.axp_top.specs.Words.{Order, Replay}
 
-unfoldable pub read_fault_text : List ℕ
-read_fault_text = codes "axp: read fault"
-
-abbrev pub read_fault_line : List ℕ
-read_fault_line = with_feed read_fault_text
-
 abbrev pub read_fault_answer : Answer
-read_fault_answer = (status.ReadFault, read_fault_line)
-
--- what is asked of the desk, in order
-abbrev pub asks_of : Option Order → List Ask
-asks_of None = []
-asks_of (Some (Replay image trace)) = (image, MAX_IMAGE_BYTES) ∷ (trace, MAX_TRACE_BYTES) ∷ []
+read_fault_answer = answer_in_one_line status.ReadFault read_fault_line
 
 -- the image that a file is, if it is not too long and within the grammar
 abbrev pub image_in : List ℕ → Option Contents
@@ -30,6 +19,16 @@ image_in bytes = if nat_lt MAX_IMAGE_BYTES (length bytes) then None else image_o
 
 abbrev pub answer_of_trace : Contents → List ℕ → Answer
 answer_of_trace image bytes = if nat_lt MAX_TRACE_BYTES (length bytes) then not_built_at_all else answer_of_lines image (lines_of bytes)
+
+-- by the image, and the list that is handed over
+abbrev pub answer_by : Option Contents → List ℕ → Answer
+answer_by None trace = not_built_at_all
+answer_by (Some image) trace = answer_of_trace image trace
+
+-- the answer by the lists that the desk hands over
+abbrev pub answer_over : Option Order → List ℕ → List ℕ → Answer
+answer_over None image trace = not_built_at_all
+answer_over (Some order) image trace = answer_by (image_in image) trace
 
 -- by the image and the trace's list, None where the desk does not tell it
 abbrev pub answer_of_image : Option Contents → Option (List ℕ) → Option Answer
@@ -41,12 +40,29 @@ abbrev pub answer_of_files : Option (List ℕ) → Option (List ℕ) → Option 
 answer_of_files None trace = None
 answer_of_files (Some image) trace = answer_of_image (image_in image) trace
 
+-- what the desk tells under the names of a command's files
+abbrev pub image_told : Option Order → (List ℕ → Option (List ℕ)) → Option (List ℕ)
+image_told None told = None
+image_told (Some (Replay image trace)) told = told image
+
+abbrev pub trace_told : Option Order → (List ℕ → Option (List ℕ)) → Option (List ℕ)
+trace_told None told = None
+trace_told (Some (Replay image trace)) told = told trace
+
 -- the answer; None where a list that it needs is not told
 abbrev pub answer_of : Option Order → (List ℕ → Option (List ℕ)) → Option Answer
 answer_of None told = Some not_built_at_all
 answer_of (Some (Replay image trace)) told = answer_of_files (told image) (told trace)
 
--- the answer by the lists that the desk hands over
-abbrev pub answer_over : Option Order → List ℕ → List ℕ → Option Answer
-answer_over None image trace = Some not_built_at_all
-answer_over (Some order) image trace = answer_of_files (Some image) (Some trace)
+-- ---- what is asked of the desk, in order
+
+-- all that a command may ask for; words outside the grammar ask for nothing
+abbrev pub asks_of : Option Order → List Ask
+asks_of None = []
+asks_of (Some (Replay image trace)) = (image, MAX_IMAGE_BYTES) ∷ (trace, MAX_TRACE_BYTES) ∷ []
+
+-- what it asks for by what the first file is: the second only where that is an image
+abbrev pub asks_by : Option Order → Option Contents → List Ask
+asks_by None first = []
+asks_by (Some (Replay image trace)) None = (image, MAX_IMAGE_BYTES) ∷ []
+asks_by (Some (Replay image trace)) (Some contents) = (image, MAX_IMAGE_BYTES) ∷ (trace, MAX_TRACE_BYTES) ∷ []

@@ -1,43 +1,77 @@
--- What is printed of an event list shows a run that keeps the constraints of shared memory.
-use Rattle.std.specs.Prelude.{◌≡◌, ◌⊎◌, ℕ, List, Option, Some, None, IfSome}
+-- What is printed of an event list shows a run that keeps the constraints of shared memory, and why it ended.
+use Rattle.std.specs.Prelude.{◌≡◌, ◌⊎◌, ℕ, ◌+◌, true, false, List, ◌∷◌, [], ◌++◌, length, map, reverse, Option, Some, None, Err}
+use Rattle.axp_access.specs.declared.Event.{Event}
 use Rattle.axp_cpu.specs.declared.refusals.Refusal.{Refusal}
-use Rattle.axp_image.specs.Contents.{AreBytes, Contents}
+use Rattle.axp_cpu.specs.declared.refusals.Refusal.TheVariants.{NotBuilt}
+use Rattle.axp_image.specs.Contents.{Contents}
 use Rattle.axp_machine.specs.Constraints.{KeepsConstraints}
-use Rattle.axp_machine.specs.Runs.{Seen, IsRun}
+use Rattle.axp_machine.specs.Runs.{Seen, IsRun, answer_of, events_of, is_complete, processors_of}
+use Rattle.axp_model.specs.Legal.{legal}
+use Rattle.axp_trace.specs.Files.{lines_of}
+use Rattle.axp_trace.specs.Reading.{header_of}
+use Rattle.axp_top.specs.declared.status.Status.{Status}
+use Rattle.axp_top.specs.declared.status.Status.TheVariants as status
 use Rattle.axp_top.specs.Answers.{image_in}
-use Rattle.axp_top.specs.Replays.{Answer, answer_of_run, not_built_at_all}
-use Rattle.axp_top.specs.Words.{Order, Replay}
+use Rattle.axp_top.specs.Replays.{Answer, FileLine, answer_of_run, event_in, not_built_at_all}
+use Rattle.axp_top.specs.Words.{Order}
 
--- an answer is the header and all records of a machine's run over an image, and how the run ended, which
--- shows no event: the tail, or the line of a refusal; the records keep the constraints of shared memory
-pub record ShowsRun (image : Contents) (answer : Answer) : Type 0 where
+-- the line is an event that the memory model refuses after the machine's records
+pub record IsNotLegal (m : Seen) (line : FileLine) : Type 0 where
+  pub event : Event
+  pub read : event_in m.cpus line ≡ Some event
+  pub refused : legal (processors_of m) m.records event ≡ false
+
+-- the line is an event that the memory model allows, and that comes to what is not built
+pub record IsNotBuilt (m : Seen) (line : FileLine) : Type 0 where
+  pub event : Event
+  pub read : event_in m.cpus line ≡ Some event
+  pub allowed : legal (processors_of m) m.records event ≡ true
+  pub refused : answer_of m event ≡ Err NotBuilt
+
+-- Why a run ended with a status, by the lines behind those of its events: there are none, and the machine
+-- is complete or not; or the first of them is refused, and its number is told.
+abbrev pub IsCause : Seen → List FileLine → Status → Type 0
+IsCause m [] status.Done = is_complete m ≡ true
+IsCause m [] (status.Incomplete n) = (is_complete m ≡ false) × (n ≡ length m.records)
+IsCause m (line ∷ more) (status.NotLegal n) = IsNotLegal m line × (n ≡ length m.records + 1)
+IsCause m (line ∷ more) (status.NotBuilt n) = ((event_in m.cpus line ≡ None) ⊎ IsNotBuilt m line) × (n ≡ length m.records + 1)
+IsCause m rest s = ⊥
+
+-- An answer to a file of these lines is the header and all records of a machine's run over an image, and
+-- how the run ended, which shows no event: the tail, or the line of a refusal. The machine is the one of
+-- the file's header, its events are those of the lines that follow, the records keep the constraints of
+-- shared memory, and the ending has its cause.
+pub record ShowsRun (image : Contents) (ls : List FileLine) (answer : Answer) : Type 0 where
   pub machine : Seen
   pub refused : Option Refusal
   pub shown : answer ≡ answer_of_run machine refused
   pub over : machine.image ≡ image
+  pub first : List ℕ
+  -- the lines of the events, the newest first, and the lines behind them
+  pub done : List FileLine
+  pub rest : List FileLine
+  pub parted : ls ≡ Some first ∷ reverse done ++ rest
+  pub header : header_of first ≡ Some (record { cpus = machine.cpus; budget = machine.budget })
+  pub events : map (event_in machine.cpus) done ≡ map Some (events_of machine.records)
   pub run : IsRun machine
   pub constraints : KeepsConstraints machine
+  pub cause : IsCause machine rest answer.status
 
 -- the answer shows such a run, or refuses all with nothing printed before; without an image it refuses
-abbrev pub IsLawful : Option Contents → Answer → Type 0
-IsLawful None answer = answer ≡ not_built_at_all
-IsLawful (Some image) answer = (answer ≡ not_built_at_all) ⊎ ShowsRun image answer
+abbrev pub IsLawful : Option Contents → List FileLine → Answer → Type 0
+IsLawful None ls answer = answer ≡ not_built_at_all
+IsLawful (Some image) ls answer = (answer ≡ not_built_at_all) ⊎ ShowsRun image ls answer
 
--- the image in a file that is told
+-- the image and the lines in files that are told
 abbrev pub image_of_file : Option (List ℕ) → Option Contents
 image_of_file None = None
 image_of_file (Some bytes) = image_in bytes
 
--- the image that the words name
-abbrev pub image_told : Option Order → (List ℕ → Option (List ℕ)) → Option Contents
-image_told None told = None
-image_told (Some (Replay image trace)) told = image_of_file (told image)
+abbrev pub lines_of_file : Option (List ℕ) → List FileLine
+lines_of_file None = []
+lines_of_file (Some bytes) = lines_of bytes
 
--- and in a file that was handed over
+-- the image in a file that was handed over to a command
 abbrev pub image_over : Option Order → List ℕ → Option Contents
-image_over None image = None
-image_over (Some order) image = image_in image
-
--- what is told of a file are bytes
-abbrev pub TellsBytes : (List ℕ → Option (List ℕ)) → Type 0
-TellsBytes told = (name : List ℕ) → IfSome (told name) AreBytes
+image_over None bytes = None
+image_over (Some order) bytes = image_in bytes

@@ -1,6 +1,7 @@
--- What printing leaves of a sink: bytes before and now, where they are told, and its count of faults.
-use Rattle.std.specs.Prelude.{◌≡◌, ℕ, List, [], Option, Some, None, Result, Ok, Err}
-use Rattle.axp_io.specs.Causes.{Appends, AppendsFront, Rose}
+-- What printing leaves of a sink: each line is one put.
+use Rattle.std.specs.Prelude.{◌≡◌, ◌⊎◌, ℕ, zero, suc, ◌+◌, List, [], ◌∷◌, ◌++◌, length, Option, Some, None, Result, Ok, Err}
+use Rattle.std.specs.List.{concat}
+use Rattle.axp_io.specs.Causes.{Appends, raised}
 use Rattle.axp_top.specs.declared.printing.Stop.{Stop}
 use Rattle.axp_top.specs.declared.printing.Stop.TheVariants as stop
 use Rattle.axp_top.specs.declared.status.Status.{Status}
@@ -8,44 +9,72 @@ use Rattle.axp_top.specs.declared.status.Status.TheVariants as status
 use Rattle.axp_access.specs.declared.Record.{Record}
 use Rattle.axp_cpu.specs.declared.refusals.Refusal.{Refusal}
 use Rattle.axp_machine.specs.Runs.{Seen, with_record}
-use Rattle.axp_top.specs.Replays.{Answer, front_text, replayed}
-use Rattle.axp_top.specs.Texts.{record_text}
+use Rattle.axp_top.specs.Outside.{SinkState}
+use Rattle.axp_top.specs.Replays.{Answer, FileLine, front_lines, replayed}
+use Rattle.axp_top.specs.Texts.{Lines, record_text}
 
--- the text was printed
-abbrev pub Printed : Option (List ℕ) → Option (List ℕ) → ℕ → ℕ → List ℕ → Type 0
-Printed before now count count' text = Appends before now text × (count' ≡ count)
+-- a count of puts after so many more; where there are none it is as it was
+abbrev pub after_puts : ℕ → ℕ → ℕ
+after_puts n zero = n
+after_puts n (suc k) = raised n (suc k)
 
--- a front of the text was printed before the sink failed or memory was not found
-abbrev pub Stopped : Option (List ℕ) → Option (List ℕ) → ℕ → ℕ → List ℕ → Stop → Type 0
-Stopped before now count count' text stop.WriteFault = AppendsFront before now text × Rose count count'
-Stopped before now count count' text stop.Memory = AppendsFront before now text × (count' ≡ count)
+-- the lines were printed, each by one put
+pub record Printed (before now : SinkState) (printed : Lines) : Type 0 where
+  pub text : Appends before.taken now.taken (concat printed)
+  pub count : now.faults ≡ before.faults
+  pub each : now.puts ≡ after_puts before.puts (length printed)
 
-abbrev pub Prints : {T : Type 0} → Option (List ℕ) → Option (List ℕ) → ℕ → ℕ → List ℕ → Result T Stop → Type 0
-Prints before now count count' text (Ok _) = Printed before now count count' text
-Prints before now count count' text (Err s) = Stopped before now count count' text s
+-- the put of a line was not taken whole: those before it were printed, and of it this part was taken
+pub record StopsAt (before now : SinkState) (printed : Lines) (part : List ℕ) : Type 0 where
+  pub whole : Lines
+  pub line : List ℕ
+  pub others : Lines
+  pub parted : printed ≡ whole ++ line ∷ others
+  pub missing : List ℕ
+  pub cut : line ≡ part ++ missing
+  pub text : Appends before.taken now.taken (concat whole ++ part)
+  pub each : now.puts ≡ raised before.puts (length whole + 1)
+
+-- the sink failed in a line, or memory was not found for its put
+abbrev pub Stopped : SinkState → SinkState → Lines → Stop → Type 0
+Stopped before now printed stop.WriteFault = ((part : List ℕ) × StopsAt before now printed part) × (now.faults ≡ raised before.faults 1)
+Stopped before now printed stop.Memory = StopsAt before now printed [] × (now.faults ≡ before.faults)
+
+abbrev pub Prints : {T : Type 0} → SinkState → SinkState → Lines → Result T Stop → Type 0
+Prints before now printed (Ok _) = Printed before now printed
+Prints before now printed (Err s) = Stopped before now printed s
 
 -- what the line of an event did: the machine has its record and the line is printed, or neither
-abbrev pub PrintsEvent : Option (List ℕ) → Option (List ℕ) → ℕ → ℕ → Seen → Seen → Result Record Refusal → Result (Option Refusal) Stop → Type 0
-PrintsEvent before now count count' m m' (Err refusal) (Ok refused) = (refused ≡ Some refusal) × (m' ≡ m) × Printed before now count count' []
-PrintsEvent before now count count' m m' (Err refusal) (Err s) = ⊥
-PrintsEvent before now count count' m m' (Ok r) (Ok refused) = (refused ≡ None) × (m' ≡ with_record m r) × Printed before now count count' (record_text r)
-PrintsEvent before now count count' m m' (Ok r) (Err s) = Stopped before now count count' (record_text r) s
+abbrev pub PrintsEvent : SinkState → SinkState → Seen → Seen → Result Record Refusal → Result (Option Refusal) Stop → Type 0
+PrintsEvent before now m m' (Err refusal) (Ok refused) = (refused ≡ Some refusal) × (m' ≡ m) × Printed before now []
+PrintsEvent before now m m' (Err refusal) (Err s) = ⊥
+PrintsEvent before now m m' (Ok r) (Ok refused) = (refused ≡ None) × (m' ≡ with_record m r) × Printed before now (record_text r ∷ [])
+PrintsEvent before now m m' (Ok r) (Err s) = Stopped before now (record_text r ∷ []) s
 
 -- what the lines of a list did
-abbrev pub PrintsEvents : Option (List ℕ) → Option (List ℕ) → ℕ → ℕ → Seen → Seen → List (Option (List ℕ)) → Result (Option Refusal) Stop → Type 0
-PrintsEvents before now count count' m m' ls (Ok refused) = Printed before now count count' (front_text m ls) × (replayed m ls ≡ (m', refused))
-PrintsEvents before now count count' m m' ls (Err s) = Stopped before now count count' (front_text m ls) s
+abbrev pub PrintsEvents : SinkState → SinkState → Seen → Seen → List FileLine → Result (Option Refusal) Stop → Type 0
+PrintsEvents before now m m' ls (Ok refused) = Printed before now (front_lines m ls) × (replayed m ls ≡ (m', refused))
+PrintsEvents before now m m' ls (Err s) = Stopped before now (front_lines m ls) s
 
--- the work ended with the answer's status, its text printed; or a front of the text was printed before
--- the sink failed or memory was not found
-abbrev pub Ends : Option (List ℕ) → Option (List ℕ) → ℕ → ℕ → Answer → Status → Type 0
-Ends before now count count' answer status.Done = (status.Done ≡ answer.0) × Appends before now answer.1 × (count' ≡ count)
-Ends before now count count' answer status.ReadFault = (status.ReadFault ≡ answer.0) × Appends before now answer.1 × (count' ≡ count)
-Ends before now count count' answer status.WriteFault = AppendsFront before now answer.1 × Rose count count'
-Ends before now count count' answer (status.NotLegal n) = (status.NotLegal n ≡ answer.0) × Appends before now answer.1 × (count' ≡ count)
-Ends before now count count' answer (status.Incomplete n) = (status.Incomplete n ≡ answer.0) × Appends before now answer.1 × (count' ≡ count)
-Ends before now count count' answer status.Memory = AppendsFront before now answer.1 × (count' ≡ count)
-Ends before now count count' answer (status.NotBuilt n) = (status.NotBuilt n ≡ answer.0) × Appends before now answer.1 × (count' ≡ count)
+-- why the work stopped with this status, if it did not end with its lines printed
+abbrev pub stop_of : Status → Option Stop
+stop_of status.Done = None
+stop_of status.ReadFault = None
+stop_of status.WriteFault = Some stop.WriteFault
+stop_of (status.NotLegal n) = None
+stop_of (status.Incomplete n) = None
+stop_of status.Memory = Some stop.Memory
+stop_of (status.NotBuilt n) = None
+
+-- the work ended with the answer's status, its lines printed; or it stopped in a line; or memory was not
+-- found before any was printed
+abbrev pub EndsBy : SinkState → SinkState → Answer → Status → Option Stop → Type 0
+EndsBy before now answer s None = (s ≡ answer.status) × Printed before now answer.lines
+EndsBy before now answer s (Some stop.WriteFault) = Stopped before now answer.lines stop.WriteFault
+EndsBy before now answer s (Some stop.Memory) = (now ≡ before) ⊎ Stopped before now answer.lines stop.Memory
+
+abbrev pub Ends : SinkState → SinkState → Answer → Status → Type 0
+Ends before now answer s = EndsBy before now answer s (stop_of s)
 
 -- a status that a fault line is printed for
 abbrev pub IsRefusal : Status → Type 0

@@ -1,65 +1,135 @@
--- What each status says of the text and of the counts of faults.
-use Rattle.std.specs.Prelude.{◌≡◌, ◌⊎◌, ℕ, ◌≤◌, List, ◌++◌, Option, IfSome}
-use Rattle.axp_image.specs.Contents.{Contents}
-use Rattle.axp_io.specs.Causes.{Ask, Appends, AppendsFront, Rose}
+-- What each status says of the text, of the counts and of the asks.
+use Rattle.std.specs.Prelude.{◌≡◌, ◌⊎◌, ℕ, zero, suc, List, [], ◌∷◌, ◌++◌, length, IfSome, Option}
+use Rattle.axp_image.specs.Contents.{AreBytes, Contents}
+use Rattle.axp_io.specs.Causes.{Ask, Appends, AppendsFront, Rose, raised}
+use Rattle.axp_trace.specs.Files.{lines_of}
 use Rattle.axp_top.specs.declared.status.Status.{Status}
 use Rattle.axp_top.specs.declared.status.Status.TheVariants as status
-use Rattle.axp_top.specs.Answers.{answer_of_trace, answer_over, read_fault_line}
+use Rattle.axp_top.specs.Answers.{answer_over, asks_by, image_told, read_fault_answer, trace_told}
 use Rattle.axp_top.specs.Lawful.{IsLawful, image_over}
-use Rattle.axp_top.specs.Replays.{Answer}
+use Rattle.axp_top.specs.Outside.{DeskState, Outside, SinkState}
+use Rattle.axp_top.specs.Printing.{StopsAt}
+use Rattle.axp_top.specs.Replays.{Answer, FileLine, text_of}
+use Rattle.axp_top.specs.Texts.{Lines}
 use Rattle.axp_top.specs.Words.{Order}
 
+-- ---- the text
+
 -- a front of the answer's text was printed; or, where the desk counted a fault, of a read fault's line
-abbrev pub PrintsFront : Option (List ℕ) → Option (List ℕ) → ℕ → ℕ → Answer → Type 0
-PrintsFront before now faults faults' answer = AppendsFront before now answer.1 ⊎ (AppendsFront before now read_fault_line × Rose faults faults')
+abbrev pub PrintsFront : Outside → Outside → Answer → Type 0
+PrintsFront before now answer =
+    AppendsFront before.sink.taken now.sink.taken (text_of answer)
+    ⊎ (AppendsFront before.sink.taken now.sink.taken (text_of read_fault_answer) × Rose before.desk.faults now.desk.faults)
 
--- the text printed, by the answer, the desk's count of faults before and after, and the status
-abbrev pub Settles : Option (List ℕ) → Option (List ℕ) → ℕ → ℕ → Answer → Status → Type 0
-Settles before now faults faults' answer status.Done = (status.Done ≡ answer.0) × Appends before now answer.1
-Settles before now faults faults' answer (status.NotLegal n) = (status.NotLegal n ≡ answer.0) × Appends before now answer.1
-Settles before now faults faults' answer (status.Incomplete n) = (status.Incomplete n ≡ answer.0) × Appends before now answer.1
-Settles before now faults faults' answer (status.NotBuilt n) = (status.NotBuilt n ≡ answer.0) × Appends before now answer.1
-Settles before now faults faults' answer status.ReadFault = Appends before now read_fault_line
-Settles before now faults faults' answer status.WriteFault = PrintsFront before now faults faults' answer
-Settles before now faults faults' answer status.Memory = PrintsFront before now faults faults' answer
+-- the answer's text was printed, and the status is the answer's
+abbrev pub PrintsAnswer : Outside → Outside → Answer → Status → Type 0
+PrintsAnswer before now answer s = (s ≡ answer.status) × Appends before.sink.taken now.sink.taken (text_of answer)
 
--- the answer is settled, and lawful over an image
-abbrev pub SettlesLawfully : Option (List ℕ) → Option (List ℕ) → ℕ → ℕ → Option Contents → Status → Answer → Type 0
-SettlesLawfully before now faults faults' image s answer = Settles before now faults faults' answer s × IsLawful image answer
+-- the text printed, by the answer and the status
+abbrev pub Settles : Outside → Outside → Answer → Status → Type 0
+Settles before now answer status.Done = PrintsAnswer before now answer status.Done
+Settles before now answer (status.NotLegal n) = PrintsAnswer before now answer (status.NotLegal n)
+Settles before now answer (status.Incomplete n) = PrintsAnswer before now answer (status.Incomplete n)
+Settles before now answer (status.NotBuilt n) = PrintsAnswer before now answer (status.NotBuilt n)
+Settles before now answer status.ReadFault = PrintsAnswer before now read_fault_answer status.ReadFault
+Settles before now answer status.WriteFault = PrintsFront before now answer
+Settles before now answer status.Memory = PrintsFront before now answer
 
--- Where the desk tells no lists: there are two, one for the image and one for the event list, by which
--- this is the text and the status.
-abbrev pub SettlesSome : Option (List ℕ) → Option (List ℕ) → ℕ → ℕ → Option Order → Status → Type 0
-SettlesSome before now faults faults' order s =
-    (image trace : List ℕ) × IfSome (answer_over order image trace) (SettlesLawfully before now faults faults' (image_over order image) s)
+-- ---- the puts: one for each line
 
--- the same of an event list over an image
-abbrev pub SettlesSomeTrace : Option (List ℕ) → Option (List ℕ) → ℕ → ℕ → Contents → Status → Type 0
-SettlesSomeTrace before now faults faults' image s = (trace : List ℕ) × Settles before now faults faults' (answer_of_trace image trace) s
+-- so many lines were printed
+abbrev pub PutsLines : SinkState → SinkState → Lines → Type 0
+PutsLines before now printed = now.puts ≡ raised before.puts (length printed)
 
--- the sink's count of faults
+-- a line of the answer was put and not taken whole; or, where the desk counted a fault, the read fault's
+abbrev pub StopsIn : Outside → Outside → Answer → List ℕ → Type 0
+StopsIn before now answer part =
+    StopsAt before.sink now.sink answer.lines part
+    ⊎ (StopsAt before.sink now.sink read_fault_answer.lines part × Rose before.desk.faults now.desk.faults)
+
+-- The puts by the answer and the status: one for each line; or, where the work stopped, one for each line
+-- before and one for that in which it stopped, of which nothing is taken for want of memory. None, where
+-- memory was not found before the first.
+abbrev pub PutsEach : Outside → Outside → Answer → Status → Type 0
+PutsEach before now answer status.Done = PutsLines before.sink now.sink answer.lines
+PutsEach before now answer (status.NotLegal n) = PutsLines before.sink now.sink answer.lines
+PutsEach before now answer (status.Incomplete n) = PutsLines before.sink now.sink answer.lines
+PutsEach before now answer (status.NotBuilt n) = PutsLines before.sink now.sink answer.lines
+PutsEach before now answer status.ReadFault = PutsLines before.sink now.sink read_fault_answer.lines
+PutsEach before now answer status.WriteFault = (part : List ℕ) × StopsIn before now answer part
+PutsEach before now answer status.Memory = (now.sink ≡ before.sink) ⊎ StopsIn before now answer []
+
+-- ---- the counts of faults
+
+-- the sink's
 abbrev pub SinkCount : ℕ → ℕ → Status → Type 0
 SinkCount before now status.Done = now ≡ before
 SinkCount before now (status.NotLegal n) = now ≡ before
 SinkCount before now (status.Incomplete n) = now ≡ before
 SinkCount before now (status.NotBuilt n) = now ≡ before
 SinkCount before now status.ReadFault = now ≡ before
-SinkCount before now status.WriteFault = Rose before now
+SinkCount before now status.WriteFault = now ≡ raised before 1
 SinkCount before now status.Memory = now ≡ before
 
--- the desk's count of faults
+-- the desk's
 abbrev pub DeskCount : ℕ → ℕ → Status → Type 0
 DeskCount before now status.Done = now ≡ before
 DeskCount before now (status.NotLegal n) = now ≡ before
 DeskCount before now (status.Incomplete n) = now ≡ before
 DeskCount before now (status.NotBuilt n) = now ≡ before
-DeskCount before now status.ReadFault = Rose before now
-DeskCount before now status.WriteFault = before ≤ now
-DeskCount before now status.Memory = before ≤ now
+DeskCount before now status.ReadFault = now ≡ raised before 1
+DeskCount before now status.WriteFault = (now ≡ before) ⊎ (now ≡ raised before 1)
+DeskCount before now status.Memory = (now ≡ before) ⊎ (now ≡ raised before 1)
 
--- the asks of this call are a front of the command's list
+-- ---- the asks
+
+-- the asks of this call are a front of a list
 abbrev pub AsksFront : List Ask → List Ask → List Ask → Type 0
 AsksFront before now asks = (front rest : List Ask) × (asks ≡ front ++ rest) × (now ≡ before ++ front)
+
+-- they are a front of it whose last one failed
+abbrev pub AsksFailed : List Ask → List Ask → List Ask → Type 0
+AsksFailed before now asks = (good : List Ask) × (failed : Ask) × (rest : List Ask) × (asks ≡ good ++ failed ∷ rest) × (now ≡ before ++ (good ++ failed ∷ []))
+
+-- The asks by the command's list and the status: all of them where both files are needed, those up to the
+-- one that failed for a read fault, else a front.
+abbrev pub AsksInTurn : List Ask → List Ask → List Ask → Status → Type 0
+AsksInTurn before now asks status.Done = now ≡ before ++ asks
+AsksInTurn before now asks (status.NotLegal n) = now ≡ before ++ asks
+AsksInTurn before now asks (status.Incomplete n) = now ≡ before ++ asks
+AsksInTurn before now asks (status.NotBuilt zero) = AsksFront before now asks
+AsksInTurn before now asks (status.NotBuilt (suc n)) = now ≡ before ++ asks
+AsksInTurn before now asks status.ReadFault = AsksFailed before now asks
+AsksInTurn before now asks status.WriteFault = AsksFront before now asks
+AsksInTurn before now asks status.Memory = AsksFront before now asks
+
+-- The asks by what the first file leads to, and the status: just those where the work was done or refused,
+-- those up to the one that failed where the desk counted a fault.
+abbrev pub AsksNeeded : DeskState → DeskState → List Ask → Status → Type 0
+AsksNeeded before now asks status.Done = now.asks ≡ before.asks ++ asks
+AsksNeeded before now asks (status.NotLegal n) = now.asks ≡ before.asks ++ asks
+AsksNeeded before now asks (status.Incomplete n) = now.asks ≡ before.asks ++ asks
+AsksNeeded before now asks (status.NotBuilt n) = now.asks ≡ before.asks ++ asks
+AsksNeeded before now asks status.ReadFault = AsksFailed before.asks now.asks asks
+AsksNeeded before now asks status.WriteFault = (now.asks ≡ before.asks ++ asks) ⊎ (AsksFailed before.asks now.asks asks × Rose before.faults now.faults)
+AsksNeeded before now asks status.Memory = AsksFront before.asks now.asks asks
+
+-- ---- where the desk tells nothing
+
+-- the answer is settled, and lawful over an image and the lines of a list
+abbrev pub SettlesLawfully : Outside → Outside → Option Contents → List FileLine → Status → Answer → Type 0
+SettlesLawfully before now image ls s answer = Settles before now answer s × IsLawful image ls answer
+
+-- There are two lists, one for the image and one for the event list, by which this is the text and the
+-- status, and these are the puts and the asks. Each is the told one where the desk tells it.
+pub record SettlesSome (told : List ℕ → Option (List ℕ)) (before now : Outside) (order : Option Order) (s : Status) : Type 0 where
+  pub image : List ℕ
+  pub trace : List ℕ
+  pub image_is_told : IfSome (image_told order told) (λ bytes. AreBytes bytes → image ≡ bytes)
+  pub trace_is_told : IfSome (trace_told order told) (λ bytes. trace ≡ bytes)
+  pub settled : SettlesLawfully before now (image_over order image) (lines_of trace) s (answer_over order image trace)
+  pub puts : PutsEach before now (answer_over order image trace) s
+  pub asked : AsksNeeded before.desk now.desk (asks_by order (image_over order image)) s
 
 -- the number that the process ends with
 abbrev pub number_of_status : Status → ℕ

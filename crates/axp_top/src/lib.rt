@@ -13,7 +13,7 @@ mod tail;
 mod tests;
 mod words;
 
-pub use laws::no_fault_gives_the_whole_text;
+pub use laws::{limits_of_files, no_fault_gives_the_whole_text};
 pub use limits::{MAX_IMAGE_BYTES, MAX_TRACE_BYTES};
 pub use serve::serve_plain;
 pub use status::Status;

@@ -1,8 +1,10 @@
-ghost use Rattle.std.specs.Prelude.{◌≡◌, ◌<◌, length};
+ghost use Rattle.std.specs.Prelude.{◌≡◌, ◌<◌, [], ◌∷◌, length};
 ghost use Rattle.arrayvec.specs.ArrayVec.{array_vec_len};
 ghost use Rattle.axp_trace.specs.declared.lines.TheConstants.{LINE_ROOM};
 ghost use Rattle.axp_trace.specs.Lines.{with_feed};
+ghost use Rattle.axp_top.specs.Outside.{sink_state};
 ghost use Rattle.axp_top.specs.Printing.{Prints, Ends, IsRefusal, status_of_stop};
+ghost use Rattle.axp_top.specs.Replays.{answer_in_one_line};
 
 use crate::Status;
 use axp_io::{Sink, SinkFault};
@@ -33,7 +35,8 @@ impl Stop {
 /// Prints a piece, which is not empty.
 pub fn print<K: Sink>(alloc: Global, sink: &mut K, piece: &[u8]) -> Result<(), Stop>
     requires { 0 < length piece.now }
-    ensures { Prints (K.taken sink.old) (K.taken sink.new) (K.faults sink.old) (K.faults sink.new) piece.now result }
+    ensures { let seen = sink_state K.taken K.faults K.puts in
+        Prints (seen sink.old) (seen sink.new) (piece.now ∷ []) result }
 {
     match sink.put(alloc, piece) {
         Ok(()) => Ok(()),
@@ -45,7 +48,8 @@ pub fn print<K: Sink>(alloc: Global, sink: &mut K, piece: &[u8]) -> Result<(), S
 /// Prints a line with its line feed, as one piece.
 pub fn print_line<K: Sink>(alloc: Global, sink: &mut K, mut line: LineText) -> Result<(), Stop>
     requires { array_vec_len line < LINE_ROOM }
-    ensures { Prints (K.taken sink.old) (K.taken sink.new) (K.faults sink.old) (K.faults sink.new) (with_feed line.items) result }
+    ensures { let seen = sink_state K.taken K.faults K.puts in
+        Prints (seen sink.old) (seen sink.new) (with_feed line.items ∷ []) result }
 {
     line.push(LINE_FEED);
     print(alloc, sink, line.as_slice())
@@ -55,7 +59,8 @@ pub fn print_line<K: Sink>(alloc: Global, sink: &mut K, mut line: LineText) -> R
 pub fn refuse<K: Sink>(alloc: Global, sink: &mut K, line: LineText, status: Status) -> Status
     requires short { array_vec_len line < LINE_ROOM }
     requires refusal { IsRefusal status }
-    ensures { Ends (K.taken sink.old) (K.taken sink.new) (K.faults sink.old) (K.faults sink.new) (status, with_feed line.items) result }
+    ensures { let seen = sink_state K.taken K.faults K.puts in
+        Ends (seen sink.old) (seen sink.new) (answer_in_one_line status line.items) result }
 {
     match print_line(alloc, sink, line) {
         Ok(()) => status,

@@ -1,10 +1,9 @@
-ghost use Rattle.std.specs.Prelude.{◌≡◌, ◌≤◌, ◌<◌, ◌++◌, [], codes, decimal, IfOk, None};
-ghost use Rattle.arrayvec.specs.ArrayVec.{array_vec_len};
-ghost use Rattle.axp_trace.specs.declared.lines.TheConstants.{LINE_ROOM};
+ghost use Rattle.std.specs.Prelude.{◌≡◌, [], IfOk, None};
 ghost use Rattle.axp_trace.specs.Files.{lines_of};
 ghost use Rattle.axp_trace.specs.Reading.{event_of};
+ghost use Rattle.axp_top.specs.Outside.{sink_state};
 ghost use Rattle.axp_top.specs.Printing.{Ends, Prints, PrintsEvent, PrintsEvents};
-ghost use Rattle.axp_top.specs.Replays.{answer_of_lines, answer_of_replay, ending_of, incomplete_text, not_built_at_all, not_built_text, not_legal_text, record_of, refused_at};
+ghost use Rattle.axp_top.specs.Replays.{answer_of_lines, answer_of_replay, ending_of, not_built_at_all, record_of, refused_at};
 
 use crate::Status;
 use crate::printing::{Stop, print_line, refuse};
@@ -13,46 +12,10 @@ use axp_image::Image;
 use axp_io::Sink;
 use axp_machine::{Machine, Refusal};
 use axp_trace::{
-    LineText, first_line, push_all, push_decimal, read_event, read_header, write_event,
-    write_header,
+    first_line, read_event, read_header, write_event, write_header, write_incomplete,
+    write_not_built, write_not_legal,
 };
 use std::alloc::Global;
-
-/// The line of an event that is not legal.
-#[tactic(auto, unfolding(crate::specs::Replays::not_legal_text))]
-fn write_not_legal(event: u32) -> LineText
-    ensures text { result.items ≡ not_legal_text event }
-    ensures short { array_vec_len result < LINE_ROOM }
-{
-    let mut line = LineText::new();
-    push_all(&mut line, b"axp: not legal at event ");
-    push_decimal(&mut line, event);
-    line
-}
-
-/// The line of a list that ends before the machine is complete.
-#[tactic(auto, unfolding(crate::specs::Replays::incomplete_text))]
-fn write_incomplete(event: u32) -> LineText
-    ensures text { result.items ≡ incomplete_text event }
-    ensures short { array_vec_len result < LINE_ROOM }
-{
-    let mut line = LineText::new();
-    push_all(&mut line, b"axp: incomplete after event ");
-    push_decimal(&mut line, event);
-    line
-}
-
-/// The line of a status that says what is not built.
-#[tactic(auto, unfolding(crate::specs::Replays::not_built_text))]
-fn write_not_built(event: u32) -> LineText
-    ensures text { result.items ≡ not_built_text event }
-    ensures short { array_vec_len result < LINE_ROOM }
-{
-    let mut line = LineText::new();
-    push_all(&mut line, b"axp: not built at event ");
-    push_decimal(&mut line, event);
-    line
-}
 
 /// Does the event of a line and prints its line. The answer is why it is refused, and then nothing is
 /// done or printed; a line that is no event is not built.
@@ -62,7 +25,8 @@ fn print_event<K: Sink>(
     machine: &mut Machine,
     line: &[u8],
 ) -> Result<Option<Refusal>, Stop>
-    ensures { PrintsEvent (K.taken sink.old) (K.taken sink.new) (K.faults sink.old) (K.faults sink.new) machine.old machine.new
+    ensures { let seen = sink_state K.taken K.faults K.puts in
+        PrintsEvent (seen sink.old) (seen sink.new) machine.old machine.new
         (record_of machine.old (event_of machine.old.cpus line.now)) result }
 {
     let Some(event) = read_event(line, machine.cpus()) else {
@@ -85,7 +49,8 @@ fn print_events<K: Sink>(
     machine: &mut Machine,
     events: &[u8],
 ) -> Result<Option<Refusal>, Stop>
-    ensures { PrintsEvents (K.taken sink.old) (K.taken sink.new) (K.faults sink.old) (K.faults sink.new) machine.old machine.new
+    ensures { let seen = sink_state K.taken K.faults K.puts in
+        PrintsEvents (seen sink.old) (seen sink.new) machine.old machine.new
         (lines_of events.now) result }
 {
     let mut rest = events;
@@ -109,9 +74,9 @@ fn print_refused<K: Sink>(
     refusal: Refusal,
     event: u32,
 ) -> Result<Status, Stop>
-    ensures text { Prints (K.taken sink.old) (K.taken sink.new) (K.faults sink.old) (K.faults sink.new)
-        (refused_at refusal event).1 result }
-    ensures status { IfOk result (λ s. s ≡ (refused_at refusal event).0) }
+    ensures text { let seen = sink_state K.taken K.faults K.puts in
+        Prints (seen sink.old) (seen sink.new) (refused_at refusal event).lines result }
+    ensures status { IfOk result (λ s. s ≡ (refused_at refusal event).status) }
 {
     match refusal {
         Refusal::NotLegal => {
@@ -127,9 +92,9 @@ fn print_refused<K: Sink>(
 
 /// Prints how a list ends of which all lines were done.
 fn print_whole<K: Sink>(alloc: Global, sink: &mut K, machine: &Machine) -> Result<Status, Stop>
-    ensures text { Prints (K.taken sink.old) (K.taken sink.new) (K.faults sink.old) (K.faults sink.new)
-        (ending_of machine.now None).1 result }
-    ensures status { IfOk result (λ s. s ≡ (ending_of machine.now None).0) }
+    ensures text { let seen = sink_state K.taken K.faults K.puts in
+        Prints (seen sink.old) (seen sink.new) (ending_of machine.now None).lines result }
+    ensures status { IfOk result (λ s. s ≡ (ending_of machine.now None).status) }
 {
     if machine.complete() {
         print_tail(alloc, sink, machine)?;
@@ -148,9 +113,9 @@ fn print_ending<K: Sink>(
     machine: &Machine,
     refused: Option<Refusal>,
 ) -> Result<Status, Stop>
-    ensures text { Prints (K.taken sink.old) (K.taken sink.new) (K.faults sink.old) (K.faults sink.new)
-        (ending_of machine.now refused).1 result }
-    ensures status { IfOk result (λ s. s ≡ (ending_of machine.now refused).0) }
+    ensures text { let seen = sink_state K.taken K.faults K.puts in
+        Prints (seen sink.old) (seen sink.new) (ending_of machine.now refused).lines result }
+    ensures status { IfOk result (λ s. s ≡ (ending_of machine.now refused).status) }
 {
     match refused {
         None => print_whole(alloc, sink, machine),
@@ -166,9 +131,9 @@ fn print_run<K: Sink>(
     events: &[u8],
 ) -> Result<Status, Stop>
     requires { machine.old.records ≡ [] }
-    ensures text { Prints (K.taken sink.old) (K.taken sink.new) (K.faults sink.old) (K.faults sink.new)
-        (answer_of_replay machine.old (lines_of events.now)).1 result }
-    ensures status { IfOk result (λ s. s ≡ (answer_of_replay machine.old (lines_of events.now)).0) }
+    ensures text { let seen = sink_state K.taken K.faults K.puts in
+        Prints (seen sink.old) (seen sink.new) (answer_of_replay machine.old (lines_of events.now)).lines result }
+    ensures status { IfOk result (λ s. s ≡ (answer_of_replay machine.old (lines_of events.now)).status) }
 {
     let header = write_header(machine.cpus(), machine.budget(), machine.memory_size());
     print_line(alloc, sink, header)?;
@@ -178,7 +143,8 @@ fn print_run<K: Sink>(
 
 /// Refuses what is not built, with nothing printed before.
 pub fn refuse_all<K: Sink>(alloc: Global, sink: &mut K) -> Status
-    ensures { Ends (K.taken sink.old) (K.taken sink.new) (K.faults sink.old) (K.faults sink.new) not_built_at_all result }
+    ensures { let seen = sink_state K.taken K.faults K.puts in
+        Ends (seen sink.old) (seen sink.new) not_built_at_all result }
 {
     refuse(
         alloc,
@@ -190,8 +156,8 @@ pub fn refuse_all<K: Sink>(alloc: Global, sink: &mut K) -> Status
 
 /// Prints the run of an event list over an image.
 pub fn replay<K: Sink>(alloc: Global, sink: &mut K, image: &Image, list: &[u8]) -> Status
-    ensures { Ends (K.taken sink.old) (K.taken sink.new) (K.faults sink.old) (K.faults sink.new)
-        (answer_of_lines image.now (lines_of list.now)) result }
+    ensures { let seen = sink_state K.taken K.faults K.puts in
+        Ends (seen sink.old) (seen sink.new) (answer_of_lines image.now (lines_of list.now)) result }
 {
     let Some((first, events)) = first_line(list) else {
         return refuse_all(alloc, sink);

@@ -1,13 +1,14 @@
-ghost use Rattle.std.specs.Prelude.{◌≡◌, ◌∷◌, ◌<◌, ℕ, List, [], Some, IfSome};
-ghost use Rattle.arrayvec.specs.ArrayVec.{array_vec_len};
-ghost use Rattle.axp_trace.specs.declared.lines.TheConstants.{LINE_ROOM};
-ghost use Rattle.axp_top.specs.declared.limits.TheConstants.{MAX_IMAGE_BYTES, MAX_TRACE_BYTES};
-ghost use Rattle.axp_top.specs.Answers.{answer_of, answer_of_files, answer_of_trace, asks_of, image_in, read_fault_answer, read_fault_text};
-ghost use Rattle.axp_top.specs.Statuses.{AsksFront, DeskCount, Settles, SettlesLawfully, SettlesSome, SettlesSomeTrace, SinkCount};
+ghost use Rattle.std.specs.Prelude.{IfSome, Some};
 ghost use Rattle.axp_image.specs.Contents.{AreBytes};
-ghost use Rattle.axp_top.specs.Lawful.{TellsBytes, image_of_file, image_told};
+ghost use Rattle.axp_top.specs.declared.limits.TheConstants.{MAX_TRACE_BYTES};
+ghost use Rattle.axp_top.specs.Answers.{answer_of, asks_by, asks_of, image_in, image_told, read_fault_answer, trace_told};
+ghost use Rattle.axp_top.specs.Commands.{order_by};
+ghost use Rattle.axp_top.specs.Lawful.{image_of_file, lines_of_file};
+ghost use Rattle.axp_top.specs.Outside.{desk_state, outside, sink_state};
 ghost use Rattle.axp_top.specs.Printing.{Ends};
-ghost use Rattle.axp_top.specs.Words.{order_of};
+ghost use Rattle.axp_top.specs.Serving.{Serves, ServesTrace};
+ghost use Rattle.axp_top.specs.Statuses.{AsksInTurn, AsksNeeded, DeskCount, PutsEach, Settles, SettlesLawfully, SettlesSome, SinkCount};
+ghost use Rattle.axp_top.specs.Words.{Replay, order_of};
 
 use crate::Status;
 use crate::limits::{MAX_IMAGE_BYTES, MAX_TRACE_BYTES};
@@ -16,7 +17,7 @@ use crate::replay::{refuse_all, replay};
 use crate::words::{Command, Word, read_words};
 use axp_image::{Image, read_image};
 use axp_io::{Desk, FetchFault, Sink};
-use axp_trace::{LineText, push_all};
+use axp_trace::write_read_fault;
 use std::alloc::Global;
 
 /// Does what the words say, and answers how it ended.
@@ -32,52 +33,63 @@ pub fn serve_plain<D: Desk, K: Sink>(
 ) -> Status
     // Where the desk tells the files, the text and the status are those of the words and the files, or
     // a front of the text was printed before the sink failed or memory was not found.
-    ensures answer { IfSome (answer_of (order_of words.now) (D.told desk.old))
-        (λ a. Settles (K.taken sink.old) (K.taken sink.new) (D.faults desk.old) (D.faults desk.new) a result) }
+    ensures answer { let seen = sink_state K.taken K.faults K.puts in
+        let asked = desk_state D.faults D.asks in
+        IfSome (answer_of (order_of words.now) (D.told desk.old)) (λ a. Settles
+        (outside (asked desk.old) (seen sink.old)) (outside (asked desk.new) (seen sink.new)) a result) }
+    // Each line of that text is one put.
+    ensures puts { let seen = sink_state K.taken K.faults K.puts in
+        let asked = desk_state D.faults D.asks in
+        IfSome (answer_of (order_of words.now) (D.told desk.old)) (λ a. PutsEach
+        (outside (asked desk.old) (seen sink.old)) (outside (asked desk.new) (seen sink.new)) a result) }
     // Where it tells bytes, what is settled so is the whole text of a run of the machine over the image,
-    // whose records keep the constraints of shared memory in the order of the printed places; or all is
-    // refused.
-    ensures constraints { TellsBytes (D.told desk.old) → IfSome (answer_of (order_of words.now) (D.told desk.old))
-        (SettlesLawfully (K.taken sink.old) (K.taken sink.new) (D.faults desk.old) (D.faults desk.new) (image_told (order_of words.now) (D.told desk.old)) result) }
-    // Where the desk tells nothing, they are still those of two lists that it may have handed over.
-    ensures some_files { SettlesSome (K.taken sink.old) (K.taken sink.new) (D.faults desk.old) (D.faults desk.new) (order_of words.now) result }
+    // whose records keep the constraints of shared memory in the order of the printed places, and whose
+    // ending has its cause in the memory model; or all is refused.
+    ensures constraints { let seen = sink_state K.taken K.faults K.puts in
+        let asked = desk_state D.faults D.asks in
+        let image = image_told (order_of words.now) (D.told desk.old) in
+        let trace = trace_told (order_of words.now) (D.told desk.old) in
+        IfSome image AreBytes →
+        IfSome (answer_of (order_of words.now) (D.told desk.old)) (SettlesLawfully
+        (outside (asked desk.old) (seen sink.old)) (outside (asked desk.new) (seen sink.new))
+        (image_of_file image) (lines_of_file trace) result) }
+    // Where the desk does not tell a file, all this holds by a list that it may have handed over.
+    ensures some_files { let seen = sink_state K.taken K.faults K.puts in
+        let asked = desk_state D.faults D.asks in
+        SettlesSome (D.told desk.old) (outside (asked desk.old) (seen sink.old))
+        (outside (asked desk.new) (seen sink.new)) (order_of words.now) result }
     // A fault is answered only where one came in this call, and then at once.
     ensures sink_count { SinkCount (K.faults sink.old) (K.faults sink.new) result }
     ensures desk_count { DeskCount (D.faults desk.old) (D.faults desk.new) result }
-    ensures asks { AsksFront (D.asks desk.old) (D.asks desk.new) (asks_of (order_of words.now)) }
+    // Each file is asked for once at most, the image first.
+    ensures asks { AsksInTurn (D.asks desk.old) (D.asks desk.new) (asks_of (order_of words.now)) result }
+    // The second only where the first is an image.
+    ensures second_ask { let asked = desk_state D.faults D.asks in
+        IfSome (image_told (order_of words.now) (D.told desk.old)) (λ bytes. AsksNeeded
+        (asked desk.old) (asked desk.new) (asks_by (order_of words.now) (image_in bytes)) result) }
 {
-    match read_words(words) {
-        Some(Command::Replay { image, trace }) => serve_replay(alloc, desk, sink, image, trace),
+    serve_command(alloc, read_words(words), desk, sink)
+}
+
+/// Does what a command says; `None` is refused.
+fn serve_command<D: Desk, K: Sink>(
+    alloc: Global,
+    command: Option<Command<'_>>,
+    desk: &mut D,
+    sink: &mut K,
+) -> Status
+    ensures { let seen = sink_state K.taken K.faults K.puts in
+        let asked = desk_state D.faults D.asks in
+        Serves (D.told desk.old) (order_by command.entry) (outside (asked desk.old) (seen sink.old))
+        (outside (asked desk.new) (seen sink.new)) result }
+{
+    match command {
+        Some(Command::Replay { image, trace }) => replay_files(alloc, desk, sink, image, trace),
         None => refuse_all(alloc, sink),
     }
 }
 
-/// Prints the run of the event list of one name over the image of another; the text shows a run that keeps
-/// the constraints of shared memory.
-#[tactic(auto, using(crate::proofs::Lawful::settled_files))]
-fn serve_replay<D: Desk, K: Sink>(
-    alloc: Global,
-    desk: &mut D,
-    sink: &mut K,
-    image: &str,
-    trace: &str,
-) -> Status
-    ensures answer { IfSome (answer_of_files (D.told desk.old image.now) (D.told desk.old trace.now))
-        (λ a. Settles (K.taken sink.old) (K.taken sink.new) (D.faults desk.old) (D.faults desk.new) a result) }
-    ensures constraints { IfSome (D.told desk.old image.now) AreBytes → IfSome (answer_of_files (D.told desk.old image.now) (D.told desk.old trace.now))
-        (SettlesLawfully (K.taken sink.old) (K.taken sink.new) (D.faults desk.old) (D.faults desk.new) (image_of_file (D.told desk.old image.now)) result) }
-    ensures some_files { (image trace : List ℕ) × IfSome (answer_of_files (Some image) (Some trace))
-        (SettlesLawfully (K.taken sink.old) (K.taken sink.new) (D.faults desk.old) (D.faults desk.new) (image_in image) result) }
-    ensures sink_count { SinkCount (K.faults sink.old) (K.faults sink.new) result }
-    ensures desk_count { DeskCount (D.faults desk.old) (D.faults desk.new) result }
-    ensures asks { AsksFront (D.asks desk.old) (D.asks desk.new)
-        ((image.now, MAX_IMAGE_BYTES) ∷ (trace.now, MAX_TRACE_BYTES) ∷ []) }
-{
-    replay_files(alloc, desk, sink, image, trace)
-}
-
 /// Prints the run of the event list of one name over the image of another.
-#[tactic(auto, using(crate::proofs::Settling::nothing_settles))]
 fn replay_files<D: Desk, K: Sink>(
     alloc: Global,
     desk: &mut D,
@@ -85,14 +97,10 @@ fn replay_files<D: Desk, K: Sink>(
     image: &str,
     trace: &str,
 ) -> Status
-    ensures answer { IfSome (answer_of_files (D.told desk.old image.now) (D.told desk.old trace.now))
-        (λ a. Settles (K.taken sink.old) (K.taken sink.new) (D.faults desk.old) (D.faults desk.new) a result) }
-    ensures some_files { (image trace : List ℕ) × IfSome (answer_of_files (Some image) (Some trace))
-        (SettlesLawfully (K.taken sink.old) (K.taken sink.new) (D.faults desk.old) (D.faults desk.new) (image_in image) result) }
-    ensures sink_count { SinkCount (K.faults sink.old) (K.faults sink.new) result }
-    ensures desk_count { DeskCount (D.faults desk.old) (D.faults desk.new) result }
-    ensures asks { AsksFront (D.asks desk.old) (D.asks desk.new)
-        ((image.now, MAX_IMAGE_BYTES) ∷ (trace.now, MAX_TRACE_BYTES) ∷ []) }
+    ensures { let seen = sink_state K.taken K.faults K.puts in
+        let asked = desk_state D.faults D.asks in
+        Serves (D.told desk.old) (Some (Replay image.now trace.now))
+        (outside (asked desk.old) (seen sink.old)) (outside (asked desk.new) (seen sink.new)) result }
 {
     match desk.fetch(alloc, image, MAX_IMAGE_BYTES) {
         Ok(bytes) => match read_image(alloc, bytes.as_slice()) {
@@ -114,12 +122,10 @@ fn replay_file<D: Desk, K: Sink>(
     image: &Image,
     trace: &str,
 ) -> Status
-    ensures answer { IfSome (D.told desk.old trace.now)
-        (λ list. Settles (K.taken sink.old) (K.taken sink.new) (D.faults desk.old) (D.faults desk.new) (answer_of_trace image.now list) result) }
-    ensures some_file { SettlesSomeTrace (K.taken sink.old) (K.taken sink.new) (D.faults desk.old) (D.faults desk.new) image.now result }
-    ensures sink_count { SinkCount (K.faults sink.old) (K.faults sink.new) result }
-    ensures desk_count { DeskCount (D.faults desk.old) (D.faults desk.new) result }
-    ensures asks { AsksFront (D.asks desk.old) (D.asks desk.new) ((trace.now, MAX_TRACE_BYTES) ∷ []) }
+    ensures { let seen = sink_state K.taken K.faults K.puts in
+        let asked = desk_state D.faults D.asks in
+        ServesTrace (D.told desk.old trace.now) (trace.now, MAX_TRACE_BYTES) image.now
+        (outside (asked desk.old) (seen sink.old)) (outside (asked desk.new) (seen sink.new)) result }
 {
     match desk.fetch(alloc, trace, MAX_TRACE_BYTES) {
         Ok(list) => replay(alloc, sink, image, list.as_slice()),
@@ -129,20 +135,10 @@ fn replay_file<D: Desk, K: Sink>(
     }
 }
 
-/// The line of a read fault.
-#[tactic(auto, unfolding(crate::specs::Answers::read_fault_text))]
-fn write_read_fault() -> LineText
-    ensures text { result.items ≡ read_fault_text }
-    ensures short { array_vec_len result < LINE_ROOM }
-{
-    let mut line = LineText::new();
-    push_all(&mut line, b"axp: read fault");
-    line
-}
-
 /// Ends with a read fault, with nothing printed before.
 fn refuse_read_fault<K: Sink>(alloc: Global, sink: &mut K) -> Status
-    ensures { Ends (K.taken sink.old) (K.taken sink.new) (K.faults sink.old) (K.faults sink.new) read_fault_answer result }
+    ensures { let seen = sink_state K.taken K.faults K.puts in
+        Ends (seen sink.old) (seen sink.new) read_fault_answer result }
 {
     refuse(alloc, sink, write_read_fault(), Status::ReadFault)
 }

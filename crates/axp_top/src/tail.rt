@@ -2,8 +2,9 @@ ghost use Rattle.std.specs.Prelude.{◌*◌, ◌/◌, ◌^◌, ◌<◌, ◌≤�
 ghost use Rattle.axp_base.specs.Cpus.{cpu_number};
 ghost use Rattle.axp_base.specs.declared.parts.TheConstants.{QUADWORD_BYTES};
 ghost use Rattle.axp_regs.specs.declared.states.TheConstants.{ZERO_REGISTER};
+ghost use Rattle.axp_top.specs.Outside.{sink_state};
 ghost use Rattle.axp_top.specs.Printing.{Prints};
-ghost use Rattle.axp_top.specs.Texts.{register_text, registers_text, processor_text, processors_text, quadword_text, memory_text, tail};
+ghost use Rattle.axp_top.specs.Texts.{register_lines, registers_lines, processor_lines, processors_lines, quadword_lines, memory_lines, tail};
 
 use crate::printing::{Stop, print_line};
 use axp_base::{Cpu, QUADWORD_BYTES};
@@ -22,8 +23,8 @@ fn print_register<K: Sink>(
 ) -> Result<(), Stop>
     requires cpu { cpu_number cpu < machine.now.cpus }
     requires register { n < ZERO_REGISTER }
-    ensures { Prints (K.taken sink.old) (K.taken sink.new) (K.faults sink.old) (K.faults sink.new)
-        (register_text machine.now (cpu_number cpu) n) result }
+    ensures { let seen = sink_state K.taken K.faults K.puts in
+        Prints (seen sink.old) (seen sink.new) (register_lines machine.now (cpu_number cpu) n) result }
 {
     let value = machine.register(cpu, n);
     if value == 0 {
@@ -40,8 +41,8 @@ fn print_registers<K: Sink>(
     cpu: Cpu,
 ) -> Result<(), Stop>
     requires { cpu_number cpu < machine.now.cpus }
-    ensures { Prints (K.taken sink.old) (K.taken sink.new) (K.faults sink.old) (K.faults sink.new)
-        (registers_text machine.now (cpu_number cpu) ZERO_REGISTER) result }
+    ensures { let seen = sink_state K.taken K.faults K.puts in
+        Prints (seen sink.old) (seen sink.new) (registers_lines machine.now (cpu_number cpu) ZERO_REGISTER) result }
 {
     for n in 0..ZERO_REGISTER {
         print_register(alloc, sink, machine, cpu, n)?;
@@ -57,8 +58,8 @@ fn print_processor<K: Sink>(
     cpu: Cpu,
 ) -> Result<(), Stop>
     requires { cpu_number cpu < machine.now.cpus }
-    ensures { Prints (K.taken sink.old) (K.taken sink.new) (K.faults sink.old) (K.faults sink.new)
-        (processor_text machine.now (cpu_number cpu)) result }
+    ensures { let seen = sink_state K.taken K.faults K.puts in
+        Prints (seen sink.old) (seen sink.new) (processor_lines machine.now (cpu_number cpu)) result }
 {
     let line = write_processor(
         cpu,
@@ -79,8 +80,8 @@ fn print_quadword<K: Sink>(
 ) -> Result<(), Stop>
     requires inside { quadword * QUADWORD_BYTES < machine.now.image.size }
     requires small { machine.now.image.size < 2 ^ 32 }
-    ensures { Prints (K.taken sink.old) (K.taken sink.new) (K.faults sink.old) (K.faults sink.new)
-        (quadword_text machine.now quadword) result }
+    ensures { let seen = sink_state K.taken K.faults K.puts in
+        Prints (seen sink.old) (seen sink.new) (quadword_lines machine.now quadword) result }
 {
     if machine.is_touched(quadword) {
         let line = write_memory(quadword * QUADWORD_BYTES, machine.quadword(quadword));
@@ -92,8 +93,8 @@ fn print_quadword<K: Sink>(
 
 /// Prints all processors at the end.
 fn print_processors<K: Sink>(alloc: Global, sink: &mut K, machine: &Machine) -> Result<(), Stop>
-    ensures { Prints (K.taken sink.old) (K.taken sink.new) (K.faults sink.old) (K.faults sink.new)
-        (processors_text machine.now machine.now.cpus) result }
+    ensures { let seen = sink_state K.taken K.faults K.puts in
+        Prints (seen sink.old) (seen sink.new) (processors_lines machine.now machine.now.cpus) result }
 {
     for n in 0..machine.cpus() {
         print_processor(alloc, sink, machine, Cpu::new(n).unwrap())?;
@@ -103,8 +104,8 @@ fn print_processors<K: Sink>(alloc: Global, sink: &mut K, machine: &Machine) -> 
 
 /// Prints the quadwords of memory that were written.
 fn print_memory<K: Sink>(alloc: Global, sink: &mut K, machine: &Machine) -> Result<(), Stop>
-    ensures { Prints (K.taken sink.old) (K.taken sink.new) (K.faults sink.old) (K.faults sink.new)
-        (memory_text machine.now (machine.now.image.size / QUADWORD_BYTES)) result }
+    ensures { let seen = sink_state K.taken K.faults K.puts in
+        Prints (seen sink.old) (seen sink.new) (memory_lines machine.now (machine.now.image.size / QUADWORD_BYTES)) result }
 {
     let quadwords = machine.memory_size() / QUADWORD_BYTES;
     for quadword in 0..quadwords {
@@ -116,8 +117,8 @@ fn print_memory<K: Sink>(alloc: Global, sink: &mut K, machine: &Machine) -> Resu
 /// Prints the tail of a trace: what the processors, memory and the console hold at the end, and the
 /// number of events.
 pub fn print_tail<K: Sink>(alloc: Global, sink: &mut K, machine: &Machine) -> Result<(), Stop>
-    ensures { Prints (K.taken sink.old) (K.taken sink.new) (K.faults sink.old) (K.faults sink.new)
-        (tail machine.now) result }
+    ensures { let seen = sink_state K.taken K.faults K.puts in
+        Prints (seen sink.old) (seen sink.new) (tail machine.now) result }
 {
     print_processors(alloc, sink, machine)?;
     print_memory(alloc, sink, machine)?;

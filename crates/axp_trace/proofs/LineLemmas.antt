@@ -20,7 +20,7 @@ use Rattle.axp_access.specs.declared.Outcome.TheVariants as outcome
 use Rattle.axp_access.specs.declared.Place.{Place}
 use Rattle.axp_access.specs.declared.Place.TheVariants.{At, Entry, Absent}
 use Rattle.axp_trace.specs.Digits.{hex, hex_digit}
-use Rattle.axp_trace.specs.Lines.{bank_text, bank_number_text, act_text, event_text, turn_text, place_text, data_text, success_text, move_text, access_text, copy_text, bit_text, poll_text, outcome_text, line_text, events_header, trace_header, end_text, processor_line, register_line, memory_line, console_line, end_line}
+use Rattle.axp_trace.specs.Lines.{bank_text, bank_number_text, act_text, event_text, turn_text, place_text, data_text, success_text, move_text, access_text, copy_text, bit_text, poll_text, outcome_text, line_text, events_header, trace_header, end_text, processor_line, register_line, memory_line, console_line, end_line, not_legal_line, not_built_line, incomplete_line, read_fault_line}
 use Rattle.axp_trace.specs.declared.files.TheConstants.{LINE_FEED}
 
 -- each byte is a blank or above: a test, so that it computes on what is written out
@@ -209,3 +209,19 @@ whole_console = plain_feed console_line refl
 pub whole_end : (events : ℕ) → All (λ b. b ≢ LINE_FEED) (end_line events)
 unfolding end_line
 whole_end events = plain_feed (end_line events) (plain_decimal events)
+
+pub whole_not_legal : (event : ℕ) → All (λ b. b ≢ LINE_FEED) (not_legal_line event)
+unfolding not_legal_line
+whole_not_legal event = plain_feed (not_legal_line event) (plain_decimal event)
+
+pub whole_not_built : (event : ℕ) → All (λ b. b ≢ LINE_FEED) (not_built_line event)
+unfolding not_built_line
+whole_not_built event = plain_feed (not_built_line event) (plain_decimal event)
+
+pub whole_incomplete : (events : ℕ) → All (λ b. b ≢ LINE_FEED) (incomplete_line events)
+unfolding incomplete_line
+whole_incomplete events = plain_feed (incomplete_line events) (plain_decimal events)
+
+pub whole_read_fault : All (λ b. b ≢ LINE_FEED) read_fault_line
+unfolding read_fault_line
+whole_read_fault = plain_feed read_fault_line refl

@@ -155,3 +155,21 @@ console_line = codes "console -"
 -- the last line of a trace: how many events it has
 unfoldable pub end_line : ℕ → List ℕ
 end_line events = codes "end " ++ decimal events
+
+-- ---- why a run ended early, or none was made
+
+-- the event of this number, from 1, is not legal
+unfoldable pub not_legal_line : ℕ → List ℕ
+not_legal_line event = codes "axp: not legal at event " ++ decimal event
+
+-- what the event line of this number is, or comes to, is not built; 0: nothing of the list is
+unfoldable pub not_built_line : ℕ → List ℕ
+not_built_line event = codes "axp: not built at event " ++ decimal event
+
+-- the list ends after this many events, and the machine is not complete
+unfoldable pub incomplete_line : ℕ → List ℕ
+incomplete_line events = codes "axp: incomplete after event " ++ decimal events
+
+-- a file could not be read
+unfoldable pub read_fault_line : List ℕ
+read_fault_line = codes "axp: read fault"

@@ -14,7 +14,7 @@ const MOST_DIGITS: usize = 10;
 const ADDRESS_DIGITS: usize = 8;
 
 /// Appends bytes.
-pub fn push_all(out: &mut LineText, bytes: &[u8])
+pub(crate) fn push_all(out: &mut LineText, bytes: &[u8])
     requires { array_vec_len out.old + length bytes.now ≤ LINE_ROOM }
     ensures text { out.new.items ≡ out.old.items ++ bytes.now }
     ensures len { array_vec_len out.new ≡ array_vec_len out.old + length bytes.now }
@@ -24,7 +24,7 @@ pub fn push_all(out: &mut LineText, bytes: &[u8])
 
 /// Appends a number in decimal.
 #[tactic(auto, using(crate::proofs::DigitLemmas::short_decimal))]
-pub fn push_decimal(out: &mut LineText, n: u32)
+pub(crate) fn push_decimal(out: &mut LineText, n: u32)
     requires { array_vec_len out.old + MOST_DIGITS ≤ LINE_ROOM }
     ensures text { out.new.items ≡ out.old.items ++ decimal n }
     ensures len { array_vec_len out.new ≤ array_vec_len out.old + MOST_DIGITS }

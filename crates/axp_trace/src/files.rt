@@ -1,7 +1,7 @@
 ghost use Rattle.std.specs.Prelude.{◌≡◌, ◌==◌, ◌<◌, ◌∷◌, ◌++◌, [], ℕ, List, None, Some, IsNone, IfSome, ◌↔◌, length, ◌^◌, Option, if◌then◌else◌};
 ghost use Rattle.axp_access.specs.declared.Event.{Event};
 ghost use Rattle.axp_access.specs.declared.Outcome.{Outcome};
-ghost use Rattle.axp_trace.specs.Lines.{event_text, line_text, events_header, trace_header, processor_line, register_line, memory_line, console_line, end_line};
+ghost use Rattle.axp_trace.specs.Lines.{event_text, line_text, events_header, trace_header, processor_line, register_line, memory_line, console_line, end_line, not_legal_line, not_built_line, incomplete_line, read_fault_line};
 ghost use Rattle.axp_trace.specs.declared.files.TheConstants.{LINE_FEED};
 ghost use Rattle.axp_trace.specs.Files.{lines_of, IsOneLine};
 
@@ -37,6 +37,15 @@ pub fn lines_are_whole()
     ensures memory { (address value : ℕ) → IsOneLine (memory_line address value) }
     ensures console { IsOneLine console_line }
     ensures end { (events : ℕ) → IsOneLine (end_line events) }
+    ensures not_legal { (event : ℕ) → IsOneLine (not_legal_line event) }
+    ensures not_built { (event : ℕ) → IsOneLine (not_built_line event) }
+    ensures incomplete { (events : ℕ) → IsOneLine (incomplete_line events) }
+    ensures read_fault { IsOneLine read_fault_line }
+{}
+
+/// A line ends with the byte 10.
+pub fn line_feed_is_10()
+    ensures { LINE_FEED ≡ 10 }
 {}
 
 #[cfg(test)]

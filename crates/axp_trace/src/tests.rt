@@ -224,7 +224,7 @@ fn other_acts_have_their_text(rt: HostRuntime) {
 fn other_lines_have_their_text(rt: HostRuntime) {
     let zero = Cpu::new(0).expect(&rt, "0 is a processor");
     let one = Cpu::new(1).expect(&rt, "1 is a processor");
-    let lines: [(LineText, &[u8]); 7] = [
+    let lines: [(LineText, &[u8]); 11] = [
         (
             write_header(2, 20, 65_536),
             b"axp-trace 1 cpus 2 budget 20 memory 65536",
@@ -241,6 +241,10 @@ fn other_lines_have_their_text(rt: HostRuntime) {
         (write_memory(0x4000, 1), b"mem 00004000 0000000000000001"),
         (write_console(), b"console -"),
         (write_end(14), b"end 14"),
+        (write_not_legal(7), b"axp: not legal at event 7"),
+        (write_not_built(0), b"axp: not built at event 0"),
+        (write_incomplete(9), b"axp: incomplete after event 9"),
+        (write_read_fault(), b"axp: read fault"),
     ];
     for (line, text) in &lines {
         assert!(rt; line.as_slice() == *text);

@@ -1,10 +1,13 @@
 use Rattle.std.proofs.Common.{length}
 use Rattle.axp_trace.specs.Files.{lines_of}
+use Rattle.axp_top.specs.Outside.{sink_state}
 use Rattle.axp_top.proofs.Replaying.{Comes}
 use Rattle.axp_top.proofs.replay.print_events.Given as goal
 
 abbrev pub invariant-loop-line : goal.invariant-loop-line
-invariant-loop-line g l = Comes (g.K.Sink.taken l.fn.sink) (g.K.Sink.taken l.sink) (g.K.Sink.faults l.fn.sink) (g.K.Sink.faults l.sink) l.fn.machine l.machine (lines_of l.fn.events) (lines_of l.rest)
+invariant-loop-line g l =
+    let seen = sink_state g.K.Sink.taken g.K.Sink.faults g.K.Sink.puts in
+    Comes (seen l.fn.sink) (seen l.sink) l.fn.machine l.machine (lines_of l.fn.events) (lines_of l.rest)
 
 abbrev pub decreases-loop-line : goal.decreases-loop-line
 decreases-loop-line g l = length l.rest

@@ -1,17 +1,18 @@
-use Rattle.std.proofs.Common.{◌≡◌, ◌≤◌, length, IfSome, sym, subst}
-use Rattle.axp_top.specs.declared.limits.TheConstants.{MAX_TRACE_BYTES}
-use Rattle.axp_top.proofs.Settling.{some_long, some_trace, trace_told}
+use Rattle.std.proofs.Common.{refl}
+use Rattle.axp_top.proofs.ServingLemmas.{trace_failed, trace_handed, trace_long, trace_unfound}
 use Rattle.axp_top.proofs.serve.replay_file.Goals as goal
 
-pub returns-in-Ok-clause-answer : goal.returns-in-Ok-clause-answer
-returns-in-Ok-clause-answer g c =
-    trace_told _ _ _ _ _ _ c.args.image.now c.as_slice.result.now (g.D.Desk.told c.args.desk.now c.args.trace.now) c.replay.result
-    (subst (λ x. IfSome (g.D.Desk.told c.args.desk.now c.args.trace.now) (λ t. (x ≡ t) × (length t ≤ MAX_TRACE_BYTES))) (sym c.as_slice.ensures) c.in-Ok.ensures.told)
-    c.replay.ensures
+pub returns-in-Ok : goal.returns-in-Ok
+returns-in-Ok g c =
+    trace_handed _ _ _ _ c.args.image.now c.in-Ok.list c.as_slice.result.now c.replay.result c.as_slice.ensures c.in-Ok.ensures.told c.in-Ok.ensures.most c.in-Ok.ensures.count c.in-Ok.ensures.asks c.replay.ensures
 
-pub returns-in-Err-TooLong-clause-some_file : goal.returns-in-Err-TooLong-clause-some_file
-returns-in-Err-TooLong-clause-some_file g c = some_long _ _ _ _ _ _ c.args.image.now c.refuse_all.result c.refuse_all.ensures
+pub returns-in-Err-Failed : goal.returns-in-Err-Failed
+returns-in-Err-Failed g c =
+    trace_failed _ _ _ _ c.args.image.now c.refuse_read_fault.result c.in-Err-Failed.field-0 c.in-Err-Failed.field-0-is c.in-Err-Failed.ensures.count c.in-Err-Failed.ensures.asks c.refuse_read_fault.ensures
 
-pub returns-in-Ok-clause-some_file : goal.returns-in-Ok-clause-some_file
-returns-in-Ok-clause-some_file g c = some_trace _ _ _ _ _ _ c.args.image.now c.as_slice.result.now c.replay.result
-    (subst (λ x. length x ≤ MAX_TRACE_BYTES) (sym c.as_slice.ensures) c.in-Ok.ensures.most) c.replay.ensures
+pub returns-in-Err-TooLong : goal.returns-in-Err-TooLong
+returns-in-Err-TooLong g c =
+    trace_long _ _ _ _ c.args.image.now c.refuse_all.result c.in-Err-TooLong.field-0 c.in-Err-TooLong.field-0-is c.in-Err-TooLong.ensures.told c.in-Err-TooLong.ensures.count c.in-Err-TooLong.ensures.asks c.refuse_all.ensures
+
+pub returns-in-Err-Memory : goal.returns-in-Err-Memory
+returns-in-Err-Memory g c = trace_unfound _ _ _ _ c.args.image.now c.in-Err-Memory.field-0 c.in-Err-Memory.field-0-is refl c.in-Err-Memory.ensures.count c.in-Err-Memory.ensures.asks

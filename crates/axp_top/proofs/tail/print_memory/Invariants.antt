@@ -1,7 +1,8 @@
+use Rattle.axp_top.specs.Outside.{sink_state}
 use Rattle.axp_top.specs.Printing.{Printed}
-use Rattle.axp_top.specs.Texts.{memory_text}
+use Rattle.axp_top.specs.Texts.{memory_lines}
 use Rattle.axp_top.proofs.tail.print_memory.Given as goal
 
 -- the quadwords below this one are printed
 abbrev pub invariant-loop-quadword : goal.invariant-loop-quadword
-invariant-loop-quadword g l = Printed (g.K.Sink.taken l.fn.sink) (g.K.Sink.taken l.sink) (g.K.Sink.faults l.fn.sink) (g.K.Sink.faults l.sink) (memory_text l.machine l.quadword)
+invariant-loop-quadword g l = Printed (sink_state g.K.Sink.taken g.K.Sink.faults g.K.Sink.puts l.fn.sink) (sink_state g.K.Sink.taken g.K.Sink.faults g.K.Sink.puts l.sink) (memory_lines l.machine l.quadword)

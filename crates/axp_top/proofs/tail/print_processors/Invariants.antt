@@ -1,7 +1,8 @@
+use Rattle.axp_top.specs.Outside.{sink_state}
 use Rattle.axp_top.specs.Printing.{Printed}
-use Rattle.axp_top.specs.Texts.{processors_text}
+use Rattle.axp_top.specs.Texts.{processors_lines}
 use Rattle.axp_top.proofs.tail.print_processors.Given as goal
 
 -- the processors below l.n are printed
 abbrev pub invariant-loop-n : goal.invariant-loop-n
-invariant-loop-n g l = Printed (g.K.Sink.taken l.fn.sink) (g.K.Sink.taken l.sink) (g.K.Sink.faults l.fn.sink) (g.K.Sink.faults l.sink) (processors_text l.machine l.n)
+invariant-loop-n g l = Printed (sink_state g.K.Sink.taken g.K.Sink.faults g.K.Sink.puts l.fn.sink) (sink_state g.K.Sink.taken g.K.Sink.faults g.K.Sink.puts l.sink) (processors_lines l.machine l.n)

@@ -1,0 +1,367 @@
+-- How the parts of the top call end, and what its clauses say of it.
+use Rattle.std.proofs.Common.{◌≡◌, ◌⊎◌, ℕ, zero, suc, ◌≤◌, ◌<◌, Bool, true, false, List, [], ◌∷◌, ◌++◌, length, Option, Some, None, Ok, Err, IfSome, refl, sym, ap, ◌∙◌, subst, inl, inr, append_assoc, append-nil, arith}
+use Rattle.std.specs.Prelude.{slice_index, nat_lt}
+use Rattle.std.proofs.lemmas.Bool.{lt-ltb, le-ltb, ltb-true}
+use Rattle.axp_image.specs.Contents.{AreBytes, Contents, IsValid}
+use Rattle.axp_image.specs.Grammar as grammar
+use Rattle.axp_image.specs.Grammar.{image_of}
+use Rattle.axp_io.specs.Causes.{Ask, FetchAsks, FetchCount, FetchTold, raised}
+use Rattle.axp_io.specs.declared.FetchFault.{FetchFault}
+use Rattle.axp_io.specs.declared.FetchFault.TheVariants as fetch
+use Rattle.axp_trace.specs.Files.{lines_of}
+use Rattle.axp_top.specs.declared.limits.TheConstants.{MAX_IMAGE_BYTES, MAX_TRACE_BYTES}
+use Rattle.axp_top.specs.declared.status.Status.{Status}
+use Rattle.axp_top.specs.declared.status.Status.TheVariants as status
+use Rattle.axp_top.specs.Answers.{answer_by, answer_of, answer_of_files, answer_of_image, answer_of_trace, answer_over, asks_by, asks_of, image_in, image_told, read_fault_answer, trace_told}
+use Rattle.axp_top.specs.Lawful.{IsLawful, image_of_file, image_over, lines_of_file}
+use Rattle.axp_top.specs.Outside.{DeskState, Outside, outside}
+use Rattle.axp_top.specs.Printing.{Ends}
+use Rattle.axp_top.specs.Replays.{Answer, answer_of_lines, not_built_at_all}
+use Rattle.axp_top.specs.Serving.{Course, Serves, ServesTrace}
+use Rattle.axp_top.specs.Statuses.{AsksFailed, AsksFront, AsksInTurn, AsksNeeded, DeskCount, PutsEach, Settles, SettlesLawfully, SettlesSome, SinkCount}
+use Rattle.axp_top.specs.Words.{Order, Replay}
+use Rattle.axp_top.proofs.Lawful.{over_lawful, told_lawful, valid_in}
+use Rattle.axp_top.proofs.Settling.{IsAnswer, answer_is, asks_in_turn, asks_needed, desk_count, over_is, puts_each, settles, sink_count, trace_is}
+
+-- ---- lists that may have been handed over
+
+-- what is told, or nothing
+abbrev told_or_none : Option (List ℕ) → List ℕ
+told_or_none None = []
+told_or_none (Some bytes) = bytes
+
+told_is : (told : Option (List ℕ)) → IfSome told (λ bytes. told_or_none told ≡ bytes)
+told_is None = tt
+told_is (Some bytes) = refl
+
+-- what was handed over is what is told
+handed_is : (told : Option (List ℕ)) (bytes : List ℕ) (most : ℕ) → IfSome told (λ t. FetchTold t most (Ok bytes)) → IfSome told (λ t. bytes ≡ t)
+handed_is None bytes most h = tt
+handed_is (Some t) bytes most h = h.0
+
+-- ---- the asks of one fetch
+
+all_front : (before now asks : List Ask) → now ≡ before ++ asks → AsksFront before now asks
+all_front before now asks is = (asks, [], sym (append-nil asks), is)
+
+none_front : (before now asks : List Ask) → now ≡ before → AsksFront before now asks
+none_front before now asks is = ([], asks, refl, is ∙ sym (append-nil before))
+
+-- for want of memory the ask may be left out
+memory_front : (before now : List Ask) (ask : Ask) → FetchAsks before now ask (Err fetch.Memory) → AsksFront before now (ask ∷ [])
+memory_front before now ask (inl e) = none_front before now (ask ∷ []) e
+memory_front before now ask (inr e) = all_front before now (ask ∷ []) e
+
+-- ---- the course of one fetch
+
+-- it handed a list over, or all was refused
+handed_course : (b n : Outside) (a : Answer) (ask : Ask) (s : Status) → n.desk.faults ≡ b.desk.faults → n.desk.asks ≡ b.desk.asks ++ ask ∷ [] → Ends b.sink n.sink a s → Course b n a (ask ∷ []) s
+handed_course b n a ask s count asks ends = inl (record { ends = ends; count = count; some = all_front b.desk.asks n.desk.asks (ask ∷ []) asks; all = λ unless. asks })
+
+-- it failed
+failed_course : (b n : Outside) (a : Answer) (ask : Ask) (more : List Ask) (s : Status) (f : FetchFault) → f ≡ fetch.Failed → FetchCount b.desk.faults n.desk.faults (Err f) → FetchAsks b.desk.asks n.desk.asks ask (Err f) → Ends b.sink n.sink read_fault_answer s
+    → Course b n a (ask ∷ more) s
+failed_course b n a ask more s fetch.Failed is count asks ends = inr (record { ends = ends; count = count; failed = ([], ask, more, refl, asks) })
+failed_course b n a ask more s fetch.TooLong is count asks ends = cc
+failed_course b n a ask more s fetch.Memory is count asks ends = cc
+
+-- memory was not found
+unfound_course : (b n : Outside) (a : Answer) (asks : List Ask) → n.sink ≡ b.sink → n.desk.faults ≡ b.desk.faults → AsksFront b.desk.asks n.desk.asks asks → Course b n a asks status.Memory
+unfound_course b n a asks same count some = inl (record { ends = inl same; count = count; some = some; all = λ unless. absurd (unless refl) })
+
+-- ---- the event list over an image
+
+pub trace_handed : (b n : Outside) (told : Option (List ℕ)) (ask : Ask) (image : Contents) (bytes slice : List ℕ) (s : Status) → slice ≡ bytes → IfSome told (λ t. FetchTold t MAX_TRACE_BYTES (Ok bytes)) → length bytes ≤ MAX_TRACE_BYTES → n.desk.faults ≡ b.desk.faults
+    → n.desk.asks ≡ b.desk.asks ++ ask ∷ [] → Ends b.sink n.sink (answer_of_lines image (lines_of slice)) s → ServesTrace told ask image b n s
+trace_handed b n told ask image bytes slice s same is short count asks ends = record {
+  list = bytes;
+  is_told = handed_is told bytes MAX_TRACE_BYTES is;
+  course = handed_course b n (answer_of_trace image bytes) ask s count asks (rw (le-ltb MAX_TRACE_BYTES (length bytes) short) (subst (λ (x : List ℕ). Ends b.sink n.sink (answer_of_lines image (lines_of x)) s) same ends));
+}
+
+pub trace_failed : (b n : Outside) (told : Option (List ℕ)) (ask : Ask) (image : Contents) (s : Status) (f : FetchFault) → f ≡ fetch.Failed → FetchCount b.desk.faults n.desk.faults (Err f) → FetchAsks b.desk.asks n.desk.asks ask (Err f)
+    → Ends b.sink n.sink read_fault_answer s → ServesTrace told ask image b n s
+trace_failed b n told ask image s f is count asks ends = record { list = told_or_none told; is_told = told_is told; course = failed_course b n (answer_of_trace image (told_or_none told)) ask [] s f is count asks ends }
+
+long_course : (b n : Outside) (told : Option (List ℕ)) (ask : Ask) (image : Contents) (s : Status) → IfSome told (λ t. MAX_TRACE_BYTES < length t) → Course b n not_built_at_all (ask ∷ []) s → Course b n (answer_of_trace image (told_or_none told)) (ask ∷ []) s
+long_course b n None ask image s long h = h
+long_course b n (Some bytes) ask image s long h = rw (lt-ltb MAX_TRACE_BYTES (length bytes) long) h
+
+pub trace_long : (b n : Outside) (told : Option (List ℕ)) (ask : Ask) (image : Contents) (s : Status) (f : FetchFault) → f ≡ fetch.TooLong → IfSome told (λ t. FetchTold t MAX_TRACE_BYTES (Err f)) → FetchCount b.desk.faults n.desk.faults (Err f)
+    → FetchAsks b.desk.asks n.desk.asks ask (Err f) → Ends b.sink n.sink not_built_at_all s → ServesTrace told ask image b n s
+trace_long b n told ask image s fetch.TooLong is long count asks ends = record {
+  list = told_or_none told;
+  is_told = told_is told;
+  course = long_course b n told ask image s long (handed_course b n not_built_at_all ask s count asks ends);
+}
+trace_long b n told ask image s fetch.Failed is long count asks ends = cc
+trace_long b n told ask image s fetch.Memory is long count asks ends = cc
+
+pub trace_unfound : (b n : Outside) (told : Option (List ℕ)) (ask : Ask) (image : Contents) (f : FetchFault) → f ≡ fetch.Memory → n.sink ≡ b.sink → FetchCount b.desk.faults n.desk.faults (Err f) → FetchAsks b.desk.asks n.desk.asks ask (Err f)
+    → ServesTrace told ask image b n status.Memory
+trace_unfound b n told ask image fetch.Memory is same count asks = record {
+  list = told_or_none told;
+  is_told = told_is told;
+  course = unfound_course b n (answer_of_trace image (told_or_none told)) (ask ∷ []) same count (memory_front b.desk.asks n.desk.asks ask asks);
+}
+trace_unfound b n told ask image fetch.Failed is same count asks = cc
+trace_unfound b n told ask image fetch.TooLong is same count asks = cc
+
+-- ---- both files
+
+abbrev ByFirst : Outside → Outside → Option Order → List ℕ → List ℕ → Status → Type 0
+ByFirst b n order image trace s = Course b n (answer_over order image trace) (asks_by order (image_over order image)) s
+
+-- a course over a file that is no image
+refused_course : (b n : Outside) (first second image trace : List ℕ) (s : Status) → image_in image ≡ None → Course b n not_built_at_all ((first, MAX_IMAGE_BYTES) ∷ []) s → ByFirst b n (Some (Replay first second)) image trace s
+refused_course b n first second image trace s none h = rw none h
+
+refused_serves : (told : List ℕ → Option (List ℕ)) (b n : Outside) (first second image : List ℕ) (s : Status) → image_in image ≡ None → IfSome (told first) (λ bytes. image ≡ bytes) → Course b n not_built_at_all ((first, MAX_IMAGE_BYTES) ∷ []) s
+    → Serves told (Some (Replay first second)) b n s
+refused_serves told b n first second image s none is h = record {
+  image = image;
+  trace = told_or_none (told second);
+  image_is_told = is;
+  trace_is_told = told_is (told second);
+  course = refused_course b n first second image (told_or_none (told second)) s none h;
+  sure = inl (rw none tt);
+}
+
+-- the file is within its limit and no image
+pub files_refused : (told : List ℕ → Option (List ℕ)) (b n : Outside) (first second bytes : List ℕ) (s : Status) → IfSome (told first) (λ t. FetchTold t MAX_IMAGE_BYTES (Ok bytes)) → length bytes ≤ MAX_IMAGE_BYTES → None ≡ image_of bytes → n.desk.faults ≡ b.desk.faults
+    → n.desk.asks ≡ b.desk.asks ++ (first, MAX_IMAGE_BYTES) ∷ [] → Ends b.sink n.sink not_built_at_all s → Serves told (Some (Replay first second)) b n s
+files_refused told b n first second bytes s is short none count asks ends =
+    refused_serves told b n first second bytes s (rw (le-ltb MAX_IMAGE_BYTES (length bytes) short) (sym none)) (handed_is (told first) bytes MAX_IMAGE_BYTES is) (handed_course b n not_built_at_all (first, MAX_IMAGE_BYTES) s count asks ends)
+
+-- the empty list is no image, and no list that is too long
+no_image : image_of [] ≡ None
+unfolding image_of grammar.header_of grammar.number_at grammar.piece_at
+no_image = refl
+
+long_image : (told : Option (List ℕ)) → IfSome told (λ t. MAX_IMAGE_BYTES < length t) → image_in (told_or_none told) ≡ None
+long_image None long = no_image
+long_image (Some bytes) long = rw (lt-ltb MAX_IMAGE_BYTES (length bytes) long) refl
+
+pub files_long : (told : List ℕ → Option (List ℕ)) (b n : Outside) (first second : List ℕ) (s : Status) (f : FetchFault) → f ≡ fetch.TooLong → IfSome (told first) (λ t. FetchTold t MAX_IMAGE_BYTES (Err f)) → FetchCount b.desk.faults n.desk.faults (Err f)
+    → FetchAsks b.desk.asks n.desk.asks (first, MAX_IMAGE_BYTES) (Err f) → Ends b.sink n.sink not_built_at_all s → Serves told (Some (Replay first second)) b n s
+files_long told b n first second s fetch.TooLong is long count asks ends =
+    refused_serves told b n first second (told_or_none (told first)) s (long_image (told first) long) (told_is (told first)) (handed_course b n not_built_at_all (first, MAX_IMAGE_BYTES) s count asks ends)
+files_long told b n first second s fetch.Failed is long count asks ends = cc
+files_long told b n first second s fetch.Memory is long count asks ends = cc
+
+-- what holds over each first file
+each_serves : (told : List ℕ → Option (List ℕ)) (b n : Outside) (first second : List ℕ) (s : Status) → ((image trace : List ℕ) → ByFirst b n (Some (Replay first second)) image trace s) → Serves told (Some (Replay first second)) b n s
+each_serves told b n first second s each = record {
+  image = told_or_none (told first);
+  trace = told_or_none (told second);
+  image_is_told = told_is (told first);
+  trace_is_told = told_is (told second);
+  course = each (told_or_none (told first)) (told_or_none (told second));
+  sure = inr (λ other. each other (told_or_none (told second)));
+}
+
+failed_by : (b n : Outside) (first second : List ℕ) (image : Option Contents) (trace : List ℕ) (s : Status) (f : FetchFault) → f ≡ fetch.Failed → FetchCount b.desk.faults n.desk.faults (Err f) → FetchAsks b.desk.asks n.desk.asks (first, MAX_IMAGE_BYTES) (Err f)
+    → Ends b.sink n.sink read_fault_answer s → Course b n (answer_by image trace) (asks_by (Some (Replay first second)) image) s
+failed_by b n first second None trace s f is count asks ends = failed_course b n not_built_at_all _ [] s f is count asks ends
+failed_by b n first second (Some image) trace s f is count asks ends = failed_course b n (answer_of_trace image trace) _ _ s f is count asks ends
+
+pub files_failed : (told : List ℕ → Option (List ℕ)) (b n : Outside) (first second : List ℕ) (s : Status) (f : FetchFault) → f ≡ fetch.Failed → FetchCount b.desk.faults n.desk.faults (Err f) → FetchAsks b.desk.asks n.desk.asks (first, MAX_IMAGE_BYTES) (Err f)
+    → Ends b.sink n.sink read_fault_answer s → Serves told (Some (Replay first second)) b n s
+files_failed told b n first second s f is count asks ends = each_serves told b n first second s (λ image trace. failed_by b n first second (image_in image) trace s f is count asks ends)
+
+-- memory was not found, once the first file was asked for or before
+longer_front : (before now : List Ask) (ask : Ask) (more : List Ask) → AsksFront before now (ask ∷ []) → AsksFront before now (ask ∷ more)
+longer_front before now ask more h = (h.0, h.1 ++ more, ap (λ (xs : List Ask). xs ++ more) h.2 ∙ append_assoc h.0 h.1 more, h.3)
+
+unfound_by : (b n : Outside) (first second : List ℕ) (image : Option Contents) (trace : List ℕ) → n.sink ≡ b.sink → n.desk.faults ≡ b.desk.faults → AsksFront b.desk.asks n.desk.asks ((first, MAX_IMAGE_BYTES) ∷ [])
+    → Course b n (answer_by image trace) (asks_by (Some (Replay first second)) image) status.Memory
+unfound_by b n first second None trace same count some = unfound_course b n not_built_at_all _ same count some
+unfound_by b n first second (Some image) trace same count some = unfound_course b n (answer_of_trace image trace) _ same count (longer_front b.desk.asks n.desk.asks _ _ some)
+
+files_unfound : (told : List ℕ → Option (List ℕ)) (b n : Outside) (first second : List ℕ) → n.sink ≡ b.sink → n.desk.faults ≡ b.desk.faults → AsksFront b.desk.asks n.desk.asks ((first, MAX_IMAGE_BYTES) ∷ []) → Serves told (Some (Replay first second)) b n status.Memory
+files_unfound told b n first second same count some = each_serves told b n first second status.Memory (λ image trace. unfound_by b n first second (image_in image) trace same count some)
+
+pub files_unfound_first : (told : List ℕ → Option (List ℕ)) (b n : Outside) (first second : List ℕ) (f : FetchFault) → f ≡ fetch.Memory → n.sink ≡ b.sink → FetchCount b.desk.faults n.desk.faults (Err f) → FetchAsks b.desk.asks n.desk.asks (first, MAX_IMAGE_BYTES) (Err f)
+    → Serves told (Some (Replay first second)) b n status.Memory
+files_unfound_first told b n first second fetch.Memory is same count asks = files_unfound told b n first second same count (memory_front b.desk.asks n.desk.asks (first, MAX_IMAGE_BYTES) asks)
+files_unfound_first told b n first second fetch.Failed is same count asks = cc
+files_unfound_first told b n first second fetch.TooLong is same count asks = cc
+
+pub files_unfound_image : (told : List ℕ → Option (List ℕ)) (b n : Outside) (first second : List ℕ) → n.sink ≡ b.sink → n.desk.faults ≡ b.desk.faults → n.desk.asks ≡ b.desk.asks ++ (first, MAX_IMAGE_BYTES) ∷ [] → Serves told (Some (Replay first second)) b n status.Memory
+files_unfound_image told b n first second same count asks = files_unfound told b n first second same count (all_front b.desk.asks n.desk.asks _ asks)
+
+-- ---- the second file behind the first
+
+then_front : (before between now : List Ask) (ask : Ask) (more : List Ask) → between ≡ before ++ ask ∷ [] → AsksFront between now more → AsksFront before now (ask ∷ more)
+then_front before between now ask more is h = (ask ∷ h.0, h.1, ap (λ (xs : List Ask). ask ∷ xs) h.2, h.3 ∙ ap (λ (xs : List Ask). xs ++ h.0) is ∙ append_assoc before (ask ∷ []) h.0)
+
+then_failed : (before between now : List Ask) (ask : Ask) (more : List Ask) → between ≡ before ++ ask ∷ [] → AsksFailed between now more → AsksFailed before now (ask ∷ more)
+then_failed before between now ask more is h =
+    (ask ∷ h.0, h.1, h.2, ap (λ (xs : List Ask). ask ∷ xs) h.3, h.4 ∙ ap (λ (xs : List Ask). xs ++ (h.0 ++ h.1 ∷ [])) is ∙ append_assoc before (ask ∷ []) (h.0 ++ h.1 ∷ []))
+
+then_all : (before between now : List Ask) (ask : Ask) (more : List Ask) → between ≡ before ++ ask ∷ [] → now ≡ between ++ more → now ≡ before ++ ask ∷ more
+then_all before between now ask more is all = all ∙ ap (λ (xs : List Ask). xs ++ more) is ∙ append_assoc before (ask ∷ []) more
+
+then_course : (b n : Outside) (desk : DeskState) (a : Answer) (ask : Ask) (more : List Ask) (s : Status) → desk.faults ≡ b.desk.faults → desk.asks ≡ b.desk.asks ++ ask ∷ [] → Course (outside desk b.sink) n a more s → Course b n a (ask ∷ more) s
+then_course b n desk a ask more s count asks (inl h) = inl (record {
+  ends = h.ends;
+  count = h.count ∙ count;
+  some = then_front b.desk.asks desk.asks n.desk.asks ask more asks h.some;
+  all = λ unless. then_all b.desk.asks desk.asks n.desk.asks ask more asks (h.all unless);
+})
+then_course b n desk a ask more s count asks (inr h) = inr (record {
+  ends = h.ends;
+  count = h.count ∙ ap (λ k. raised k 1) count;
+  failed = then_failed b.desk.asks desk.asks n.desk.asks ask more asks h.failed;
+})
+
+-- the second file's name is told the same after the first fetch
+told_before : (now before : Option (List ℕ)) (bytes : List ℕ) → now ≡ before → IfSome now (λ t. bytes ≡ t) → IfSome before (λ t. bytes ≡ t)
+told_before now before bytes same is = subst (λ (o : Option (List ℕ)). IfSome o (λ t. bytes ≡ t)) same is
+
+pub files_served : (told told' : List ℕ → Option (List ℕ)) (b n : Outside) (desk : DeskState) (first second bytes : List ℕ) (image : Contents) (s : Status) → IfSome (told first) (λ t. FetchTold t MAX_IMAGE_BYTES (Ok bytes)) → length bytes ≤ MAX_IMAGE_BYTES
+    → Some image ≡ image_of bytes → IsValid image → desk.faults ≡ b.desk.faults → desk.asks ≡ b.desk.asks ++ (first, MAX_IMAGE_BYTES) ∷ [] → ((name : List ℕ) → told' name ≡ told name)
+    → ServesTrace (told' second) (second, MAX_TRACE_BYTES) image (outside desk b.sink) n s → Serves told (Some (Replay first second)) b n s
+files_served told told' b n desk first second bytes image s is short reads valid count asks stays h =
+    let image_is : image_in bytes ≡ Some image = rw (le-ltb MAX_IMAGE_BYTES (length bytes) short) (sym reads) in
+    record {
+      image = bytes;
+      trace = h.list;
+      image_is_told = handed_is (told first) bytes MAX_IMAGE_BYTES is;
+      trace_is_told = told_before (told' second) (told second) h.list (stays second) h.is_told;
+      course = rw image_is (then_course b n desk (answer_of_trace image h.list) (first, MAX_IMAGE_BYTES) ((second, MAX_TRACE_BYTES) ∷ []) s count asks h.course);
+      sure = inl (rw image_is valid);
+    }
+
+-- ---- no command
+
+pub nothing_served : (told : List ℕ → Option (List ℕ)) (b n : Outside) (s : Status) → n.desk ≡ b.desk → Ends b.sink n.sink not_built_at_all s → Serves told None b n s
+nothing_served told b n s same ends =
+    let asks : n.desk.asks ≡ b.desk.asks = ap (λ (d : DeskState). d.asks) same in
+    record {
+      image = [];
+      trace = [];
+      image_is_told = tt;
+      trace_is_told = tt;
+      course = inl (record {
+        ends = ends;
+        count = ap (λ (d : DeskState). d.faults) same;
+        some = none_front b.desk.asks n.desk.asks [] asks;
+        all = λ unless. asks ∙ sym (append-nil b.desk.asks);
+      });
+      sure = inl tt;
+    }
+
+-- ---- the clauses, where the files are told
+
+-- an answer, and the course by it
+record IsServed (b n : Outside) (s : Status) (a : Answer) : Type 0 where
+  pub is : IsAnswer a
+  pub asks : List Ask
+  pub course : Course b n a asks s
+
+image_served : (b n : Outside) (asks : List Ask) (s : Status) (image : Option Contents) (trace : List ℕ) (told : Option (List ℕ)) → IfSome told (λ t. trace ≡ t) → Course b n (answer_by image trace) asks s → IfSome (answer_of_image image told) (IsServed b n s)
+image_served b n asks s None trace told is h = record { is = answer_is None trace; asks = asks; course = h }
+image_served b n asks s (Some image) trace None is h = tt
+image_served b n asks s (Some image) trace (Some t) is h = subst (λ (x : List ℕ). IsServed b n s (answer_of_trace image x)) is (record { is = trace_is image trace; asks = asks; course = h })
+
+files_told : (b n : Outside) (asks : List Ask) (s : Status) (image trace : List ℕ) (told_image told_trace : Option (List ℕ)) → IfSome told_image (λ t. image ≡ t) → IfSome told_trace (λ t. trace ≡ t) → Course b n (answer_by (image_in image) trace) asks s
+    → IfSome (answer_of_files told_image told_trace) (IsServed b n s)
+files_told b n asks s image trace None told_trace is others h = tt
+files_told b n asks s image trace (Some t) told_trace is others h =
+    image_served b n asks s (image_in t) trace told_trace others (subst (λ (x : List ℕ). Course b n (answer_by (image_in x) trace) asks s) is h)
+
+told_served : (told : List ℕ → Option (List ℕ)) (order : Option Order) (b n : Outside) (s : Status) → Serves told order b n s → IfSome (answer_of order told) (IsServed b n s)
+told_served told None b n s h = record { is = over_is None [] []; asks = []; course = h.course }
+told_served told (Some (Replay first second)) b n s h = files_told b n _ s h.image h.trace (told first) (told second) h.image_is_told h.trace_is_told h.course
+
+-- what follows of an answer that may be none
+if_some : {A : Type 0} (P Q : A → Type 0) (o : Option A) → ((x : A) → P x → Q x) → IfSome o P → IfSome o Q
+if_some P Q None f h = tt
+if_some P Q (Some x) f h = f x h
+
+pub serves_answer : (told : List ℕ → Option (List ℕ)) (order : Option Order) (b n : Outside) (s : Status) → Serves told order b n s → IfSome (answer_of order told) (λ a. Settles b n a s)
+serves_answer told order b n s h = if_some (IsServed b n s) (λ a. Settles b n a s) (answer_of order told) (λ a x. settles b n a x.asks s x.is x.course) (told_served told order b n s h)
+
+pub serves_puts : (told : List ℕ → Option (List ℕ)) (order : Option Order) (b n : Outside) (s : Status) → Serves told order b n s → IfSome (answer_of order told) (λ a. PutsEach b n a s)
+serves_puts told order b n s h = if_some (IsServed b n s) (λ a. PutsEach b n a s) (answer_of order told) (λ a x. puts_each b n a x.asks s x.is x.course) (told_served told order b n s h)
+
+both : (b n : Outside) (s : Status) (image : Option Contents) (ls : List (Option (List ℕ))) (answer : Option Answer) → IfSome answer (λ a. Settles b n a s) → IfSome answer (IsLawful image ls) → IfSome answer (SettlesLawfully b n image ls s)
+both b n s image ls None settled lawful = tt
+both b n s image ls (Some a) settled lawful = (settled, lawful)
+
+pub serves_lawfully : (told : List ℕ → Option (List ℕ)) (order : Option Order) (b n : Outside) (s : Status) → Serves told order b n s → IfSome (image_told order told) AreBytes
+    → IfSome (answer_of order told) (SettlesLawfully b n (image_of_file (image_told order told)) (lines_of_file (trace_told order told)) s)
+serves_lawfully told order b n s h all = both b n s _ _ (answer_of order told) (serves_answer told order b n s h) (told_lawful order told all)
+
+pub serves_needed : (told : List ℕ → Option (List ℕ)) (order : Option Order) (b n : Outside) (s : Status) → Serves told order b n s → IfSome (image_told order told) (λ bytes. AsksNeeded b.desk n.desk (asks_by order (image_in bytes)) s)
+serves_needed told None b n s h = tt
+serves_needed told (Some (Replay first second)) b n s h =
+    if_some (λ bytes. h.image ≡ bytes) (λ bytes. AsksNeeded b.desk n.desk (asks_by (Some (Replay first second)) (image_in bytes)) s) (told first)
+    (λ bytes is. subst (λ (x : List ℕ). AsksNeeded b.desk n.desk (asks_by (Some (Replay first second)) (image_in x)) s) is (asks_needed b n (answer_by (image_in h.image) h.trace) _ s (answer_is (image_in h.image) h.trace) h.course))
+    h.image_is_told
+
+-- ---- and where nothing is told
+
+pub serves_sink_count : (told : List ℕ → Option (List ℕ)) (order : Option Order) (b n : Outside) (s : Status) → Serves told order b n s → SinkCount b.sink.faults n.sink.faults s
+serves_sink_count told order b n s h = sink_count b n (answer_over order h.image h.trace) _ s h.course
+
+pub serves_desk_count : (told : List ℕ → Option (List ℕ)) (order : Option Order) (b n : Outside) (s : Status) → Serves told order b n s → DeskCount b.desk.faults n.desk.faults s
+serves_desk_count told order b n s h = desk_count b n (answer_over order h.image h.trace) _ s (over_is order h.image h.trace) h.course
+
+pub serves_asks : (told : List ℕ → Option (List ℕ)) (order : Option Order) (b n : Outside) (s : Status) → Serves told order b n s → AsksInTurn b.desk.asks n.desk.asks (asks_of order) s
+serves_asks told order b n s h = asks_in_turn b n order h.image h.trace s h.course
+
+-- a list of numbers is one of bytes, or not
+not_below : (x : ℕ) → nat_lt x 256 ≡ false → x < 256 → ⊥
+not_below x is below = let less : nat_lt x 256 ≡ true = lt-ltb x 256 below in cc
+
+byte_test : (x : ℕ) (xs : List ℕ) (below : Bool) → nat_lt x 256 ≡ below → AreBytes xs ⊎ (AreBytes xs → ⊥) → AreBytes (x ∷ xs) ⊎ (AreBytes (x ∷ xs) → ⊥)
+byte_test x xs true is (inl all) = inl (λ i. by_index i)
+  where
+    by_index : (i : ℕ) → slice_index (x ∷ xs) i < 256
+    by_index zero = ltb-true x 256 is
+    by_index (suc i) = all i
+byte_test x xs true is (inr other) = inr (λ all. other (λ i. all (suc i)))
+byte_test x xs false is rest = inr (λ all. not_below x is (all zero))
+
+are_bytes : (xs : List ℕ) → AreBytes xs ⊎ (AreBytes xs → ⊥)
+are_bytes [] = inl (λ i. omega arith)
+are_bytes (x ∷ xs) = byte_test x xs (nat_lt x 256) refl (are_bytes xs)
+
+some_over : (told : List ℕ → Option (List ℕ)) (order : Option Order) (b n : Outside) (s : Status) (h : Serves told order b n s) (image : List ℕ) → IfSome (image_told order told) (λ bytes. AreBytes bytes → image ≡ bytes) → IfSome (image_over order image) IsValid
+    → ByFirst b n order image h.trace s → SettlesSome told b n order s
+some_over told order b n s h image is valid course = record {
+  image = image;
+  trace = h.trace;
+  image_is_told = is;
+  trace_is_told = h.trace_is_told;
+  settled = (settles b n (answer_over order image h.trace) _ s (over_is order image h.trace) course, over_lawful order image h.trace valid);
+  puts = puts_each b n (answer_over order image h.trace) _ s (over_is order image h.trace) course;
+  asked = asks_needed b n (answer_over order image h.trace) _ s (over_is order image h.trace) course;
+}
+
+-- the empty list has no image
+empty_valid : (order : Option Order) → IfSome (image_over order []) IsValid
+empty_valid None = tt
+empty_valid (Some order) = rw no_image tt
+
+bytes_valid : (order : Option Order) (bytes : List ℕ) → AreBytes bytes → IfSome (image_over order bytes) IsValid
+bytes_valid None bytes all = tt
+bytes_valid (Some order) bytes all = valid_in bytes all
+
+-- any first file will do: the told one, if it is of bytes
+some_of_each : (told : List ℕ → Option (List ℕ)) (order : Option Order) (b n : Outside) (s : Status) (h : Serves told order b n s) (first : Option (List ℕ)) → image_told order told ≡ first → ((other : List ℕ) → ByFirst b n order other h.trace s) → SettlesSome told b n order s
+some_of_each told order b n s h None is each = some_over told order b n s h [] (rw is tt) (empty_valid order) (each [])
+some_of_each told order b n s h (Some bytes) is each = test (are_bytes bytes)
+  where
+    test : AreBytes bytes ⊎ (AreBytes bytes → ⊥) → SettlesSome told b n order s
+    test (inl all) = some_over told order b n s h bytes (rw is (λ x. refl)) (bytes_valid order bytes all) (each bytes)
+    test (inr other) = some_over told order b n s h [] (rw is (λ all. absurd (other all))) (empty_valid order) (each [])
+
+pub serves_some : (told : List ℕ → Option (List ℕ)) (order : Option Order) (b n : Outside) (s : Status) → Serves told order b n s → SettlesSome told b n order s
+serves_some told order b n s h = by_sure h.sure
+  where
+    by_sure : IfSome (image_over order h.image) IsValid ⊎ ((other : List ℕ) → ByFirst b n order other h.trace s) → SettlesSome told b n order s
+    by_sure (inl valid) = some_over told order b n s h h.image (if_some (λ bytes. h.image ≡ bytes) (λ bytes. AreBytes bytes → h.image ≡ bytes) (image_told order told) (λ bytes is all. is) h.image_is_told) valid h.course
+    by_sure (inr each) = some_of_each told order b n s h (image_told order told) refl each

@@ -1,0 +1,46 @@
+-- How the parts of the top call end, by the files that were handed over.
+use Rattle.std.specs.Prelude.{◌≡◌, ◌⊎◌, ℕ, List, [], ◌∷◌, ◌++◌, IfSome, Option}
+use Rattle.axp_image.specs.Contents.{Contents, IsValid}
+use Rattle.axp_io.specs.Causes.{Ask, raised}
+use Rattle.axp_top.specs.declared.status.Status.{Status}
+use Rattle.axp_top.specs.declared.status.Status.TheVariants as status
+use Rattle.axp_top.specs.Answers.{answer_of_trace, answer_over, asks_by, image_told, read_fault_answer, trace_told}
+use Rattle.axp_top.specs.Lawful.{image_over}
+use Rattle.axp_top.specs.Outside.{Outside}
+use Rattle.axp_top.specs.Printing.{Ends}
+use Rattle.axp_top.specs.Replays.{Answer}
+use Rattle.axp_top.specs.Statuses.{AsksFailed, AsksFront}
+use Rattle.axp_top.specs.Words.{Order}
+
+-- the work ended by the answer, and all was asked for, unless memory was not found
+pub record EndsAs (before now : Outside) (answer : Answer) (asks : List Ask) (s : Status) : Type 0 where
+  pub ends : Ends before.sink now.sink answer s
+  pub count : now.desk.faults ≡ before.desk.faults
+  pub some : AsksFront before.desk.asks now.desk.asks asks
+  pub all : (s ≡ status.Memory → ⊥) → now.desk.asks ≡ before.desk.asks ++ asks
+
+-- a fetch failed, and the work ended so
+pub record EndsUnread (before now : Outside) (asks : List Ask) (s : Status) : Type 0 where
+  pub ends : Ends before.sink now.sink read_fault_answer s
+  pub count : now.desk.faults ≡ raised before.desk.faults 1
+  pub failed : AsksFailed before.desk.asks now.desk.asks asks
+
+abbrev pub Course : Outside → Outside → Answer → List Ask → Status → Type 0
+Course before now answer asks s = EndsAs before now answer asks s ⊎ EndsUnread before now asks s
+
+-- the work over an image, by a list that may have been handed over for this ask: the told one where it is told
+pub record ServesTrace (told : Option (List ℕ)) (ask : Ask) (image : Contents) (before now : Outside) (s : Status) : Type 0 where
+  pub list : List ℕ
+  pub is_told : IfSome told (λ bytes. list ≡ bytes)
+  pub course : Course before now (answer_of_trace image list) (ask ∷ []) s
+
+-- The work of a command, by two lists that may have been handed over, the told ones where they are told. The
+-- image in the first is valid; or this would be the course over every other file.
+pub record Serves (told : List ℕ → Option (List ℕ)) (order : Option Order) (before now : Outside) (s : Status) : Type 0 where
+  pub image : List ℕ
+  pub trace : List ℕ
+  pub image_is_told : IfSome (image_told order told) (λ bytes. image ≡ bytes)
+  pub trace_is_told : IfSome (trace_told order told) (λ bytes. trace ≡ bytes)
+  pub course : Course before now (answer_over order image trace) (asks_by order (image_over order image)) s
+  pub sure : IfSome (image_over order image) IsValid
+      ⊎ ((other : List ℕ) → Course before now (answer_over order other trace) (asks_by order (image_over order other)) s)
