@@ -102,15 +102,18 @@ number_same f g a b zero same = refl
 number_same f g a b (suc n) same =
     ap₂ (λ x y. x + y * 2 ^ (8 * n)) (number_same f g a b n (λ i below. same i (omega arith))) (same n (omega arith))
 
-pub quadword_read : (line xs : List ℕ) (memory : ℕ → ℕ) (address n : ℕ) → line ≡ line_in (address / LINE_BYTES) xs → length line ≡ LINE_BYTES → address % LINE_BYTES + n ≤ LINE_BYTES → Agrees xs memory
-    → part line (address % LINE_BYTES) n ≡ number_at memory address n
-quadword_read line xs memory address n read whole most agrees =
+-- bytes of a line are bytes of the list that it is a line of
+pub line_part : (line xs : List ℕ) (address n : ℕ) → line ≡ line_in (address / LINE_BYTES) xs → length line ≡ LINE_BYTES → address % LINE_BYTES + n ≤ LINE_BYTES
+    → part line (address % LINE_BYTES) n ≡ part xs address n
+line_part line xs address n read whole most =
     let at = address / LINE_BYTES * LINE_BYTES in
-    let within = length-bytes_at at xs (sym (ap length read) ∙ whole) in
-    number_same (slice_index line) memory (address % LINE_BYTES) address n (λ i below.
+    number_same (slice_index line) (slice_index xs) (address % LINE_BYTES) address n (λ i below.
     let place : at + (address % LINE_BYTES + i) ≡ address + i = omega arith in
-    ap (λ bytes. get_or bytes (address % LINE_BYTES + i) 0) read ∙ byte_at at xs (address % LINE_BYTES + i) (omega (arith, below, most))
-    ∙ ap (λ k. get_or xs k 0) place ∙ agrees (address + i) (omega (arith, below, most, within)))
+    ap (λ bytes. get_or bytes (address % LINE_BYTES + i) 0) read ∙ byte_at at xs (address % LINE_BYTES + i) (omega (arith, below, most)) ∙ ap (λ k. get_or xs k 0) place)
+
+pub part_agrees : (xs : List ℕ) (memory : ℕ → ℕ) (address n : ℕ) → address + n ≤ length xs → Agrees xs memory → part xs address n ≡ number_at memory address n
+part_agrees xs memory address n most agrees =
+    number_same (slice_index xs) memory address address n (λ i below. agrees (address + i) (omega (arith, below, most)))
 
 -- a line of a memory has the memory's bytes
 length-bytes_from : (memory : ℕ → ℕ) (n at : ℕ) → length (bytes_from memory at n) ≡ n

@@ -1,7 +1,8 @@
 -- A bus stands for its calls, before one more and after it.
-use Rattle.std.proofs.Common.{◌≡◌, ℕ, ◌+◌, ◌<◌, ◌++◌, eqb, Bool, true, false, cond, not, ◌||◌, List, [], ◌∷◌, Option, Some, None, length, get_or, refl, ap, ap₂, sym, subst, ◌∙◌, arith}
-use Rattle.axp_base.specs.Lists.{is_empty}
+use Rattle.std.proofs.Common.{◌≡◌, ℕ, zero, suc, ◌+◌, ◌<◌, ◌≤◌, ◌++◌, eqb, Bool, true, false, cond, ◌||◌, List, [], ◌∷◌, Option, Some, None, length, get_or, slice_get, refl, ap, ap₂, sym, subst, ◌∙◌, arith}
+use Rattle.std.proofs.lemmas.Option.{get_or_from_slice_get, slice_get_within}
 use Rattle.axp_base.specs.Cpus.{cpu_number}
+use Rattle.axp_base.specs.Parts.{number_at, part}
 use Rattle.axp_base.specs.declared.lines.Bank.{Bank}
 use Rattle.axp_base.specs.declared.lines.Bank.TheVariants.{Even, Odd, Code}
 use Rattle.axp_base.specs.declared.lines.Line.{Line}
@@ -12,13 +13,14 @@ use Rattle.axp_line.specs.declared.messages.Request.TheVariants as request
 use Rattle.axp_line.specs.declared.messages.Reply.{Reply}
 use Rattle.axp_line.specs.declared.messages.Reply.TheVariants as reply
 use Rattle.axp_base.specs.LatePairs.{late_by_other}
-use Rattle.axp_line.specs.BusCalls.{BusCall, memory, turns, late, late_by_own, line_written, overwritten, reaches_quadword, write_made, is_turn, printed_by}
+use Rattle.axp_line.specs.BusCalls.{BusCall, is_touched, memory, turns, late, late_by_own, line_written, overwritten, reaches_quadword, write_made, is_turn, printed_by}
 use Rattle.axp_line.specs.BusReply.{bus_reply, reply_by}
-use Rattle.axp_bus.specs.Ports.{IsPort, late_after, lock_after, pending_after}
+use Rattle.axp_bus.specs.Ports.{IsPort, late_after, late_for, late_in, late_of, lock_after, pending_after}
 use Rattle.axp_bus.specs.Buses.{State, Agrees, NotedAll, port_state_of}
 use Rattle.axp_bus.specs.Marks.{Marked}
 use Rattle.axp_bus.specs.BusStands.{Stands, call_of}
 use Rattle.axp_bus.specs.declared.ports.Port.{Port}
+use Rattle.axp_bus.proofs.LineLemmas.{part_agrees}
 
 pub reply_is : (b : State) (image : ℕ → ℕ) (cs : List BusCall) (p : ℕ) (port : Port) (q : Request) → Stands b image cs → p < length b.ports → port ≡ get_or b.ports p port
     → reply_by (port_state_of (memory image cs) b.turns port) q ≡ bus_reply image cs p q
@@ -80,14 +82,30 @@ none_of_code p (c ∷ cs) = rw (none_of_code p cs) (none_after (eqb (cpu_number 
   none_after true = by_own c.ask c.answer
   none_after false = by_other (line_written (write_made c.ask c.answer))
 
--- whether something is late
-pub late_is : (b : State) (image : ℕ → ℕ) (cs : List BusCall) (p : ℕ) (port : Port) (bank : Bank) (answer : Bool) → Stands b image cs → p < length b.ports → port ≡ get_or b.ports p port
-    → (bank ≡ Even → answer ≡ not (is_empty port.even.pairs)) → (bank ≡ Odd → answer ≡ not (is_empty port.odd.pairs)) → (bank ≡ Code → answer ≡ false)
-    → answer ≡ not (is_empty (late p bank cs))
-late_is b image cs p port Even answer st below here even odd code =
-    let is = subst (λ (l : Port). IsPort l p cs) (sym here) (st.ports p port below) in
-    even refl ∙ ap (λ (pairs : List (Line × ℕ)). not (is_empty pairs)) is.even
-late_is b image cs p port Odd answer st below here even odd code =
-    let is = subst (λ (l : Port). IsPort l p cs) (sym here) (st.ports p port below) in
-    odd refl ∙ ap (λ (pairs : List (Line × ℕ)). not (is_empty pairs)) is.odd
-late_is b image cs p port Code answer st below here even odd code = code refl ∙ ap (λ (pairs : List (Line × ℕ)). not (is_empty pairs)) (sym (none_of_code p cs))
+-- what is late is what the calls left late
+late_kept : (port : Port) (p : ℕ) (bank : Bank) (cs : List BusCall) → IsPort port p cs → late_in bank port ≡ late p bank cs
+late_kept port p Even cs is = is.even
+late_kept port p Odd cs is = is.odd
+late_kept port p Code cs is = sym (none_of_code p cs)
+
+none_past : {X : Type 0} {A : Type 0} (xs : List X) (i : ℕ) → i < length xs → slice_get xs i ≡ None → A
+none_past (x ∷ xs) zero below is = cc
+none_past (x ∷ xs) (suc i) below is = none_past xs i (omega (arith, below)) is
+none_past [] i below is = absurd (omega (arith, below))
+
+late_found : (b : State) (image : ℕ → ℕ) (cs : List BusCall) (p : ℕ) (bank : Bank) (found : Option Port) → Stands b image cs → p < length b.ports → slice_get b.ports p ≡ found
+    → late_of bank found ≡ late p bank cs
+late_found b image cs p bank None st below is = none_past b.ports p below is
+late_found b image cs p bank (Some port) st below is =
+    late_kept port p bank cs (subst (λ (l : Port). IsPort l p cs) (get_or_from_slice_get b.ports p port port is) (st.ports p port below))
+
+pub late_is : (b : State) (image : ℕ → ℕ) (cs : List BusCall) (p : ℕ) (bank : Bank) → Stands b image cs → p < length b.ports → late_for p bank b.ports ≡ late p bank cs
+late_is b image cs p bank st below = late_found b image cs p bank (slice_get b.ports p) st below refl
+
+-- a mark that is kept says whether a call wrote its quadword
+pub touched_is : (b : State) (image : ℕ → ℕ) (cs : List BusCall) (q : ℕ) (mark : Bool) → Stands b image cs → slice_get b.touched q ≡ Some mark → mark ≡ is_touched q cs
+touched_is b image cs q mark st is = sym (get_or_from_slice_get b.touched q mark false is) ∙ st.touched q (slice_get_within b.touched q mark is)
+
+-- bytes that lie in memory are those that the calls left
+pub bytes_are : (b : State) (image : ℕ → ℕ) (cs : List BusCall) (address n : ℕ) → Stands b image cs → address + n ≤ length b.memory → part b.memory address n ≡ number_at (memory image cs) address n
+bytes_are b image cs address n st most = part_agrees b.memory (memory image cs) address n most st.memory

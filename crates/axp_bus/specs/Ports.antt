@@ -1,7 +1,7 @@
 -- What the bus keeps for one processor.
-use Rattle.std.specs.Prelude.{◌≡◌, ℕ, ◌<◌, Bool, true, false, ◌&&◌, if◌then◌else◌, List, [], length, get_or, Option, None}
+use Rattle.std.specs.Prelude.{◌≡◌, ℕ, ◌<◌, Bool, true, false, ◌&&◌, if◌then◌else◌, List, [], length, get_or, slice_get, Option, None, Some}
 use Rattle.axp_base.specs.declared.lines.Bank.{Bank}
-use Rattle.axp_base.specs.declared.lines.Bank.TheVariants.{Even, Odd}
+use Rattle.axp_base.specs.declared.lines.Bank.TheVariants.{Even, Odd, Code}
 use Rattle.axp_base.specs.declared.lines.Line.{Line}
 use Rattle.axp_inval.specs.Queues.{Queue, queue}
 use Rattle.axp_base.specs.LatePairs.{AreBefore, late_by_other}
@@ -11,6 +11,20 @@ use Rattle.axp_lockreg.specs.Blocks.{locked_block}
 use Rattle.axp_base.specs.Blocks.{lock_by_other}
 use Rattle.axp_line.specs.BusCalls.{BusCall, write_made, line_written, late, late_by_own, lock_by_own, register, signals, takes_interrupt, pending}
 use Rattle.axp_bus.specs.declared.ports.Port.{Port}
+
+-- what is late in a bank; nothing ever is in the code bank
+abbrev pub late_in : Bank → Port → List (Line × ℕ)
+late_in Even port = port.even.pairs
+late_in Odd port = port.odd.pairs
+late_in Code port = []
+
+abbrev pub late_of : Bank → Option Port → List (Line × ℕ)
+late_of bank None = []
+late_of bank (Some port) = late_in bank port
+
+-- what is late for processor p in a bank, by the ports of a bus
+abbrev pub late_for : ℕ → Bank → List Port → List (Line × ℕ)
+late_for p bank ports = late_of bank (slice_get ports p)
 
 -- what a call leaves late for a processor, by whether it is its own
 abbrev pub late_after : Bool → Bank → Request → Reply → ℕ → List (Line × ℕ) → List (Line × ℕ)

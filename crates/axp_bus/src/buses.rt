@@ -1,16 +1,16 @@
 //! The bus.
-ghost use Rattle.std.specs.Prelude.{◌≡◌, ◌+◌, ◌++◌, ◌*◌, ◌%◌, ◌^◌, ◌<◌, ◌≤◌, ◌∷◌, [], ℕ, List, IfOk, false, length, not, if◌then◌else◌};
+ghost use Rattle.std.specs.Prelude.{◌≡◌, ◌+◌, ◌++◌, ◌*◌, ◌%◌, ◌^◌, ◌<◌, ◌≤◌, ◌∷◌, [], ℕ, List, IfOk, Some, length, not, slice_get, if◌then◌else◌};
 ghost use Rattle.axp_base.specs.Cpus.{cpu_number};
-ghost use Rattle.axp_base.specs.Parts.{number_at};
-ghost use Rattle.axp_base.specs.declared.lines.Bank.TheVariants.{Code};
+ghost use Rattle.axp_base.specs.Parts.{part};
 ghost use Rattle.axp_base.specs.declared.parts.TheConstants.{QUADWORD_BYTES};
 ghost use Rattle.axp_base.specs.declared.processors.TheConstants.{MAX_CPUS, MIN_CPUS};
 ghost use Rattle.axp_image.specs.Contents.{byte_in};
 ghost use Rattle.axp_memory.specs.Bytes.{AreLines};
-ghost use Rattle.axp_line.specs.BusCalls.{BusCall, console, is_touched, is_turn, late, memory, printed_by, turns};
+ghost use Rattle.axp_line.specs.BusCalls.{BusCall, is_turn, printed_by};
 ghost use Rattle.axp_line.specs.BusReply.{bus_reply};
 ghost use Rattle.axp_base.specs.Lists.{is_empty};
 ghost use Rattle.axp_bus.specs.Buses.{MayAsk};
+ghost use Rattle.axp_bus.specs.Ports.{late_for};
 ghost use Rattle.axp_bus.specs.BusStands.{Stands, call_of};
 
 use crate::marks::mark_down;
@@ -24,8 +24,8 @@ use axp_memory::Ram;
 use std::alloc::Global;
 use std::marker::Model;
 
-/// The bus: memory, which of its quadwords were written, what it keeps for each processor, how many turns were made, and what went to the
-/// console. All room is taken when it is made.
+/// The bus: memory, which of its quadwords were written, what it keeps for each processor, how many
+/// turns were made, and what went to the console. All room is taken when it is made.
 #[derive(Debug, Drop)]
 pub struct Bus {
     memory: Ram,
@@ -107,8 +107,7 @@ impl Bus {
     /// Whether something is late for a processor in a bank; in the code bank nothing ever is.
     pub fn late(&self, cpu: Cpu, bank: Bank) -> bool
         requires { cpu_number cpu < length self.now.ports }
-        ensures code { bank ≡ Code → result ≡ false }
-        ensures calls { (image : ℕ → ℕ) (calls : List BusCall) → Stands self.now image calls → result ≡ not (is_empty (late (cpu_number cpu) bank calls)) }
+        ensures { result ≡ not (is_empty (late_for (cpu_number cpu) bank self.now.ports)) }
     {
         self.ports[usize::from(cpu.number())].late(bank)
     }
@@ -117,7 +116,7 @@ impl Bus {
     pub fn tail_memory(&self, address: u64) -> u64
         requires aligned { address % QUADWORD_BYTES ≡ 0 }
         requires inside { address < length self.now.memory }
-        ensures { (image : ℕ → ℕ) (calls : List BusCall) → Stands self.now image calls → result ≡ number_at (memory image calls) address QUADWORD_BYTES }
+        ensures { result ≡ part self.now.memory address QUADWORD_BYTES }
     {
         let line = self.memory.line(Line::of(address));
         line.get((address % LINE_BYTES) as u8, QUADWORD_BYTES as u8)
@@ -126,15 +125,14 @@ impl Bus {
     /// Whether a turn wrote a byte of the aligned quadword of this number.
     pub fn is_touched(&self, quadword: u64) -> bool
         requires { quadword * QUADWORD_BYTES < length self.now.memory }
-        ensures { (image : ℕ → ℕ) (calls : List BusCall) → Stands self.now image calls → result ≡ is_touched quadword calls }
+        ensures { slice_get self.now.touched quadword ≡ Some result }
     {
         self.touched[quadword as usize]
     }
 
     /// The bytes that went to the console.
     pub fn console(&self) -> &[u8]
-        ensures value { result.now ≡ self.now.printed }
-        ensures calls { (image : ℕ → ℕ) (calls : List BusCall) → Stands self.now image calls → result.now ≡ console calls }
+        ensures { result.now ≡ self.now.printed }
     {
         self.printed.as_slice()
     }
@@ -143,7 +141,6 @@ impl Bus {
     pub fn turns(&self) -> u64
         ensures value { result ≡ self.now.turns }
         ensures few { result ≤ self.now.room }
-        ensures calls { (image : ℕ → ℕ) (calls : List BusCall) → Stands self.now image calls → result ≡ turns calls }
     {
         self.turns
     }

@@ -1,16 +1,30 @@
 //! Laws of what the bus answers, each proved as the contract of a function that does nothing.
-ghost use Rattle.std.specs.Prelude.{ℕ, List, ◌≡◌, ◌↔◌, ◌+◌, ◌≤◌, ◌∷◌, [], Some, false, length, slice_get};
+ghost use Rattle.std.specs.Prelude.{ℕ, Bool, List, ◌≡◌, ◌↔◌, ◌+◌, ◌<◌, ◌≤◌, ◌∷◌, [], Some, false, length, slice_get};
 ghost use Rattle.axp_base.specs.declared.lines.Bank.{Bank};
 ghost use Rattle.axp_base.specs.declared.lines.Bank.TheVariants.{Code};
 ghost use Rattle.axp_base.specs.declared.processors.Cpu.{Cpu};
 ghost use Rattle.axp_base.specs.Cpus.{cpu_number};
 ghost use Rattle.axp_base.specs.Masks.{has_bit};
 ghost use Rattle.axp_base.specs.LatePairs.{AreBefore};
+ghost use Rattle.axp_base.specs.Parts.{number_at, part};
 ghost use Rattle.axp_line.specs.declared.messages.Request.{Request};
-ghost use Rattle.axp_line.specs.BusCalls.{BusCall, late, memory, turns};
+ghost use Rattle.axp_line.specs.BusCalls.{BusCall, is_touched, late, memory, turns};
 ghost use Rattle.axp_line.specs.BusReply.{PortState, bus_reply, gone, is_late, reply_by};
-ghost use Rattle.axp_bus.specs.BusStands.{call_of};
+ghost use Rattle.axp_bus.specs.Buses.{State};
+ghost use Rattle.axp_bus.specs.BusStands.{Stands, call_of};
+ghost use Rattle.axp_bus.specs.Ports.{late_for};
 ghost use Rattle.axp_bus.specs.ReplyLaws.{Answers, HasNoLock, IsNothing, IsRefused, TakesNothing, TellsLine, turn_of};
+
+/// What a bus keeps is what its calls made of the memory that it was loaded with.
+pub fn buses_keep_what_calls_made()
+    ensures late { (b : State) (image : ℕ → ℕ) (cs : List BusCall) (p : ℕ) (bank : Bank)
+        → Stands b image cs → p < length b.ports → late_for p bank b.ports ≡ late p bank cs }
+    ensures touched { (b : State) (image : ℕ → ℕ) (cs : List BusCall) (q : ℕ) (mark : Bool)
+        → Stands b image cs → slice_get b.touched q ≡ Some mark → mark ≡ is_touched q cs }
+    ensures memory { (b : State) (image : ℕ → ℕ) (cs : List BusCall) (address n : ℕ)
+        → Stands b image cs → address + n ≤ length b.memory
+        → part b.memory address n ≡ number_at (memory image cs) address n }
+{}
 
 /// What the bus answers fits the request.
 pub fn answers_fit_requests()

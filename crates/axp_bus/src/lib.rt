@@ -12,9 +12,9 @@ mod writes;
 
 pub use buses::Bus;
 pub use laws::{
-    answers_fit_requests, gone_has_a_bit_for_each_copy, late_turns_were_made,
-    nothing_where_nothing_is_late, refused_without_a_lock, told_lines_are_of_memory,
-    turns_are_bounded,
+    answers_fit_requests, buses_keep_what_calls_made, gone_has_a_bit_for_each_copy,
+    late_turns_were_made, nothing_where_nothing_is_late, refused_without_a_lock,
+    told_lines_are_of_memory, turns_are_bounded,
 };
 
 #[cfg(test)]

@@ -1,7 +1,7 @@
 //! What the bus keeps for one processor.
-ghost use Rattle.std.specs.Prelude.{◌≡◌, ◌==◌, [], IfOk, false, length, not};
+ghost use Rattle.std.specs.Prelude.{◌≡◌, ◌==◌, [], IfOk, length, not};
 ghost use Rattle.axp_base.specs.Cpus.{cpu_number};
-ghost use Rattle.axp_base.specs.declared.lines.Bank.TheVariants.{Code, Even, Odd};
+ghost use Rattle.axp_base.specs.declared.lines.Bank.TheVariants.{Even, Odd};
 ghost use Rattle.axp_inval.specs.Queues.{queue};
 ghost use Rattle.axp_lockreg.specs.Blocks.{locked_block};
 ghost use Rattle.axp_base.specs.LatePairs.{late_by_other};
@@ -9,7 +9,7 @@ ghost use Rattle.axp_base.specs.Lists.{is_empty};
 ghost use Rattle.axp_base.specs.Blocks.{lock_by_other};
 ghost use Rattle.axp_line.specs.BusCalls.{late_by_own, lock_by_own, signals, takes_interrupt};
 ghost use Rattle.axp_line.specs.declared.messages.Request.TheVariants as request;
-ghost use Rattle.axp_bus.specs.Ports.{AreFresh, IsFresh, PortHasRoom, Noted, pending_after};
+ghost use Rattle.axp_bus.specs.Ports.{AreFresh, IsFresh, PortHasRoom, Noted, late_in, pending_after};
 
 use crate::writes::line_written;
 use axp_base::{Bank, Cpu, Line, NoMemory};
@@ -45,9 +45,7 @@ impl Port {
 
     /// Whether something is late in a bank; in the code bank nothing ever is.
     pub(crate) fn late(&self, bank: Bank) -> bool
-        ensures even { bank ≡ Even → result ≡ not (is_empty self.now.even.pairs) }
-        ensures odd { bank ≡ Odd → result ≡ not (is_empty self.now.odd.pairs) }
-        ensures code { bank ≡ Code → result ≡ false }
+        ensures { result ≡ not (is_empty (late_in bank self.now)) }
     {
         match bank {
             Bank::Even => has_pair(&self.even),

@@ -1,7 +1,7 @@
 -- A processor is its sequencer and what it keeps: both go on together.
-use Rattle.std.proofs.Common.{◌≡◌, ℕ, ◌+◌, ◌*◌, ◌/◌, ◌^◌, ◌<◌, ◌≤◌, Bool, true, false, cond, leb, List, [], ◌∷◌, ◌++◌, Option, Some, None, refl, sym, ap, ◌∙◌, subst, arith}
-use Rattle.std.proofs.lemmas.Bool.{cond_both, leb-false, or_parts}
-use Rattle.std.specs.Prelude.{slice_get, IfSome, Ok, is_some}
+use Rattle.std.proofs.Common.{◌≡◌, ℕ, ◌+◌, ◌*◌, ◌^◌, ◌<◌, ◌≤◌, Bool, true, false, cond, leb, List, [], ◌∷◌, ◌++◌, Option, Some, None, refl, sym, ap, ◌∙◌, subst, arith}
+use Rattle.std.proofs.lemmas.Bool.{leb-false, or_parts}
+use Rattle.std.specs.Prelude.{IfSome, Ok, is_some}
 use Rattle.axp_access.specs.declared.Act.{Act}
 use Rattle.axp_access.specs.declared.Act.TheVariants as act
 use Rattle.axp_access.specs.declared.Intent.{Intent}
@@ -10,21 +10,14 @@ use Rattle.axp_base.specs.declared.processors.TheConstants.{MAX_BUDGET}
 use Rattle.axp_base.specs.Cpus.{cpu_number}
 use Rattle.axp_image.specs.Contents.{Contents}
 use Rattle.axp_line.specs.declared.messages.Reply.{Reply}
-use Rattle.axp_line.specs.declared.messages.Reply.TheVariants as reply
+use Rattle.axp_lsu.proofs.Makes.{advanced-made, most_made}
 use Rattle.axp_lsu.specs.Asking.{ask_of}
 use Rattle.axp_lsu.specs.Fitting.{ReplyFits, FitsSize, IsWantedInSome, WantsFitting}
 use Rattle.axp_lsu.specs.Going.{value_of}
 use Rattle.axp_lsu.specs.Going as going
-use Rattle.axp_lsu.specs.Keeping.{LocalMemory, empty_memory, with_copies}
+use Rattle.axp_lsu.specs.Keeping.{LocalMemory, empty_memory}
 use Rattle.axp_lsu.specs.Within.{IsKeptWithin, IsWantedBy, IsWantedWithin}
 use Rattle.axp_lsu.specs.declared.asks.Ask2.{Ask2}
-use Rattle.axp_wbuf.specs.Pending.{Pending, merges}
-use Rattle.axp_base.specs.declared.lines.Bank.{Bank}
-use Rattle.axp_base.specs.declared.lines.Bank.TheVariants.{Even, Odd, Code}
-use Rattle.axp_base.specs.declared.lines.Line.{Line}
-use Rattle.axp_base.specs.declared.lines.TheConstants.{LINE_BYTES}
-use Rattle.axp_bank.specs.declared.copies.LineCopy.{LineCopy}
-use Rattle.axp_wbuf.specs.Drains.{oldest_group}
 use Rattle.axp_cpu.specs.declared.sequencers.Sequencer.{Sequencer}
 use Rattle.axp_cpu.specs.declared.processors.Processor.{Processor}
 use Rattle.axp_cpu.specs.Actors.{Actor, actor_intent, advanced, asked_by, first_actor, is_built, moved_by, request_of, seat_after, step_built}
@@ -48,12 +41,7 @@ wanted_by size kind.Read w sound = sound
 wanted_by size kind.Write w sound = sound
 wanted_by size kind.Locked w sound = sound
 wanted_by size kind.Conditional w sound = sound
-wanted_by size kind.Barrier w sound = tt
-wanted_by size kind.WriteBarrier w sound = tt
-wanted_by size kind.CodeBarrier w sound = tt
-wanted_by size kind.Signal w sound = tt
-wanted_by size kind.Console w sound = tt
-wanted_by size kind.Poll w sound = tt
+wanted_by size _ w sound = tt
 
 pub wanted_within : (size : ℕ) (o : Option Wanted) → IfSome o (IsMakeable size) → IsWantedWithin size o
 wanted_within size None can = tt
@@ -160,14 +148,15 @@ seat_size : (e : Act) (r : Option Reply) (a : Actor) → ((seat_after e r a).siz
 seat_size act.Step r a = moved_by_size (actor_intent a).wanted r a
 seat_size _ r a = (refl, refl)
 
+pub steps_left : (s : Seat) → is_finished s ≡ false → s.steps < s.budget
+steps_left s e = leb-false s.budget s.steps (or_parts (is_some s.start.halted) (leb s.budget s.steps) e).1
+
 moved_by_steps : (o : Option Wanted) (r : Option Reply) (a : Actor) → wanted a.seat ≡ o → a.seat.steps ≤ a.seat.budget → (moved_by o r a).steps ≤ a.seat.budget
 moved_by_steps None r a is few = few
 moved_by_steps (Some w) r a is few =
     let going : is_finished a.seat ≡ false = unfinished a.seat w is in
     let parts = stepped_parts a.seat (value_of w a.kept r) in
-    omega (arith, parts.2, steps_left a.seat going) where
-      steps_left : (s : Seat) → is_finished s ≡ false → s.steps < s.budget
-      steps_left s e = leb-false s.budget s.steps (or_parts (is_some s.start.halted) (leb s.budget s.steps) e).1
+    omega (arith, parts.2, steps_left a.seat going)
 
 pub seat_steps : (e : Act) (r : Option Reply) (a : Actor) → a.seat.steps ≤ a.seat.budget → (seat_after e r a).steps ≤ (seat_after e r a).budget
 seat_steps e r a few = rw (seat_size e r a).1 (by_act e) where
@@ -175,61 +164,17 @@ seat_steps e r a few = rw (seat_size e r a).1 (by_act e) where
   by_act act.Step = moved_by_steps (actor_intent a).wanted r a refl few
   by_act _ = few
 
--- entries are made by steps alone, one at most by each
-copies_buffer : (b : Bank) (cs : List LineCopy) (u : LocalMemory) → (with_copies b cs u).buffer ≡ u.buffer
-copies_buffer Even cs u = refl
-copies_buffer Odd cs u = refl
-copies_buffer Code cs u = refl
+-- a step that makes an access is counted, and at most one entry is made by it
+stepped_count : (o : Option Wanted) (r : Option Reply) (a : Actor) → (moved_by o r a).steps ≡ a.seat.steps + cond (is_some o) 1 0
+stepped_count None r a = omega arith
+stepped_count (Some w) r a = (stepped_parts a.seat (value_of w a.kept r)).2
 
-brought_buffer : (b : Bank) (line : Line) (r : Option Reply) (u : LocalMemory) → (going.after_line b line r u).buffer ≡ u.buffer
-brought_buffer b line (Some (reply.Line turn d)) u = copies_buffer b _ u
-brought_buffer b line _ u = refl
+steps_after : (e : Act) (r : Option Reply) (a : Actor) → (seat_after e r a).steps ≡ a.seat.steps + most_made e (actor_intent a).wanted
+steps_after act.Step r a = stepped_count (actor_intent a).wanted r a
+steps_after _ r a = omega arith
 
-rewritten_buffer : (line : Line) (r : Option Reply) (u : LocalMemory) → (going.after_stored line r u).buffer ≡ u.buffer
-rewritten_buffer line (Some (reply.Stored turn d)) u = copies_buffer _ _ u
-rewritten_buffer line _ u = refl
-
-fenced_buffer : (r : Option Reply) (u : LocalMemory) → (going.after_barrier r u).buffer ≡ u.buffer
-fenced_buffer (Some (reply.Barrier turn gone)) u = refl
-fenced_buffer _ u = refl
-
-delivered_buffer : (r : Option Reply) (u : LocalMemory) → (going.after_late r u).buffer ≡ u.buffer
-delivered_buffer (Some (reply.Late line turn)) u = copies_buffer _ _ u
-delivered_buffer _ u = refl
-
-same_made : (u v : LocalMemory) → v.buffer ≡ u.buffer → v.buffer.made ≤ u.buffer.made + 1
-same_made u v e = rw e (omega arith)
-
-accessed_made : (k : Kind) (w : Wanted) (r : Option Reply) (u : LocalMemory) → (going.after_access k w r u).buffer.made ≤ u.buffer.made + 1
-accessed_made kind.Write w r u = cond_both (merges (w.address / LINE_BYTES) u.buffer) u.buffer.made (u.buffer.made + 1) (λ n. n ≤ u.buffer.made + 1) (λ _. omega arith) (λ _. omega arith)
-accessed_made kind.WriteBarrier w r u = omega arith
-accessed_made kind.Locked w r u = same_made u (going.after_access kind.Locked w r u) (brought_buffer _ _ r u)
-accessed_made kind.Conditional w r u = same_made u (going.after_access kind.Conditional w r u) (rewritten_buffer _ r u)
-accessed_made kind.Barrier w r u = same_made u (going.after_access kind.Barrier w r u) (fenced_buffer r u)
-accessed_made kind.CodeBarrier w r u = same_made u (going.after_access kind.CodeBarrier w r u) (fenced_buffer r u)
-accessed_made _ w r u = omega arith
-
-stepped_made : (o : Option Wanted) (r : Option Reply) (a : Actor) → a.kept.buffer.made ≤ a.seat.steps → (going.after_step o r a.kept).buffer.made ≤ (moved_by o r a).steps
-stepped_made None r a made = made
-stepped_made (Some w) r a made = let parts = stepped_parts a.seat (value_of w a.kept r) in omega (arith, parts.2, accessed_made w.kind w r a.kept, made)
-
-filled_made : (o : Option Wanted) (r : Option Reply) (u : LocalMemory) → (going.after_fill o r u).buffer ≡ u.buffer
-filled_made None r u = refl
-filled_made (Some w) r u = brought_buffer _ _ r u
-
-drained_made : (k : ℕ) (o : Option Pending) (r : Option Reply) (u : LocalMemory) → (going.after_drain k o r u).buffer.made ≡ u.buffer.made
-drained_made k None r u = refl
-drained_made k (Some e) r u = ap (λ b. b.made) (rewritten_buffer _ r _)
-
-pub made_after : (e : Act) (r : Option Reply) (a : Actor) → a.kept.buffer.made ≤ a.seat.steps → (going.advanced e (actor_intent a) r a.kept).buffer.made ≤ (seat_after e r a).steps
-unfolding going.advanced
-made_after act.Step r a made = stepped_made (actor_intent a).wanted r a made
-made_after act.Fill r a made = rw (filled_made (actor_intent a).wanted r a.kept) made
-made_after (act.Drain k) r a made = rw (drained_made k (slice_get (oldest_group a.kept.buffer.kept) k) r a.kept) made
-made_after (act.Take b) r a made = rw (delivered_buffer r a.kept) made
-made_after (act.Drop b line) r a made = rw (copies_buffer b _ a.kept) made
-made_after act.Poll r a made = made
-made_after act.Tick r a made = made
+made_after : (e : Act) (r : Option Reply) (a : Actor) → a.kept.buffer.made ≤ a.seat.steps → (going.advanced e (actor_intent a) r a.kept).buffer.made ≤ (seat_after e r a).steps
+made_after e r a made = omega (arith, made, advanced-made e (actor_intent a) r a.kept, steps_after e r a)
 
 -- the processor after an act is the one that the definitions have
 pub at_after : (p q : Processor) (e : Act) (r : Option Reply) (i : Intent) (a : Actor) → IsAt p a → i ≡ actor_intent a → q.cpu ≡ p.cpu → Stands q.sequencer (seat_after e r a) → q.unit ≡ going.advanced e i r p.unit → IsKeptWithin a.seat.size q.unit → IsAt q (advanced a e r)

@@ -1,7 +1,9 @@
 pub mod PlanLemmas
+pub mod KeepingLemmas
 pub mod SeatLemmas
 pub mod RefusalLemmas
 pub mod AnswerLemmas
 pub mod ActorLemmas
 pub mod ShowingLemmas
 pub mod FollowingLemmas
+pub mod RegisterLemmas

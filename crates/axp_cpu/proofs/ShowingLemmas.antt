@@ -1,11 +1,11 @@
 -- A load, a store or a store-conditional goes on with what its access shows.
-use Rattle.std.proofs.Common.{◌≡◌, ◌≢◌, ℕ, ◌+◌, ◌/◌, ◌%◌, ◌^◌, ◌<◌, Bool, true, false, cond, eqb, get_or, set, List, [], ◌∷◌, ◌++◌, length, Option, Some, None, IfSome, arith, refl, sym, ap, ◌∙◌, subst, get_or-set_other}
-use Rattle.std.proofs.lemmas.Bool.{eqb-true, eqb-false}
+use Rattle.std.proofs.Common.{◌≡◌, ◌≢◌, ℕ, ◌+◌, ◌%◌, ◌^◌, ◌<◌, Bool, true, false, cond, eqb, [], ◌∷◌, ◌++◌, length, Option, Some, None, IfSome, arith, refl, sym, ap, ◌∙◌, subst, get_or-set_other}
+use Rattle.std.proofs.lemmas.Bool.{eqb-true}
 use Rattle.std.proofs.lemmas.List.{get_or-set_same}
 use Rattle.std.specs.Prelude.{IfNone}
 use Rattle.axp_access.specs.declared.Access.{Access}
 use Rattle.axp_access.specs.declared.Wanted.{Wanted}
-use Rattle.axp_base.specs.Sizes.{bytes_of, low_datum}
+use Rattle.axp_base.specs.Sizes.{bytes_of}
 use Rattle.axp_base.specs.declared.sizes.Size.{Size}
 use Rattle.axp_base.specs.declared.sizes.Size.TheVariants.{Byte, Word, Long, Quad}
 use Rattle.axp_decode.specs.Format.{instr_of, ra_of}
@@ -15,15 +15,15 @@ use Rattle.axp_decode.specs.declared.names.MemOp.TheVariants as memory
 use Rattle.axp_decode.proofs.Words.{stands_for}
 use Rattle.axp_regs.specs.States.{locked_of, pc_of, register, with_register}
 use Rattle.axp_regs.specs.declared.asks.Kind.{Kind}
-use Rattle.axp_regs.specs.declared.asks.Kind.TheVariants.{Fetch, Read, Write, Locked, Conditional}
+use Rattle.axp_regs.specs.declared.asks.Kind.TheVariants.{Read, Write, Locked, Conditional}
 use Rattle.axp_regs.specs.declared.states.State.{State}
 use Rattle.axp_regs.specs.declared.states.TheConstants.{REGISTERS, ZERO_REGISTER}
 use Rattle.axp_cpu.specs.declared.cpu_states.CpuState.{CpuState}
 use Rattle.axp_cpu.specs.Addresses.{aligned_plan}
 use Rattle.axp_cpu.specs.Following.{value_by, value_shown}
 use Rattle.axp_cpu.specs.Plans.{Plan, End, Want, Unbuilt, along, given}
-use Rattle.axp_cpu.specs.Rows.{address_of, as_longword, as_read, next_plan, plan_of_word, group, load_locked_plan, load_plan, memory_row, quadword_at, row, store_conditional_plan, store_plan}
-use Rattle.axp_cpu.specs.Seats.{Seat, is_finished, seat_at_plan, plan_now, wanted, wanted_by}
+use Rattle.axp_cpu.specs.Rows.{address_of, as_longword, as_read, next_plan, plan_of_word, group, load_plan, memory_row, quadword_at, row}
+use Rattle.axp_cpu.specs.Seats.{Seat, is_finished, seat_at_plan, plan_now, wanted_by}
 use Rattle.axp_cpu.specs.Showing.{IsAccessOf, lock_flag, register_value, seat_shown}
 use Rattle.axp_cpu.specs.CpuStates.{at_pc, with_fetch_counted, with_lock_flag, next_pc, with_value}
 use Rattle.axp_cpu.proofs.ActorLemmas.{wanted_parts}

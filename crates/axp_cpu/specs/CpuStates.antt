@@ -3,7 +3,6 @@ use Rattle.std.specs.Prelude.{ℕ, zero, suc, ◌+◌, ◌%◌, ◌^◌, Bool}
 use Rattle.axp_base.specs.Numbers.{add}
 use Rattle.axp_image.specs.declared.limits.TheConstants.{INSTRUCTION_BYTES}
 use Rattle.axp_regs.specs.States.{pc_of, with_pc, with_register, with_locked, fetched_of, with_fetched}
-use Rattle.axp_regs.specs.declared.states.State.{State}
 use Rattle.axp_cpu.specs.declared.cpu_states.CpuState.{CpuState}
 
 -- the address of the next instruction

@@ -1,6 +1,6 @@
 -- What a load, a store or a store-conditional makes of the registers, by what its access shows. It is said
 -- without plans.
-use Rattle.std.specs.Prelude.{◌≡◌, ℕ, ◌%◌, ◌^◌, Bool, true, false, if◌then◌else◌, List, [], ◌∷◌, length, Option, Some, None}
+use Rattle.std.specs.Prelude.{◌≡◌, ℕ, ◌%◌, ◌^◌, Bool, true, false, if◌then◌else◌, [], ◌∷◌, length, Option, Some, None}
 use Rattle.axp_access.specs.declared.Access.{Access}
 use Rattle.axp_access.specs.declared.Act.TheVariants.{Step}
 use Rattle.axp_access.specs.declared.Outcome.TheVariants as outcome

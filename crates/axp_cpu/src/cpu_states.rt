@@ -4,7 +4,8 @@ ghost use Rattle.axp_cpu.specs.CpuStates.{with_fetch_counted, with_lock_flag, ne
 use axp_image::INSTRUCTION_BYTES;
 use axp_regs::State;
 
-/// What the instruction table speaks of: a processor's registers, and its halt code once it is halted.
+/// What the instruction table speaks of: a processor's registers, and its halt code once it is
+/// halted.
 #[derive(Clone, Copy, Debug)]
 pub struct CpuState {
     /// The registers.

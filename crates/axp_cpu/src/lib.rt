@@ -1,5 +1,5 @@
-//! One processor, by the instruction table: what it wants, and how it goes on with the values that its
-//! accesses give.
+//! One processor, by the instruction table: what it wants, and how it goes on with the values that
+//! its accesses give.
 //!
 //! The table is a plan for each group of accesses (`specs/Rows.antt`); the code walks through it by
 //! phases. A processor stands for a seat, where the definitions have it (`specs/Seats.antt`).

@@ -3,7 +3,7 @@ ghost use Rattle.std.specs.Prelude.{◌≡◌, ◌<◌, ℕ};
 ghost use Rattle.axp_cpu.specs.declared.cpu_states.CpuState.{CpuState};
 ghost use Rattle.axp_cpu.specs.Addresses.{aligned_plan, first_entry, in_kseg, look_up_plan, memory_plan};
 ghost use Rattle.axp_cpu.specs.Phases.{after, plan_of, table_after, Fits, FollowFits, PhaseFits};
-ghost use Rattle.axp_cpu.specs.Plans.{End, is_built};
+ghost use Rattle.axp_cpu.specs.Plans.{End};
 ghost use Rattle.axp_cpu.specs.Rows.{next_plan, group, halt_plan, register_plan, register_plan_at};
 ghost use Rattle.axp_cpu.specs.CpuStates.{at_pc};
 ghost use Rattle.axp_regs.specs.States.{ptbr_of};
@@ -79,8 +79,8 @@ fn in_kseg(address: u64) -> bool
     address / KSEG_BYTES == KSEG / KSEG_BYTES
 }
 
-/// The look-up of an instruction's address outside of the kernel segment: the read of its page-table
-/// entry of level 1.
+/// The look-up of an instruction's address outside of the kernel segment: the read of its
+/// page-table entry of level 1.
 fn look_up(size: u64, table: &CpuState, pc: u64) -> Phase
     ensures plan { plan_of size table.now result ≡ look_up_plan size (ptbr_of table.now.state) pc }
     ensures fits { PhaseFits result }

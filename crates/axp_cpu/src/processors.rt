@@ -19,8 +19,8 @@ use axp_line::Reply;
 use axp_lsu::{Ask2, Lsu};
 use axp_regs::State;
 
-/// One processor: it goes by the instruction table, and has a write buffer and banks of copies. What it
-/// needs from the others it asks of the bus.
+/// One processor: it goes by the instruction table, and has a write buffer and banks of copies.
+/// What it needs from the others it asks of the bus.
 #[derive(Drop)]
 pub struct Processor {
     cpu: Cpu,
@@ -83,8 +83,8 @@ impl Processor {
         self.unit.is_drained()
     }
 
-    /// What an act asks of the bus, or why it is refused: [`Refusal::NotLegal`] exactly where it is not
-    /// legal, whether something is late aside, which the bus alone knows.
+    /// What an act asks of the bus, or why it is refused: [`Refusal::NotLegal`] exactly where it is
+    /// not legal, whether something is late aside, which the bus alone knows.
     #[tactic(auto, unfolding(crate::specs::Actors::request_of))]
     pub fn request(&self, act: Act) -> Result<Ask2, Refusal>
         requires { IsSeated self.now }
@@ -116,8 +116,9 @@ impl Processor {
         }
     }
 
-    /// Whether the wanted access is made, and all is built that its value leads to. The bus is not asked
-    /// yet: where it tells the value, the group ends with it, so that its answer changes nothing here.
+    /// Whether the wanted access is made, and all is built that its value leads to. The bus is not
+    /// asked yet: where it tells the value, the group ends with it, so that its answer changes
+    /// nothing here.
     fn leads_on(&self, wanted: Option<Wanted>) -> bool
         requires { IsSeatedWith self.now wanted }
         ensures { (a : Actor) → IsAt self.now a → result ≡ step_built (actor_intent a).wanted a }
@@ -131,8 +132,8 @@ impl Processor {
         }
     }
 
-    /// Does an act that was asked for, with the bus's answer where it asked, and tells its outcome. It
-    /// goes on with the value that the outcome shows.
+    /// Does an act that was asked for, with the bus's answer where it asked, and tells its outcome.
+    /// It goes on with the value that the outcome shows.
     #[tactic(auto, unfolding(crate::specs::Actors::outcome_of, crate::specs::Actors::advanced))]
     pub fn advance(&mut self, act: Act, reply: Option<Reply>) -> Outcome
         requires { IsAnswered self.old act reply }
@@ -163,7 +164,8 @@ impl Processor {
     /// The sequencer after a step; as it is where no access is wanted.
     fn stepped(&self, wanted: Option<Wanted>, reply: Option<Reply>) -> Sequencer
         requires { IsMovable self.now Step wanted }
-        ensures { (a : Actor) → IsAt self.now a → Stands result (moved_by (actor_intent a).wanted reply a) }
+        ensures { (a : Actor) → IsAt self.now a
+            → Stands result (moved_by (actor_intent a).wanted reply a) }
     {
         match wanted {
             None => self.sequencer,

@@ -1,6 +1,7 @@
 //! The rows of the instruction table.
 ghost use Rattle.std.specs.Prelude.{◌≡◌, ◌<◌, ℕ, false};
 ghost use Rattle.axp_access.specs.Kinds.{is_fetch};
+ghost use Rattle.axp_base.specs.Sizes.{bytes_of};
 ghost use Rattle.axp_cpu.specs.declared.cpu_states.CpuState.{CpuState};
 ghost use Rattle.axp_cpu.specs.Phases.{after, is_instruction, plan_of, FollowFits, PhaseFits};
 ghost use Rattle.axp_cpu.specs.Rows.{address_of, branch_goal, branch_row, cycle_counter, barrier_plan, high_address_of, jump_row, load_locked_plan, load_plan, memory_row, misc_row, operand, operate_row, pal_row, quadword_at, row, store_conditional_plan, store_plan};
@@ -132,23 +133,30 @@ fn quadword(address: u64) -> u64
     address & !7
 }
 
+/// The access of a datum that a memory instruction wants.
+fn wanted(kind: Kind, what: Size, address: u64, value: u64) -> Wanted
+    ensures { result ≡ record { kind = kind; address = address; size = bytes_of what; value = value } }
+{
+    Wanted {
+        kind,
+        address,
+        size: what.bytes(),
+        value,
+    }
+}
+
 /// A load, and what follows with its value; into R31 it does nothing.
 fn load(size: u64, table: &CpuState, what: Size, a: u8, address: u64, then: Continuation) -> Phase
     requires fits { FollowFits then }
     requires ends { is_instruction then ≡ false }
-    ensures plan { plan_of size table.now result ≡ load_plan size table.now what a address (after size table.now then) }
+    ensures plan { plan_of size table.now result
+        ≡ load_plan size table.now what a address (after size table.now then) }
     ensures fits { PhaseFits result }
 {
     if a == ZERO_REGISTER {
         return end(table);
     }
-    let read = Wanted {
-        kind: Kind::Read,
-        address,
-        size: what.bytes(),
-        value: 0,
-    };
-    align(size, table, read, then)
+    align(size, table, wanted(Kind::Read, what, address, 0), then)
 }
 
 /// A store of the low datum of Ra.
@@ -157,13 +165,13 @@ fn store(size: u64, table: &CpuState, what: Size, a: u8, address: u64) -> Phase
     ensures plan { plan_of size table.now result ≡ store_plan size table.now what a address }
     ensures fits { PhaseFits result }
 {
-    let write = Wanted {
-        kind: Kind::Write,
-        address,
-        size: what.bytes(),
-        value: what.low(table.state.get(a)),
-    };
-    align(size, table, write, Continuation::Finish)
+    let value = what.low(table.state.get(a));
+    align(
+        size,
+        table,
+        wanted(Kind::Write, what, address, value),
+        Continuation::Finish,
+    )
 }
 
 /// A load-locked, and what follows with its value; into R31 too it makes its access.
@@ -176,16 +184,11 @@ fn load_locked_plan(
 ) -> Phase
     requires fits { FollowFits then }
     requires ends { is_instruction then ≡ false }
-    ensures plan { plan_of size table.now result ≡ load_locked_plan size what address (after size table.now then) }
+    ensures plan { plan_of size table.now result
+        ≡ load_locked_plan size what address (after size table.now then) }
     ensures fits { PhaseFits result }
 {
-    let read = Wanted {
-        kind: Kind::Locked,
-        address,
-        size: what.bytes(),
-        value: 0,
-    };
-    align(size, table, read, then)
+    align(size, table, wanted(Kind::Locked, what, address, 0), then)
 }
 
 /// A store-conditional of the low datum of Ra, which tells Ra whether it stored.
@@ -194,13 +197,13 @@ fn store_conditional_plan(size: u64, table: &CpuState, what: Size, a: u8, addres
     ensures plan { plan_of size table.now result ≡ store_conditional_plan size table.now what a address }
     ensures fits { PhaseFits result }
 {
-    let write = Wanted {
-        kind: Kind::Conditional,
-        address,
-        size: what.bytes(),
-        value: what.low(table.state.get(a)),
-    };
-    align(size, table, write, Continuation::StoreConditional { a })
+    let value = what.low(table.state.get(a));
+    align(
+        size,
+        table,
+        wanted(Kind::Conditional, what, address, value),
+        Continuation::StoreConditional { a },
+    )
 }
 
 /// The branch format.

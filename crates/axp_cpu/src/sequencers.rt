@@ -11,8 +11,8 @@ use axp_base::Cpu;
 use axp_image::Image;
 use axp_regs::State;
 
-/// One processor: its table state, the access that it wants inside of a group, and the number of steps
-/// that it made.
+/// One processor: its table state, the access that it wants inside of a group, and the number of
+/// steps that it made.
 #[derive(Clone, Copy, Debug)]
 pub struct Sequencer {
     size: u64,
@@ -96,7 +96,8 @@ impl Sequencer {
     pub fn intent(&self) -> Intent
         requires { Standing self.now }
         ensures value { (s : Seat) → Stands self.now s → result ≡ intent_of s }
-        ensures makeable { (s : Seat) → Stands self.now s → IfSome result.wanted (IsMakeable s.size) }
+        ensures makeable { (s : Seat) → Stands self.now s
+            → IfSome result.wanted (IsMakeable s.size) }
     {
         Intent {
             finished: self.finished(),
@@ -107,8 +108,8 @@ impl Sequencer {
         }
     }
 
-    /// The processor after a step whose access gave this value (0 where it stores); `None` where not
-    /// all is built that the value leads to.
+    /// The processor after a step whose access gave this value (0 where it stores); `None` where
+    /// not all is built that the value leads to.
     pub fn advanced(&self, value: u64) -> Option<Sequencer>
         requires { Going self.now }
         ensures { (s : Seat) → Stands self.now s → GoesOn s value result }

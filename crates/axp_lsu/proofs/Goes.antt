@@ -1,5 +1,5 @@
--- What is kept stays within memory by each act, and few entries are made.
-use Rattle.std.proofs.Common.{◌≡◌, ℕ, zero, suc, ◌+◌, ◌/◌, ◌%◌, ◌^◌, ◌≤◌, ◌==◌, Bool, true, false, not, cond, nat_lt, List, [], ◌∷◌, length, Some, None, refl, ap, arith, IfSome}
+-- What is kept stays within memory by each act.
+use Rattle.std.proofs.Common.{ℕ, zero, suc, ◌+◌, ◌/◌, ◌%◌, ◌^◌, ◌==◌, Bool, true, false, not, cond, nat_lt, List, [], ◌∷◌, length, Some, None, IfSome}
 use Rattle.std.specs.Prelude.{Option, slice_get}
 use Rattle.std.specs.List.{AllByRecursion, remove}
 use Rattle.axp_base.specs.Lines.{line_number, data_bank, line_of, line_at, line_numbered}
@@ -16,7 +16,7 @@ use Rattle.axp_line.specs.declared.messages.Reply.TheVariants as reply
 use Rattle.axp_regs.specs.declared.asks.Kind.{Kind}
 use Rattle.axp_regs.specs.declared.asks.Kind.TheVariants as kind
 use Rattle.axp_wbuf.specs.Drains.{oldest_group, without}
-use Rattle.axp_wbuf.specs.Pending.{Pending, Buffer, is_at, made_by, merges, put_into, stored, with_store}
+use Rattle.axp_wbuf.specs.Pending.{Pending, is_at, made_by, put_into, stored, with_store}
 use Rattle.axp_access.specs.declared.Act.{Act}
 use Rattle.axp_access.specs.declared.Act.TheVariants as act
 use Rattle.axp_access.specs.declared.Intent.{Intent}
@@ -26,7 +26,7 @@ use Rattle.axp_lsu.specs.declared.since.Since.{Since}
 use Rattle.axp_lsu.specs.Asking.{act_ask, ask_of, fill_ask, fill_for}
 use Rattle.axp_lsu.specs.Fitting.{ReplyFits, IsTurn}
 use Rattle.axp_lsu.specs.Going.{after_access, advanced, after_line, after_late, after_drain, after_barrier, after_fill, after_act, after_stored, after_step, turn_in}
-use Rattle.axp_lsu.specs.Keeping.{LocalMemory, copies_of, data_copies, nothing, with_copies, with_drop}
+use Rattle.axp_lsu.specs.Keeping.{LocalMemory, copies_of, nothing, with_copies, with_drop}
 use Rattle.axp_lsu.specs.Within.{IsCopyWithin, IsEntryWithin, IsInMemory, IsKeptWithin, IsLineWithin, IsWantedBy, IsWantedWithin}
 use Rattle.axp_lsu.proofs.AskedWithin.{line_address_within, oldest_within}
 use Rattle.axp_lsu.proofs.Fits.{act_fits, fits_turn, none_fits}
@@ -209,68 +209,3 @@ after_within size act.Tick i r u fits wanted small h = since_within size (record
 pub advanced_within : (size : ℕ) (a : Act) (i : Intent) (r : Option Reply) (u : LocalMemory) → ReplyFits (ask_of a i u) r → IsWantedWithin size i.wanted → IsKeptWithin size u → IsKeptWithin size (advanced a i r u)
 unfolding advanced
 advanced_within size a i r u fits wanted h = after_within size a i r u (act_fits a i u r fits) wanted (fits_turn (ask_of a i u) r fits) h
-
--- copies come and go beside the buffer
-with_copies_made : (b : Bank) (cs : List LineCopy) (u : LocalMemory) → (with_copies b cs u).buffer ≡ u.buffer
-with_copies_made Even cs u = refl
-with_copies_made Odd cs u = refl
-with_copies_made Code cs u = refl
-
-brought_made : (b : Bank) (line : Line) (r : Option Reply) (u : LocalMemory) → (after_line b line r u).buffer ≡ u.buffer
-brought_made b line (Some (reply.Line turn bytes)) u = with_copies_made b (put (copy_of line turn bytes) (copies_of b u)) u
-brought_made b line _ u = refl
-
-rewritten_made : (line : Line) (r : Option Reply) (u : LocalMemory) → (after_stored line r u).buffer ≡ u.buffer
-rewritten_made line (Some (reply.Stored turn bytes)) u =
-    with_copies_made (data_bank (line_number line)) (refreshed (copy_of line turn bytes) (data_copies (line_number line) u)) u
-rewritten_made line _ u = refl
-
-fenced_made : (r : Option Reply) (u : LocalMemory) → (after_barrier r u).buffer ≡ u.buffer
-fenced_made (Some (reply.Barrier turn gone)) u = refl
-fenced_made _ u = refl
-
-delivered_made : (r : Option Reply) (u : LocalMemory) → (after_late r u).buffer ≡ u.buffer
-delivered_made (Some (reply.Late line turn)) u =
-    with_copies_made (data_bank (line_number line)) (invalidated (line_number line) turn (data_copies (line_number line) u)) u
-delivered_made _ u = refl
-
--- at most one entry more
-few_more : (any : Bool) (n : ℕ) → cond any n (n + 1) ≤ n + 1
-few_more true n = omega arith
-few_more false n = omega arith
-
-same_few : (b c : Buffer) → b ≡ c → b.made ≤ c.made + 1
-same_few b c e = let made : b.made ≡ c.made = ap (λ (b : Buffer). b.made) e in omega arith
-
-accessed_few : (k : Kind) (w : Wanted) (r : Option Reply) (u : LocalMemory) → (after_access k w r u).buffer.made ≤ u.buffer.made + 1
-accessed_few kind.Write w r u = few_more (merges (line_of w.address) u.buffer) u.buffer.made
-accessed_few kind.Locked w r u = same_few _ u.buffer (brought_made (data_bank (line_of w.address)) (line_at w.address) r u)
-accessed_few kind.Conditional w r u = same_few _ u.buffer (rewritten_made (line_at w.address) r u)
-accessed_few kind.Barrier w r u = same_few _ u.buffer (fenced_made r u)
-accessed_few kind.CodeBarrier w r u = same_few _ u.buffer (fenced_made r u)
-accessed_few _ w r u = omega arith
-
-stepped_few : (o : Option Wanted) (r : Option Reply) (u : LocalMemory) → (after_step o r u).buffer.made ≤ u.buffer.made + 1
-stepped_few None r u = omega arith
-stepped_few (Some w) r u = accessed_few w.kind w r u
-
-filled_few : (o : Option Wanted) (r : Option Reply) (u : LocalMemory) → (after_fill o r u).buffer.made ≤ u.buffer.made + 1
-filled_few None r u = omega arith
-filled_few (Some w) r u = same_few _ u.buffer (brought_made (bank_for w.kind (line_of w.address)) (line_at w.address) r u)
-
-drained_few : (k : ℕ) (o : Option Pending) (r : Option Reply) (u : LocalMemory) → (after_drain k o r u).buffer.made ≤ u.buffer.made + 1
-drained_few k None r u = omega arith
-drained_few k (Some e) r u = same_few _ (without k u.buffer) (rewritten_made (line_numbered e.line) r (record u { buffer = without k u.buffer }))
-
-after_few : (a : Act) (i : Intent) (r : Option Reply) (u : LocalMemory) → (after_act a i r u).buffer.made ≤ u.buffer.made + 1
-after_few act.Step i r u = stepped_few i.wanted r u
-after_few act.Fill i r u = filled_few i.wanted r u
-after_few (act.Drain k) i r u = drained_few k (slice_get (oldest_group u.buffer.kept) k) r u
-after_few (act.Take b) i r u = same_few _ u.buffer (delivered_made r u)
-after_few (act.Drop b line) i r u = same_few _ u.buffer (with_copies_made b (dropped (line_number line) (copies_of b u)) u)
-after_few act.Poll i r u = omega arith
-after_few act.Tick i r u = omega arith
-
-pub advanced_few : (a : Act) (i : Intent) (r : Option Reply) (u : LocalMemory) → (advanced a i r u).buffer.made ≤ u.buffer.made + 1
-unfolding advanced
-advanced_few a i r u = after_few a i r u

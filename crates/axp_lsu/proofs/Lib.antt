@@ -5,3 +5,4 @@ pub mod Goes
 pub mod Held
 pub mod Lines
 pub mod Numbers
+pub mod Makes

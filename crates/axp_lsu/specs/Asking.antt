@@ -1,5 +1,5 @@
 -- Which acts a processor may make, as far as it knows, and what each asks of the bus.
-use Rattle.std.specs.Prelude.{ℕ, ◌%◌, ◌^◌, ◌==◌, Bool, true, false, not, ◌&&◌, if◌then◌else◌, List, length, slice_get, Option, Some, None}
+use Rattle.std.specs.Prelude.{ℕ, ◌%◌, ◌^◌, ◌==◌, Bool, true, false, not, ◌&&◌, if◌then◌else◌, List, length, Option, Some, None}
 use Rattle.std.specs.List.{list_any}
 use Rattle.axp_base.specs.Cpus.{cpu_of}
 use Rattle.axp_base.specs.Lines.{line_number, line_of, line_at, line_numbered}
@@ -12,7 +12,6 @@ use Rattle.axp_line.specs.Lines.{data_of}
 use Rattle.axp_line.specs.declared.messages.Request.TheVariants as request
 use Rattle.axp_regs.specs.declared.asks.Kind.{Kind}
 use Rattle.axp_regs.specs.declared.asks.Kind.TheVariants as kind
-use Rattle.axp_wbuf.specs.Drains.{oldest_group}
 use Rattle.axp_wbuf.specs.Pending.{Pending, is_before, is_of_line}
 use Rattle.axp_wbuf.specs.Pending as pending
 use Rattle.axp_access.specs.declared.Act.{Act}
@@ -22,7 +21,7 @@ use Rattle.axp_access.specs.declared.Wanted.{Wanted}
 use Rattle.axp_model.specs.Legal.{is_timely}
 use Rattle.axp_lsu.specs.declared.asks.Ask2.{Ask2}
 use Rattle.axp_lsu.specs.declared.asks.Ask2.TheVariants as ask
-use Rattle.axp_lsu.specs.Keeping.{LocalMemory, copies_of, data_copies, held_pairs, has_dropped}
+use Rattle.axp_lsu.specs.Keeping.{LocalMemory, copies_of, data_copies, entry_at, held_pairs, has_dropped}
 
 -- the condition of a Step that makes an access of this kind to this line
 abbrev pub is_ready : Kind → ℕ → LocalMemory → Bool
@@ -86,7 +85,7 @@ take_ask Code = None
 abbrev pub act_ask : Act → Intent → LocalMemory → Option Ask2
 act_ask act.Step i u = step_ask i.boundary i.wanted i.lock_flag u
 act_ask act.Fill i u = fill_ask i.wanted u
-act_ask (act.Drain k) i u = drain_ask (slice_get (oldest_group u.buffer.kept) k)
+act_ask (act.Drain k) i u = drain_ask (entry_at k u)
 act_ask (act.Take b) i u = take_ask b
 act_ask (act.Drop b line) i u = if is_held (line_number line) (copies_of b u) && not (has_dropped b u.since) then Some ask.Private else None
 act_ask act.Poll i u = if i.boundary && not u.since.polled then Some (ask.Bus (request.Poll i.takes_interrupts)) else None

@@ -1,5 +1,5 @@
 -- What an act gives and leaves, with the bus's answer where it asked.
-use Rattle.std.specs.Prelude.{ℕ, ◌/◌, ◌%◌, ◌^◌, max, Bool, true, false, ◌&&◌, if◌then◌else◌, List, [], length, slice_get, Option, Some, None}
+use Rattle.std.specs.Prelude.{ℕ, ◌/◌, ◌%◌, ◌^◌, max, Bool, true, false, ◌&&◌, if◌then◌else◌, List, [], length, Option, Some, None}
 use Rattle.axp_base.specs.Lines.{line_number, data_bank, line_of, line_at, line_numbered}
 use Rattle.axp_base.specs.Parts.{part}
 use Rattle.axp_base.specs.declared.lines.Bank.{Bank}
@@ -13,7 +13,7 @@ use Rattle.axp_line.specs.declared.messages.Reply.{Reply}
 use Rattle.axp_line.specs.declared.messages.Reply.TheVariants as reply
 use Rattle.axp_regs.specs.declared.asks.Kind.{Kind}
 use Rattle.axp_regs.specs.declared.asks.Kind.TheVariants as kind
-use Rattle.axp_wbuf.specs.Drains.{oldest_group, without}
+use Rattle.axp_wbuf.specs.Drains.{without}
 use Rattle.axp_wbuf.specs.Pending.{Pending, overlaid, store_number, stored, closed}
 use Rattle.axp_access.specs.declared.Act.{Act}
 use Rattle.axp_access.specs.declared.Act.TheVariants as act
@@ -24,7 +24,7 @@ use Rattle.axp_access.specs.declared.Place.{Place}
 use Rattle.axp_access.specs.declared.Place.TheVariants.{At, Entry, Absent}
 use Rattle.axp_access.specs.declared.Wanted.{Wanted}
 use Rattle.axp_model.specs.Outcomes.{bank_for}
-use Rattle.axp_lsu.specs.Keeping.{LocalMemory, nothing, copies_of, with_copies, data_copies, with_drop}
+use Rattle.axp_lsu.specs.Keeping.{LocalMemory, copies_of, data_copies, entry_at, nothing, with_copies, with_data_copies, with_drop, with_fill}
 
 -- the data and the stamp of a line's copy; a line that is not held has none
 abbrev pub stamp_or_none : Option ℕ → ℕ
@@ -43,11 +43,18 @@ fetched_value w u = part_of (get_of (line_of w.address) u.code) (λ bytes. bytes
 abbrev pub read_value : Wanted → LocalMemory → ℕ
 read_value w u = part_of (get_of (line_of w.address) (data_copies (line_of w.address) u)) (overlaid (line_of w.address) u.buffer.kept) (w.address % LINE_BYTES) w.size
 
--- what a load-locked finds in memory, and a store-conditional's success as a number
+-- what a load-locked finds in memory
 abbrev pub locked_value : Wanted → Option Reply → ℕ
 locked_value w (Some (reply.Line turn bytes)) = part (bytes_of_line bytes) (w.address % LINE_BYTES) w.size
 locked_value w _ = 0
 
+-- what a fetch or a read finds
+abbrev pub found_by : Kind → Wanted → LocalMemory → Option Reply → ℕ
+found_by kind.Fetch w u r = fetched_value w u
+found_by kind.Read w u r = read_value w u
+found_by _ w u r = locked_value w r
+
+-- a write was made
 abbrev pub is_stored : Option Reply → Bool
 is_stored (Some (reply.Stored turn bytes)) = true
 is_stored _ = false
@@ -75,10 +82,14 @@ turn_in (Some (reply.Signalled turn)) = turn
 turn_in (Some (reply.Printed turn)) = turn
 turn_in _ = 0
 
+-- just after the later of the copy's stamp and the last barrier
+abbrev pub read_place : ℕ → LocalMemory → ℕ
+read_place l u = max (stamp_or_none (stamp_of l (data_copies l u))) u.barrier
+
 -- where an access stands
 abbrev pub place_by : Kind → ℕ → LocalMemory → Option Reply → Place
 place_by kind.Fetch l u r = At (stamp_or_none (stamp_of l u.code))
-place_by kind.Read l u r = At (max (stamp_or_none (stamp_of l (data_copies l u))) u.barrier)
+place_by kind.Read l u r = At (read_place l u)
 place_by kind.Write l u r = Entry (store_number l u.buffer)
 place_by kind.WriteBarrier l u r = Absent
 place_by _ l u r = At (turn_in r)
@@ -126,7 +137,7 @@ poll_outcome low _ = outcome.NoAccess
 abbrev pub outcome_by : Act → Cpu → Intent → LocalMemory → Option Reply → Outcome
 outcome_by act.Step cpu i u r = step_outcome cpu i.wanted u r
 outcome_by act.Fill cpu i u r = fill_outcome i.wanted r
-outcome_by (act.Drain k) cpu i u r = drain_outcome (slice_get (oldest_group u.buffer.kept) k) r
+outcome_by (act.Drain k) cpu i u r = drain_outcome (entry_at k u) r
 outcome_by (act.Take b) cpu i u r = take_outcome u r
 outcome_by (act.Drop b line) cpu i u r = outcome.Done
 outcome_by act.Poll cpu i u r = poll_outcome i.takes_interrupts r
@@ -141,7 +152,7 @@ after_line b line (Some (reply.Line turn bytes)) u = with_copies b (put (copy_of
 after_line b line _ u = u
 
 abbrev pub after_stored : Line → Option Reply → LocalMemory → LocalMemory
-after_stored line (Some (reply.Stored turn bytes)) u = with_copies (data_bank (line_number line)) (refreshed (copy_of line turn bytes) (data_copies (line_number line) u)) u
+after_stored line (Some (reply.Stored turn bytes)) u = with_data_copies (line_number line) (refreshed (copy_of line turn bytes) (data_copies (line_number line) u)) u
 after_stored line _ u = u
 
 -- a barrier delivers all that was late: the bits are of bank d0's copies, and then of d1's
@@ -151,12 +162,20 @@ after_barrier _ u = u
 
 -- a delivered pair removes an older copy
 abbrev pub after_late : Option Reply → LocalMemory → LocalMemory
-after_late (Some (reply.Late line turn)) u = with_copies (data_bank (line_number line)) (invalidated (line_number line) turn (data_copies (line_number line) u)) u
+after_late (Some (reply.Late line turn)) u = with_data_copies (line_number line) (invalidated (line_number line) turn (data_copies (line_number line) u)) u
 after_late _ u = u
+
+-- a plain write goes into the buffer
+abbrev pub with_stored : Wanted → LocalMemory → LocalMemory
+with_stored w u = record u { buffer = stored w.address w.size w.value u.buffer }
+
+-- the bank's copy of a line is given up
+abbrev pub given_up : Bank → ℕ → LocalMemory → LocalMemory
+given_up b l u = record (with_copies b (dropped l (copies_of b u)) u) { since = with_drop b u.since }
 
 -- what an access leaves
 abbrev pub after_access : Kind → Wanted → Option Reply → LocalMemory → LocalMemory
-after_access kind.Write w r u = record u { buffer = stored w.address w.size w.value u.buffer }
+after_access kind.Write w r u = with_stored w u
 after_access kind.WriteBarrier w r u = record u { buffer = closed u.buffer }
 after_access kind.Locked w r u = after_line (data_bank (line_of w.address)) (line_at w.address) r u
 after_access kind.Conditional w r u = after_stored (line_at w.address) r u
@@ -178,10 +197,10 @@ after_drain k (Some e) r u = after_stored (line_numbered e.line) r (record u { b
 
 abbrev pub after_act : Act → Intent → Option Reply → LocalMemory → LocalMemory
 after_act act.Step i r u = record (after_step i.wanted r u) { since = nothing }
-after_act act.Fill i r u = record (after_fill i.wanted r u) { since = record u.since { filled = true } }
-after_act (act.Drain k) i r u = after_drain k (slice_get (oldest_group u.buffer.kept) k) r u
+after_act act.Fill i r u = record (after_fill i.wanted r u) { since = with_fill u.since }
+after_act (act.Drain k) i r u = after_drain k (entry_at k u) r u
 after_act (act.Take b) i r u = after_late r u
-after_act (act.Drop b line) i r u = record (with_copies b (dropped (line_number line) (copies_of b u)) u) { since = with_drop b u.since }
+after_act (act.Drop b line) i r u = given_up b (line_number line) u
 after_act act.Poll i r u = record u { since = record u.since { polled = true } }
 after_act act.Tick i r u = record u { since = record u.since { ticked = true } }
 

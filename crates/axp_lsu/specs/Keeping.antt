@@ -1,5 +1,5 @@
 -- What a processor keeps of memory: its write buffer, its banks, and counts.
-use Rattle.std.specs.Prelude.{ℕ, ◌*◌, Bool, true, false, List, [], ◌++◌, map}
+use Rattle.std.specs.Prelude.{ℕ, ◌*◌, Bool, true, false, List, [], ◌++◌, map, slice_get, Option}
 use Rattle.axp_base.specs.Lines.{data_bank, line_number}
 use Rattle.axp_base.specs.declared.lines.Bank.{Bank}
 use Rattle.axp_base.specs.declared.lines.Bank.TheVariants.{Even, Odd, Code}
@@ -7,7 +7,8 @@ use Rattle.axp_base.specs.declared.lines.Line.{Line}
 use Rattle.axp_base.specs.declared.lines.TheConstants.{LINE_BYTES}
 use Rattle.axp_bank.specs.Copies.{line_of}
 use Rattle.axp_bank.specs.declared.copies.LineCopy.{LineCopy}
-use Rattle.axp_wbuf.specs.Pending.{Buffer, no_entries}
+use Rattle.axp_wbuf.specs.Drains.{oldest_group}
+use Rattle.axp_wbuf.specs.Pending.{Buffer, Pending, no_entries}
 use Rattle.axp_lsu.specs.declared.since.Since.{Since}
 
 pub record LocalMemory : Type 0 where
@@ -63,3 +64,15 @@ abbrev pub with_drop : Bank → Since → Since
 with_drop Even s = record s { dropped_even = true }
 with_drop Odd s = record s { dropped_odd = true }
 with_drop Code s = record s { dropped_code = true }
+
+-- what is kept, with other copies in the data bank that a line belongs to
+abbrev pub with_data_copies : ℕ → List LineCopy → LocalMemory → LocalMemory
+with_data_copies l cs u = with_copies (data_bank l) cs u
+
+-- the entry of this number in the oldest group
+abbrev pub entry_at : ℕ → LocalMemory → Option Pending
+entry_at k u = slice_get (oldest_group u.buffer.kept) k
+
+-- a Fill since the last Step
+abbrev pub with_fill : Since → Since
+with_fill s = record s { filled = true }

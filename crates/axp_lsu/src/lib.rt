@@ -1,5 +1,5 @@
-//! A processor's load/store unit: its write buffer, its banks of copies, what it asks of the bus, and how
-//! it goes on with the answers. It knows no instruction.
+//! A processor's load/store unit: its write buffer, its banks of copies, what it asks of the bus,
+//! and how it goes on with the answers. It knows no instruction.
 #![tactic(auto)]
 
 mod asks;

@@ -1,4 +1,5 @@
-//! Acts on one unit, worked out by hand. A unit that keeps its bounds is driven with answers that fit.
+//! Acts on one unit, worked out by hand. A unit that keeps its bounds is driven with answers that
+//! fit.
 ghost use Rattle.std.specs.Prelude.{ℕ, ◌≡◌, ◌^◌, ◌<◌, ◌≤◌, IsTrue};
 ghost use Rattle.axp_base.specs.declared.lines.Line.{Line};
 ghost use Rattle.axp_line.specs.declared.contents.LineData.{LineData};
@@ -149,7 +150,8 @@ fn answers_request(request: &Request, reply: Reply) -> bool
 }
 
 fn is_read(request: &Request) -> bool
-    ensures { (turn : ℕ) (bytes : LineData) → IsTrue result → turn < 2 ^ 32 → FitsRequest request.now (reply.Line turn bytes) }
+    ensures { (turn : ℕ) (bytes : LineData) → IsTrue result → turn < 2 ^ 32
+        → FitsRequest request.now (reply.Line turn bytes) }
 {
     match request {
         Request::Fill { .. } => true,
@@ -160,7 +162,8 @@ fn is_read(request: &Request) -> bool
 }
 
 fn is_write(request: &Request) -> bool
-    ensures { (turn : ℕ) (bytes : LineData) → IsTrue result → turn < 2 ^ 32 → FitsRequest request.now (reply.Stored turn bytes) }
+    ensures { (turn : ℕ) (bytes : LineData) → IsTrue result → turn < 2 ^ 32
+        → FitsRequest request.now (reply.Stored turn bytes) }
 {
     match request {
         Request::Drain { .. } => true,
@@ -170,7 +173,8 @@ fn is_write(request: &Request) -> bool
 }
 
 fn is_barrier(request: &Request) -> bool
-    ensures { (turn gone : ℕ) → IsTrue result → turn < 2 ^ 32 → FitsRequest request.now (reply.Barrier turn gone) }
+    ensures { (turn gone : ℕ) → IsTrue result → turn < 2 ^ 32
+        → FitsRequest request.now (reply.Barrier turn gone) }
 {
     match request {
         Request::Barrier { .. } => true,
@@ -180,7 +184,8 @@ fn is_barrier(request: &Request) -> bool
 }
 
 fn is_take(request: &Request) -> bool
-    ensures { (line : Line) (turn : ℕ) → IsTrue result → turn < 2 ^ 32 → FitsRequest request.now (reply.Late line turn) }
+    ensures { (line : Line) (turn : ℕ) → IsTrue result → turn < 2 ^ 32
+        → FitsRequest request.now (reply.Late line turn) }
 {
     match request {
         Request::Take { .. } => true,

@@ -7,6 +7,7 @@ ghost use Rattle.axp_base.specs.Lines.{line_at};
 ghost use Rattle.axp_lsu.specs.Keeping.{empty_memory, copies_of, data_copies};
 
 mod asking;
+mod copies;
 mod going;
 mod values;
 
@@ -17,8 +18,8 @@ use axp_ibank::CodeBank;
 use axp_wbuf::Wbuf;
 use std::marker::Model;
 
-/// What a processor keeps of memory: its write buffer, its banks of copies, and what it did since its
-/// last step.
+/// What a processor keeps of memory: its write buffer, its banks of copies, and what it did since
+/// its last step.
 #[derive(Drop)]
 pub struct Lsu {
     buffer: Wbuf,

@@ -27,7 +27,7 @@ use Rattle.axp_cpu.specs.Seats.{Seat, is_finished, wanted}
 use Rattle.axp_cpu.specs.Soundness as sound
 use Rattle.axp_cpu.specs.Soundness.{IsSoundAs}
 use Rattle.axp_cpu.specs.declared.processors.Processor.{Processor}
-use Rattle.axp_cpu.proofs.ActorLemmas.{unfinished, wanted_sound}
+use Rattle.axp_cpu.proofs.ActorLemmas.{steps_left, unfinished, wanted_sound}
 use Rattle.axp_image.specs.declared.limits.TheConstants.{INSTRUCTION_BYTES, MAX_MEMORY}
 use Rattle.axp_line.specs.declared.messages.Reply.{Reply}
 use Rattle.axp_line.specs.declared.messages.Reply.TheVariants as reply
@@ -75,17 +75,10 @@ IsWantedAs size kind.Console w = IsConsole w
 IsWantedAs size kind.Poll w = ⊥
 
 sound_wants : (size : ℕ) (k : Kind) (w : Wanted) → IsSoundAs size k w → IsWantedAs size k w
-sound_wants size kind.Fetch w is = is
-sound_wants size kind.Read w is = is
-sound_wants size kind.Write w is = is
-sound_wants size kind.Locked w is = is
-sound_wants size kind.Conditional w is = is
-sound_wants size kind.Barrier w is = is
-sound_wants size kind.WriteBarrier w is = is
-sound_wants size kind.CodeBarrier w is = is
 sound_wants size kind.Signal w is = absurd is
 sound_wants size kind.Console w is = absurd is
 sound_wants size kind.Poll w is = absurd is
+sound_wants size _ w is = is
 
 -- lines and addresses in memory
 line_printed : (size : ℕ) (line : Line) → size ≤ MAX_MEMORY → IsLineWithin size line → IsLine line
@@ -247,13 +240,10 @@ act_printed size act.Poll i u r knows fits = tt
 act_printed size act.Tick i u r knows fits = tt
 
 -- a processor that wants an access has a step left
-step_left : (s : Seat) → is_finished s ≡ false → s.steps < s.budget
-step_left s going = leb-false s.budget s.steps (or_parts (is_some s.start.halted) (leb s.budget s.steps) going).1
-
 wanted_well : (p : Processor) (a : Actor) (o : Option Wanted) → IsAt p a → wanted a.seat ≡ o → IsWantedWell a.seat.size a.kept o
 wanted_well p a None at is = tt
 wanted_well p a (Some w) at is =
-    let left = step_left a.seat (unfinished a.seat w is) in
+    let left = steps_left a.seat (unfinished a.seat w is) in
     let made = at.made in
     let budget = at.budget in
     (sound_wants a.seat.size w.kind w (wanted_sound p.sequencer a.seat w at.seat is), omega (arith, left, made, budget))

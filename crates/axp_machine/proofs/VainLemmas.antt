@@ -1,5 +1,5 @@
 -- When the bus answers that there is nothing.
-use Rattle.std.proofs.Common.{◌≡◌, ℕ, ◌&&◌, Bool, true, false, not, List, [], ◌∷◌, Option, Some, None, refl, sym, ap, ◌∙◌}
+use Rattle.std.proofs.Common.{◌≡◌, ℕ, ◌<◌, ◌&&◌, Bool, true, false, not, List, [], ◌∷◌, length, Option, Some, None, refl, sym, ap, ◌∙◌}
 use Rattle.std.specs.Prelude.{Ok}
 use Rattle.axp_base.specs.Cpus.{cpu_number}
 use Rattle.axp_base.specs.declared.lines.Bank.{Bank}
@@ -7,8 +7,8 @@ use Rattle.axp_base.specs.declared.lines.Bank.TheVariants.{Even, Odd, Code}
 use Rattle.axp_base.specs.declared.lines.Line.{Line}
 use Rattle.axp_base.specs.declared.processors.Cpu.{Cpu}
 use Rattle.axp_bus.specs.Buses.{State}
-use Rattle.axp_bus.specs.BusStands.{Stands}
-use Rattle.axp_bus.proofs.StandLemmas.{none_of_code}
+use Rattle.axp_bus.specs.Ports.{late_for}
+use Rattle.axp_bus.proofs.StandLemmas.{late_is, none_of_code}
 use Rattle.axp_line.specs.declared.messages.Request.TheVariants as request
 use Rattle.axp_base.specs.Blocks.{is_allowed}
 use Rattle.axp_lsu.specs.declared.asks.Ask2.{Ask2}
@@ -64,7 +64,8 @@ by_bank ask.Private bank image cs p is = cc
 by_bank (ask.Bus (request.Take b)) bank image cs p is = let same : bank ≡ b = cc in taken b image cs p ∙ ap (λ x. is_empty (calls.late p x cs)) (sym same)
 by_bank (ask.Bus _) bank image cs p is = cc
 
-pub late_take : (b : State) (cpu : Cpu) (q : Ask2) (bank : Bank) (late : Bool) → Some bank ≡ bank_taken q
-    → ((image : ℕ → ℕ) (cs : List BusCall) → Stands b image cs → late ≡ not (is_empty (calls.late (cpu_number cpu) bank cs))) → IsTakenInVain b cpu q (not late)
-late_take b cpu q bank late is tells image cs stands =
-    ap not (tells image cs stands) ∙ not_not (is_empty (calls.late (cpu_number cpu) bank cs)) ∙ sym (by_bank q bank image cs (cpu_number cpu) is)
+pub late_take : (b : State) (cpu : Cpu) (q : Ask2) (bank : Bank) (late : Bool) → Some bank ≡ bank_taken q → cpu_number cpu < length b.ports
+    → late ≡ not (is_empty (late_for (cpu_number cpu) bank b.ports)) → IsTakenInVain b cpu q (not late)
+late_take b cpu q bank late is below tells image cs stands =
+    ap not tells ∙ not_not (is_empty (late_for (cpu_number cpu) bank b.ports)) ∙ ap is_empty (late_is b image cs (cpu_number cpu) bank stands below)
+    ∙ sym (by_bank q bank image cs (cpu_number cpu) is)

@@ -14,7 +14,7 @@ use Rattle.axp_top.specs.declared.status.Status.{Status}
 use Rattle.axp_top.specs.declared.status.Status.TheVariants as status
 use Rattle.axp_top.specs.Answers.{answer_by, answer_of, answer_of_files, answer_of_image, answer_of_trace, answer_over, asks_by, asks_of, image_in, image_told, read_fault_answer, trace_told}
 use Rattle.axp_top.specs.Lawful.{IsLawful, image_of_file, image_over, lines_of_file}
-use Rattle.axp_top.specs.Outside.{DeskState, Outside, outside}
+use Rattle.axp_top.specs.Outside.{DeskState, Outside}
 use Rattle.axp_top.specs.Printing.{Ends}
 use Rattle.axp_top.specs.Replays.{Answer, answer_of_lines, not_built_at_all}
 use Rattle.axp_top.specs.Serving.{Course, Serves, ServesTrace}
@@ -192,6 +192,10 @@ files_unfound_image told b n first second same count asks = files_unfound told b
 
 -- ---- the second file behind the first
 
+-- once the first was fetched
+abbrev with_desk : Outside → DeskState → Outside
+with_desk b desk = record { sink = b.sink; desk = desk }
+
 then_front : (before between now : List Ask) (ask : Ask) (more : List Ask) → between ≡ before ++ ask ∷ [] → AsksFront between now more → AsksFront before now (ask ∷ more)
 then_front before between now ask more is h = (ask ∷ h.0, h.1, ap (λ (xs : List Ask). ask ∷ xs) h.2, h.3 ∙ ap (λ (xs : List Ask). xs ++ h.0) is ∙ append_assoc before (ask ∷ []) h.0)
 
@@ -202,7 +206,7 @@ then_failed before between now ask more is h =
 then_all : (before between now : List Ask) (ask : Ask) (more : List Ask) → between ≡ before ++ ask ∷ [] → now ≡ between ++ more → now ≡ before ++ ask ∷ more
 then_all before between now ask more is all = all ∙ ap (λ (xs : List Ask). xs ++ more) is ∙ append_assoc before (ask ∷ []) more
 
-then_course : (b n : Outside) (desk : DeskState) (a : Answer) (ask : Ask) (more : List Ask) (s : Status) → desk.faults ≡ b.desk.faults → desk.asks ≡ b.desk.asks ++ ask ∷ [] → Course (outside desk b.sink) n a more s → Course b n a (ask ∷ more) s
+then_course : (b n : Outside) (desk : DeskState) (a : Answer) (ask : Ask) (more : List Ask) (s : Status) → desk.faults ≡ b.desk.faults → desk.asks ≡ b.desk.asks ++ ask ∷ [] → Course (with_desk b desk) n a more s → Course b n a (ask ∷ more) s
 then_course b n desk a ask more s count asks (inl h) = inl (record {
   ends = h.ends;
   count = h.count ∙ count;
@@ -221,7 +225,7 @@ told_before now before bytes same is = subst (λ (o : Option (List ℕ)). IfSome
 
 pub files_served : (told told' : List ℕ → Option (List ℕ)) (b n : Outside) (desk : DeskState) (first second bytes : List ℕ) (image : Contents) (s : Status) → IfSome (told first) (λ t. FetchTold t MAX_IMAGE_BYTES (Ok bytes)) → length bytes ≤ MAX_IMAGE_BYTES
     → Some image ≡ image_of bytes → IsValid image → desk.faults ≡ b.desk.faults → desk.asks ≡ b.desk.asks ++ (first, MAX_IMAGE_BYTES) ∷ [] → ((name : List ℕ) → told' name ≡ told name)
-    → ServesTrace (told' second) (second, MAX_TRACE_BYTES) image (outside desk b.sink) n s → Serves told (Some (Replay first second)) b n s
+    → ServesTrace (told' second) (second, MAX_TRACE_BYTES) image (with_desk b desk) n s → Serves told (Some (Replay first second)) b n s
 files_served told told' b n desk first second bytes image s is short reads valid count asks stays h =
     let image_is : image_in bytes ≡ Some image = rw (le-ltb MAX_IMAGE_BYTES (length bytes) short) (sym reads) in
     record {

@@ -1,5 +1,5 @@
-//! The top call: it takes the words of the command line, a desk and a sink, does what the words say,
-//! and answers with a status.
+//! The top call: it takes the words of the command line, a desk and a sink, does what the words
+//! say, and answers with a status.
 #![tactic(auto)]
 
 mod laws;

@@ -3,7 +3,8 @@ ghost use Rattle.axp_trace.specs.Files.{lines_of};
 ghost use Rattle.axp_trace.specs.Reading.{event_of};
 ghost use Rattle.axp_top.specs.Outside.{sink_state};
 ghost use Rattle.axp_top.specs.Printing.{Ends, Prints, PrintsEvent, PrintsEvents};
-ghost use Rattle.axp_top.specs.Replays.{answer_of_lines, answer_of_replay, ending_of, not_built_at_all, record_of, refused_at};
+ghost use Rattle.axp_top.specs.Replays.{answer_of_lines, answer_of_replay, ending_of};
+ghost use Rattle.axp_top.specs.Replays.{not_built_at_all, record_of, refused_at};
 
 use crate::Status;
 use crate::printing::{Stop, print_line, refuse};
@@ -17,8 +18,8 @@ use axp_trace::{
 };
 use std::alloc::Global;
 
-/// Does the event of a line and prints its line. The answer is why it is refused, and then nothing is
-/// done or printed; a line that is no event is not built.
+/// Does the event of a line and prints its line. The answer is why it is refused, and then nothing
+/// is done or printed; a line that is no event is not built.
 fn print_event<K: Sink>(
     alloc: Global,
     sink: &mut K,
@@ -41,8 +42,8 @@ fn print_event<K: Sink>(
     }
 }
 
-/// Does the events of a list's lines, up to the first line that is refused, and prints a line for each.
-/// The answer is why that line is refused; `None` where these are all lines.
+/// Does the events of a list's lines, up to the first line that is refused, and prints a line for
+/// each. The answer is why that line is refused; `None` where these are all lines.
 fn print_events<K: Sink>(
     alloc: Global,
     sink: &mut K,
@@ -132,8 +133,10 @@ fn print_run<K: Sink>(
 ) -> Result<Status, Stop>
     requires { machine.old.records ≡ [] }
     ensures text { let seen = sink_state K.taken K.faults K.puts in
-        Prints (seen sink.old) (seen sink.new) (answer_of_replay machine.old (lines_of events.now)).lines result }
-    ensures status { IfOk result (λ s. s ≡ (answer_of_replay machine.old (lines_of events.now)).status) }
+        Prints (seen sink.old) (seen sink.new)
+        (answer_of_replay machine.old (lines_of events.now)).lines result }
+    ensures status { IfOk result (λ s. s ≡
+        (answer_of_replay machine.old (lines_of events.now)).status) }
 {
     let header = write_header(machine.cpus(), machine.budget(), machine.memory_size());
     print_line(alloc, sink, header)?;
@@ -157,7 +160,8 @@ pub fn refuse_all<K: Sink>(alloc: Global, sink: &mut K) -> Status
 /// Prints the run of an event list over an image.
 pub fn replay<K: Sink>(alloc: Global, sink: &mut K, image: &Image, list: &[u8]) -> Status
     ensures { let seen = sink_state K.taken K.faults K.puts in
-        Ends (seen sink.old) (seen sink.new) (answer_of_lines image.now (lines_of list.now)) result }
+        Ends (seen sink.old) (seen sink.new)
+        (answer_of_lines image.now (lines_of list.now)) result }
 {
     let Some((first, events)) = first_line(list) else {
         return refuse_all(alloc, sink);

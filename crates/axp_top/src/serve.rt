@@ -1,13 +1,15 @@
 ghost use Rattle.std.specs.Prelude.{IfSome, Some};
 ghost use Rattle.axp_image.specs.Contents.{AreBytes};
 ghost use Rattle.axp_top.specs.declared.limits.TheConstants.{MAX_TRACE_BYTES};
-ghost use Rattle.axp_top.specs.Answers.{answer_of, asks_by, asks_of, image_in, image_told, read_fault_answer, trace_told};
+ghost use Rattle.axp_top.specs.Answers.{answer_of, asks_by, asks_of, read_fault_answer};
+ghost use Rattle.axp_top.specs.Answers.{image_in, image_told, trace_told};
 ghost use Rattle.axp_top.specs.Commands.{order_by};
 ghost use Rattle.axp_top.specs.Lawful.{image_of_file, lines_of_file};
-ghost use Rattle.axp_top.specs.Outside.{desk_state, outside, sink_state};
+ghost use Rattle.axp_top.specs.Outside.{desk_state, outside_at, sink_state};
 ghost use Rattle.axp_top.specs.Printing.{Ends};
 ghost use Rattle.axp_top.specs.Serving.{Serves, ServesTrace};
-ghost use Rattle.axp_top.specs.Statuses.{AsksInTurn, AsksNeeded, DeskCount, PutsEach, Settles, SettlesLawfully, SettlesSome, SinkCount};
+ghost use Rattle.axp_top.specs.Statuses.{AsksInTurn, AsksNeeded, DeskCount, PutsEach, SinkCount};
+ghost use Rattle.axp_top.specs.Statuses.{Settles, SettlesLawfully, SettlesSome};
 ghost use Rattle.axp_top.specs.Words.{Replay, order_of};
 
 use crate::Status;
@@ -22,47 +24,45 @@ use std::alloc::Global;
 
 /// Does what the words say, and answers how it ended.
 ///
-/// The words must be `replay IMAGE TRACE`, where TRACE names an event list. The image is fetched and
-/// read before the event list; each line with its line feed is one put. What each status means is
-/// [`Status`]'s to say, and `docs/FORMATS.md` has the forms of both files and of the text.
+/// The words must be `replay IMAGE TRACE`, where TRACE names an event list. The image is fetched
+/// and read before the event list is asked for; each line with its line feed is one put. What each
+/// status means is [`Status`]'s to say, and `docs/FORMATS.md` has the forms of both files and of
+/// the text.
 pub fn serve_plain<D: Desk, K: Sink>(
     alloc: Global,
     words: &[Word],
     desk: &mut D,
     sink: &mut K,
 ) -> Status
-    // Where the desk tells the files, the text and the status are those of the words and the files, or
-    // a front of the text was printed before the sink failed or memory was not found.
-    ensures answer { let seen = sink_state K.taken K.faults K.puts in
-        let asked = desk_state D.faults D.asks in
-        IfSome (answer_of (order_of words.now) (D.told desk.old)) (λ a. Settles
-        (outside (asked desk.old) (seen sink.old)) (outside (asked desk.new) (seen sink.new)) a result) }
+    // Where the desk tells the files, the text and the status are those of the words and the files;
+    // or a front of the text was printed before the sink failed or memory was not found.
+    ensures answer { let at = outside_at D.faults D.asks K.taken K.faults K.puts in
+        IfSome (answer_of (order_of words.now) (D.told desk.old))
+        (λ a. Settles (at desk.old sink.old) (at desk.new sink.new) a result) }
     // Each line of that text is one put.
-    ensures puts { let seen = sink_state K.taken K.faults K.puts in
-        let asked = desk_state D.faults D.asks in
-        IfSome (answer_of (order_of words.now) (D.told desk.old)) (λ a. PutsEach
-        (outside (asked desk.old) (seen sink.old)) (outside (asked desk.new) (seen sink.new)) a result) }
-    // Where it tells bytes, what is settled so is the whole text of a run of the machine over the image,
-    // whose records keep the constraints of shared memory in the order of the printed places, and whose
-    // ending has its cause in the memory model; or all is refused.
-    ensures constraints { let seen = sink_state K.taken K.faults K.puts in
-        let asked = desk_state D.faults D.asks in
+    ensures puts { let at = outside_at D.faults D.asks K.taken K.faults K.puts in
+        IfSome (answer_of (order_of words.now) (D.told desk.old))
+        (λ a. PutsEach (at desk.old sink.old) (at desk.new sink.new) a result) }
+    // Where the image told is of bytes, what is settled so is the whole text of a run of the machine
+    // over it by the events of the list: the records keep the constraints of shared memory in the
+    // order of the printed places, and the ending has its cause in the memory model. Or all is
+    // refused.
+    ensures constraints { let at = outside_at D.faults D.asks K.taken K.faults K.puts in
         let image = image_told (order_of words.now) (D.told desk.old) in
         let trace = trace_told (order_of words.now) (D.told desk.old) in
-        IfSome image AreBytes →
-        IfSome (answer_of (order_of words.now) (D.told desk.old)) (SettlesLawfully
-        (outside (asked desk.old) (seen sink.old)) (outside (asked desk.new) (seen sink.new))
+        IfSome image AreBytes → IfSome (answer_of (order_of words.now) (D.told desk.old))
+        (SettlesLawfully (at desk.old sink.old) (at desk.new sink.new)
         (image_of_file image) (lines_of_file trace) result) }
     // Where the desk does not tell a file, all this holds by a list that it may have handed over.
-    ensures some_files { let seen = sink_state K.taken K.faults K.puts in
-        let asked = desk_state D.faults D.asks in
-        SettlesSome (D.told desk.old) (outside (asked desk.old) (seen sink.old))
-        (outside (asked desk.new) (seen sink.new)) (order_of words.now) result }
+    ensures some_files { let at = outside_at D.faults D.asks K.taken K.faults K.puts in
+        SettlesSome (D.told desk.old) (at desk.old sink.old) (at desk.new sink.new)
+        (order_of words.now) result }
     // A fault is answered only where one came in this call, and then at once.
     ensures sink_count { SinkCount (K.faults sink.old) (K.faults sink.new) result }
     ensures desk_count { DeskCount (D.faults desk.old) (D.faults desk.new) result }
     // Each file is asked for once at most, the image first.
-    ensures asks { AsksInTurn (D.asks desk.old) (D.asks desk.new) (asks_of (order_of words.now)) result }
+    ensures asks { AsksInTurn (D.asks desk.old) (D.asks desk.new)
+        (asks_of (order_of words.now)) result }
     // The second only where the first is an image.
     ensures second_ask { let asked = desk_state D.faults D.asks in
         IfSome (image_told (order_of words.now) (D.told desk.old)) (λ bytes. AsksNeeded
@@ -78,10 +78,9 @@ fn serve_command<D: Desk, K: Sink>(
     desk: &mut D,
     sink: &mut K,
 ) -> Status
-    ensures { let seen = sink_state K.taken K.faults K.puts in
-        let asked = desk_state D.faults D.asks in
-        Serves (D.told desk.old) (order_by command.entry) (outside (asked desk.old) (seen sink.old))
-        (outside (asked desk.new) (seen sink.new)) result }
+    ensures { let at = outside_at D.faults D.asks K.taken K.faults K.puts in
+        Serves (D.told desk.old) (order_by command.entry)
+        (at desk.old sink.old) (at desk.new sink.new) result }
 {
     match command {
         Some(Command::Replay { image, trace }) => replay_files(alloc, desk, sink, image, trace),
@@ -97,10 +96,9 @@ fn replay_files<D: Desk, K: Sink>(
     image: &str,
     trace: &str,
 ) -> Status
-    ensures { let seen = sink_state K.taken K.faults K.puts in
-        let asked = desk_state D.faults D.asks in
+    ensures { let at = outside_at D.faults D.asks K.taken K.faults K.puts in
         Serves (D.told desk.old) (Some (Replay image.now trace.now))
-        (outside (asked desk.old) (seen sink.old)) (outside (asked desk.new) (seen sink.new)) result }
+        (at desk.old sink.old) (at desk.new sink.new) result }
 {
     match desk.fetch(alloc, image, MAX_IMAGE_BYTES) {
         Ok(bytes) => match read_image(alloc, bytes.as_slice()) {
@@ -122,10 +120,9 @@ fn replay_file<D: Desk, K: Sink>(
     image: &Image,
     trace: &str,
 ) -> Status
-    ensures { let seen = sink_state K.taken K.faults K.puts in
-        let asked = desk_state D.faults D.asks in
+    ensures { let at = outside_at D.faults D.asks K.taken K.faults K.puts in
         ServesTrace (D.told desk.old trace.now) (trace.now, MAX_TRACE_BYTES) image.now
-        (outside (asked desk.old) (seen sink.old)) (outside (asked desk.new) (seen sink.new)) result }
+        (at desk.old sink.old) (at desk.new sink.new) result }
 {
     match desk.fetch(alloc, trace, MAX_TRACE_BYTES) {
         Ok(list) => replay(alloc, sink, image, list.as_slice()),

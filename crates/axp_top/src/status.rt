@@ -7,27 +7,28 @@ pub enum Status {
     Done,
     /// The desk failed; the line `axp: read fault` was taken, and nothing before it.
     ReadFault,
-    /// The sink failed; what it took is a front of the text or, where the desk had failed, of the line
-    /// of a read fault.
+    /// The sink failed; what it took is a front of the text or, where the desk had failed, of the
+    /// line of a read fault.
     WriteFault,
-    /// The event of this number, from 1, is the first that is not legal; the trace of those before it
-    /// was taken, and a line that says so.
+    /// The event of this number, from 1, is the first that is not legal; the trace of those before
+    /// it was taken, and a line that says so.
     NotLegal {
         /// The number of the event line.
         event: u32,
     },
     /// The list ends after this many events, and the machine is not complete: a processor is not
-    /// finished, or a write waits in its buffer. The trace of the events was taken, and a line that says
-    /// so.
+    /// finished, or a write waits in its buffer. The trace of the events was taken, and a line that
+    /// says so.
     Incomplete {
         /// How many events the list has.
         event: u32,
     },
-    /// Memory was not found; what was taken is a front of the text or, where the desk had failed, of
-    /// the line of a read fault.
+    /// Memory was not found; what was taken is a front of the text or, where the desk had failed,
+    /// of the line of a read fault.
     Memory,
     /// The words, the image or the list's first line is of no form that is built (0); or the event
-    /// line of this number, from 1, is the first that is no event, or whose event is legal and not built.
+    /// line of this number, from 1, is the first that is no event, or whose event is legal and not
+    /// built.
     NotBuilt {
         /// The number of the event line.
         event: u32,

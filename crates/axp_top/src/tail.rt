@@ -4,7 +4,8 @@ ghost use Rattle.axp_base.specs.declared.parts.TheConstants.{QUADWORD_BYTES};
 ghost use Rattle.axp_regs.specs.declared.states.TheConstants.{ZERO_REGISTER};
 ghost use Rattle.axp_top.specs.Outside.{sink_state};
 ghost use Rattle.axp_top.specs.Printing.{Prints};
-ghost use Rattle.axp_top.specs.Texts.{register_lines, registers_lines, processor_lines, processors_lines, quadword_lines, memory_lines, tail};
+ghost use Rattle.axp_top.specs.Texts.{memory_lines, processor_lines, processors_lines};
+ghost use Rattle.axp_top.specs.Texts.{quadword_lines, register_lines, registers_lines, tail};
 
 use crate::printing::{Stop, print_line};
 use axp_base::{Cpu, QUADWORD_BYTES};
@@ -24,7 +25,8 @@ fn print_register<K: Sink>(
     requires cpu { cpu_number cpu < machine.now.cpus }
     requires register { n < ZERO_REGISTER }
     ensures { let seen = sink_state K.taken K.faults K.puts in
-        Prints (seen sink.old) (seen sink.new) (register_lines machine.now (cpu_number cpu) n) result }
+        Prints (seen sink.old) (seen sink.new)
+        (register_lines machine.now (cpu_number cpu) n) result }
 {
     let value = machine.register(cpu, n);
     if value == 0 {
@@ -42,7 +44,8 @@ fn print_registers<K: Sink>(
 ) -> Result<(), Stop>
     requires { cpu_number cpu < machine.now.cpus }
     ensures { let seen = sink_state K.taken K.faults K.puts in
-        Prints (seen sink.old) (seen sink.new) (registers_lines machine.now (cpu_number cpu) ZERO_REGISTER) result }
+        Prints (seen sink.old) (seen sink.new)
+        (registers_lines machine.now (cpu_number cpu) ZERO_REGISTER) result }
 {
     for n in 0..ZERO_REGISTER {
         print_register(alloc, sink, machine, cpu, n)?;
@@ -59,7 +62,8 @@ fn print_processor<K: Sink>(
 ) -> Result<(), Stop>
     requires { cpu_number cpu < machine.now.cpus }
     ensures { let seen = sink_state K.taken K.faults K.puts in
-        Prints (seen sink.old) (seen sink.new) (processor_lines machine.now (cpu_number cpu)) result }
+        Prints (seen sink.old) (seen sink.new)
+        (processor_lines machine.now (cpu_number cpu)) result }
 {
     let line = write_processor(
         cpu,
@@ -94,7 +98,8 @@ fn print_quadword<K: Sink>(
 /// Prints all processors at the end.
 fn print_processors<K: Sink>(alloc: Global, sink: &mut K, machine: &Machine) -> Result<(), Stop>
     ensures { let seen = sink_state K.taken K.faults K.puts in
-        Prints (seen sink.old) (seen sink.new) (processors_lines machine.now machine.now.cpus) result }
+        Prints (seen sink.old) (seen sink.new)
+        (processors_lines machine.now machine.now.cpus) result }
 {
     for n in 0..machine.cpus() {
         print_processor(alloc, sink, machine, Cpu::new(n).unwrap())?;
@@ -105,7 +110,8 @@ fn print_processors<K: Sink>(alloc: Global, sink: &mut K, machine: &Machine) -> 
 /// Prints the quadwords of memory that were written.
 fn print_memory<K: Sink>(alloc: Global, sink: &mut K, machine: &Machine) -> Result<(), Stop>
     ensures { let seen = sink_state K.taken K.faults K.puts in
-        Prints (seen sink.old) (seen sink.new) (memory_lines machine.now (machine.now.image.size / QUADWORD_BYTES)) result }
+        Prints (seen sink.old) (seen sink.new)
+        (memory_lines machine.now (machine.now.image.size / QUADWORD_BYTES)) result }
 {
     let quadwords = machine.memory_size() / QUADWORD_BYTES;
     for quadword in 0..quadwords {

@@ -17,12 +17,14 @@ const ZEROS: [u8; 40] = [
     0, 0, 0, 0, 0, 0, 0, 0, // table
 ];
 
-const HALT_EVENTS: &str = "axp-events 1 cpus 2 budget 1\n0 fill\n0 step\n1 fill\n1 step\n";
+const LIST_HEADER: &str = "axp-events 1 cpus 2 budget 1\n";
 
-const HALT_HEADER: &str = "axp-trace 1 cpus 2 budget 1 memory 8192\n";
+const TEXT_HEADER: &str = "axp-trace 1 cpus 2 budget 1 memory 8192\n";
 
-const HALT_TEXT: &str = "axp-trace 1 cpus 2 budget 1 memory 8192\n\
-    0 fill : i 00000000 @0\n\
+/// Both processors halt.
+const HALTS: &str = "0 fill\n0 step\n1 fill\n1 step\n";
+
+const HALTS_PRINTED: &str = "0 fill : i 00000000 @0\n\
     0 step : i 00000000 00000000 @0\n\
     1 fill : i 00000000 @0\n\
     1 step : i 00000000 00000000 @0\n\
@@ -36,256 +38,277 @@ const READ_FAULT: &str = "axp: read fault\n";
 
 const NOT_BUILT: &str = "axp: not built at event 0\n";
 
-/// A call of `serve_plain` over a table that holds an image and an event list, and what it gives.
+/// How a call of `serve_plain` over two files ends.
 #[derive(Drop)]
-struct Row {
+struct Call {
     /// The words of the command line.
     words: [&'static str; 3],
-    image: &'static [u8],
-    events: &'static str,
     /// The number of the fetch that fails, from 1; 0 for none.
     failing_fetch: u32,
     /// The number of the put that fails without a byte, from 1; 0 for none.
     failing_put: u32,
-    text: &'static str,
     status: Status,
     /// The number of names that were asked for.
     asks: usize,
 }
 
-/// Both files are fetched, and nothing fails.
-fn replayed(image: &'static [u8], events: &'static str, text: &'static str, status: Status) -> Row {
-    Row {
-        words: ["replay", "image", "events"],
-        image,
-        events,
+/// The words of a command over both files.
+const REPLAY: [&str; 3] = ["replay", "image", "events"];
+
+/// The call of that command which ends with this status, where nothing fails outside.
+fn replayed(status: Status, asks: usize) -> Call {
+    Call {
+        words: REPLAY,
         failing_fetch: 0,
         failing_put: 0,
-        text,
-        status,
-        asks: 2,
-    }
-}
-
-/// The words are outside the grammar.
-fn unknown_words(words: [&'static str; 3]) -> Row {
-    Row {
-        words,
-        image: &ZEROS,
-        events: HALT_EVENTS,
-        failing_fetch: 0,
-        failing_put: 0,
-        text: NOT_BUILT,
-        status: Status::NotBuilt { event: 0 },
-        asks: 0,
-    }
-}
-
-/// The list of two halts, where a fetch or a put fails.
-fn failing(
-    failing_fetch: u32,
-    failing_put: u32,
-    text: &'static str,
-    status: Status,
-    asks: usize,
-) -> Row {
-    Row {
-        words: ["replay", "image", "events"],
-        image: &ZEROS,
-        events: HALT_EVENTS,
-        failing_fetch,
-        failing_put,
-        text,
         status,
         asks,
     }
 }
 
-/// Whether a call gives what its row says.
-fn gives(alloc: Global, row: &Row) -> Result<bool, Fail> {
-    let mut desk = TableDesk::new(alloc, &[row.failing_fetch])?;
-    desk.add(alloc, "image", row.image)?;
-    desk.add(alloc, "events", row.events.as_bytes())?;
-    let mut sink = ListSink::new(alloc, &[row.failing_put], 0)?;
-    let mut words = Vec::new(alloc);
-    for word in row.words {
-        words.push(Word::new(alloc, word)?)?;
-    }
-    let status = serve_plain(alloc, words.as_slice(), &mut desk, &mut sink);
-    Ok(status == row.status && sink.taken() == row.text.as_bytes() && desk.asks().len() == row.asks)
-}
-
-/// Whether the replay of a list over an image prints this text and ends so.
-fn prints(
+/// Whether a call over these files ends so, with this text.
+fn gives(
     alloc: Global,
+    call: &Call,
     image: &[u8],
     events: &[u8],
-    text: &str,
-    expected: Status,
+    text: &[u8],
 ) -> Result<bool, Fail> {
-    let mut desk = TableDesk::new(alloc, &[])?;
+    let mut desk = TableDesk::new(alloc, &[call.failing_fetch])?;
     desk.add(alloc, "image", image)?;
     desk.add(alloc, "events", events)?;
-    let mut sink = ListSink::new(alloc, &[], 0)?;
+    let mut sink = ListSink::new(alloc, &[call.failing_put], 0)?;
     let mut words = Vec::new(alloc);
-    for word in ["replay", "image", "events"] {
+    for word in call.words {
         words.push(Word::new(alloc, word)?)?;
     }
     let status = serve_plain(alloc, words.as_slice(), &mut desk, &mut sink);
-    Ok(status == expected && sink.taken() == text.as_bytes())
+    Ok(status == call.status && sink.taken() == text && desk.asks().len() == call.asks)
+}
+
+/// Two texts, one behind the other.
+fn joined(alloc: Global, text: &str, rest: &str) -> Result<Vec<u8>, Fail> {
+    let mut both = Vec::from_slice(alloc, text.as_bytes())?;
+    both.extend_from_slice(rest.as_bytes())?;
+    Ok(both)
+}
+
+/// How a list of events over the page of zeros ends: its lines behind the header, and what is
+/// printed behind the header's line.
+#[derive(Drop)]
+struct Ended {
+    events: &'static str,
+    printed: &'static str,
+    status: Status,
+}
+
+/// Whether lists end so.
+fn all_end(alloc: Global, lists: &[Ended]) -> Result<bool, Fail> {
+    let mut all = true;
+    for list in lists {
+        let events = joined(alloc, LIST_HEADER, list.events)?;
+        let text = joined(alloc, TEXT_HEADER, list.printed)?;
+        let call = replayed(list.status, 2);
+        all &= gives(alloc, &call, &ZEROS, events.as_slice(), text.as_slice())?;
+    }
+    Ok(all)
 }
 
 #[test]
 fn prints_the_run_of_an_event_list(rt: HostRuntime) -> Result<(), Fail> {
-    let halts = replayed(&ZEROS, HALT_EVENTS, HALT_TEXT, Status::Done);
-    assert!(rt; gives(rt.alloc(), &halts)?);
+    let halts = Ended {
+        events: HALTS,
+        printed: HALTS_PRINTED,
+        status: Status::Done,
+    };
+    assert!(rt; all_end(rt.alloc(), &[halts])?);
     Ok(())
 }
 
 #[test]
-fn ends_at_the_first_event_that_is_refused(rt: HostRuntime) -> Result<(), Fail> {
-    let rows = [
+fn ends_at_the_first_event_that_is_not_legal(rt: HostRuntime) -> Result<(), Fail> {
+    let lists = [
         // the code bank does not hold the line
-        replayed(
-            &ZEROS,
-            "axp-events 1 cpus 2 budget 1\n0 step\n",
-            "axp-trace 1 cpus 2 budget 1 memory 8192\naxp: not legal at event 1\n",
-            Status::NotLegal { event: 1 },
-        ),
+        Ended {
+            events: "0 step\n",
+            printed: "axp: not legal at event 1\n",
+            status: Status::NotLegal { event: 1 },
+        },
         // a finished processor steps
-        replayed(
-            &ZEROS,
-            "axp-events 1 cpus 2 budget 1\n0 fill\n0 step\n0 step\n1 fill\n",
-            "axp-trace 1 cpus 2 budget 1 memory 8192\n\
-             0 fill : i 00000000 @0\n\
-             0 step : i 00000000 00000000 @0\n\
-             axp: not legal at event 3\n",
-            Status::NotLegal { event: 3 },
-        ),
+        Ended {
+            events: "0 fill\n0 step\n0 step\n1 fill\n",
+            printed: "0 fill : i 00000000 @0\n\
+                0 step : i 00000000 00000000 @0\n\
+                axp: not legal at event 3\n",
+            status: Status::NotLegal { event: 3 },
+        },
         // nothing waits in the buffer
-        replayed(
-            &ZEROS,
-            "axp-events 1 cpus 2 budget 1\n1 drain 0\n",
-            "axp-trace 1 cpus 2 budget 1 memory 8192\naxp: not legal at event 1\n",
-            Status::NotLegal { event: 1 },
-        ),
-        // an interrupt that is legal
-        replayed(
-            &ZEROS,
-            "axp-events 1 cpus 2 budget 1\n0 poll\n",
-            "axp-trace 1 cpus 2 budget 1 memory 8192\naxp: not built at event 1\n",
-            Status::NotBuilt { event: 1 },
-        ),
-        // and one that is not, at interrupt level 7
-        replayed(
-            &ZEROS,
-            "axp-events 1 cpus 2 budget 1\n0 tick\n",
-            "axp-trace 1 cpus 2 budget 1 memory 8192\naxp: not legal at event 1\n",
-            Status::NotLegal { event: 1 },
-        ),
-        // no processor has number 2
-        replayed(
-            &ZEROS,
-            "axp-events 1 cpus 2 budget 1\n2 step\n",
-            "axp-trace 1 cpus 2 budget 1 memory 8192\naxp: not built at event 1\n",
-            Status::NotBuilt { event: 1 },
-        ),
-        // a line that is no event
-        replayed(
-            &ZEROS,
-            "axp-events 1 cpus 2 budget 1\n0 fill\n0 walk\n",
-            "axp-trace 1 cpus 2 budget 1 memory 8192\n\
-             0 fill : i 00000000 @0\n\
-             axp: not built at event 2\n",
-            Status::NotBuilt { event: 2 },
-        ),
-        // a last line without its line feed
-        replayed(
-            &ZEROS,
-            "axp-events 1 cpus 2 budget 1\n0 fill\n0 step",
-            "axp-trace 1 cpus 2 budget 1 memory 8192\n\
-             0 fill : i 00000000 @0\n\
-             axp: not built at event 2\n",
-            Status::NotBuilt { event: 2 },
-        ),
+        Ended {
+            events: "1 drain 0\n",
+            printed: "axp: not legal at event 1\n",
+            status: Status::NotLegal { event: 1 },
+        },
+        // an interrupt at interrupt level 7
+        Ended {
+            events: "0 tick\n",
+            printed: "axp: not legal at event 1\n",
+            status: Status::NotLegal { event: 1 },
+        },
     ];
-    for row in &rows {
-        assert!(rt; gives(rt.alloc(), row)?);
-    }
+    assert!(rt; all_end(rt.alloc(), &lists)?);
+    Ok(())
+}
+
+#[test]
+fn ends_at_the_first_line_that_is_not_built(rt: HostRuntime) -> Result<(), Fail> {
+    let lists = [
+        // an interrupt that is legal
+        Ended {
+            events: "0 poll\n",
+            printed: "axp: not built at event 1\n",
+            status: Status::NotBuilt { event: 1 },
+        },
+        // no processor has number 2
+        Ended {
+            events: "2 step\n",
+            printed: "axp: not built at event 1\n",
+            status: Status::NotBuilt { event: 1 },
+        },
+        // a line that is no event
+        Ended {
+            events: "0 fill\n0 walk\n",
+            printed: "0 fill : i 00000000 @0\naxp: not built at event 2\n",
+            status: Status::NotBuilt { event: 2 },
+        },
+        // a last line without its line feed
+        Ended {
+            events: "0 fill\n0 step",
+            printed: "0 fill : i 00000000 @0\naxp: not built at event 2\n",
+            status: Status::NotBuilt { event: 2 },
+        },
+    ];
+    assert!(rt; all_end(rt.alloc(), &lists)?);
     Ok(())
 }
 
 #[test]
 fn ends_where_the_list_is_incomplete(rt: HostRuntime) -> Result<(), Fail> {
-    let rows = [
+    let lists = [
         // no event at all
-        replayed(
-            &ZEROS,
-            "axp-events 1 cpus 2 budget 1\n",
-            "axp-trace 1 cpus 2 budget 1 memory 8192\naxp: incomplete after event 0\n",
-            Status::Incomplete { event: 0 },
-        ),
+        Ended {
+            events: "",
+            printed: "axp: incomplete after event 0\n",
+            status: Status::Incomplete { event: 0 },
+        },
         // processor 1 is not finished
-        replayed(
-            &ZEROS,
-            "axp-events 1 cpus 2 budget 1\n0 fill\n0 step\n",
-            "axp-trace 1 cpus 2 budget 1 memory 8192\n\
-             0 fill : i 00000000 @0\n\
-             0 step : i 00000000 00000000 @0\n\
-             axp: incomplete after event 2\n",
-            Status::Incomplete { event: 2 },
-        ),
+        Ended {
+            events: "0 fill\n0 step\n",
+            printed: "0 fill : i 00000000 @0\n\
+                0 step : i 00000000 00000000 @0\n\
+                axp: incomplete after event 2\n",
+            status: Status::Incomplete { event: 2 },
+        },
     ];
-    for row in &rows {
-        assert!(rt; gives(rt.alloc(), row)?);
+    assert!(rt; all_end(rt.alloc(), &lists)?);
+    Ok(())
+}
+
+/// The greatest budget is served.
+#[test]
+fn serves_the_greatest_budget(rt: HostRuntime) -> Result<(), Fail> {
+    let call = replayed(Status::Incomplete { event: 0 }, 2);
+    let events = "axp-events 1 cpus 2 budget 32768\n";
+    let text = "axp-trace 1 cpus 2 budget 32768 memory 8192\naxp: incomplete after event 0\n";
+    assert!(rt;
+        gives(
+            rt.alloc(),
+            &call,
+            &ZEROS,
+            events.as_bytes(),
+            text.as_bytes()
+        )?
+    );
+    Ok(())
+}
+
+#[test]
+fn asks_nothing_for_unknown_words(rt: HostRuntime) -> Result<(), Fail> {
+    for words in [
+        ["replay", "", "events"],
+        ["replay", "image", ""],
+        ["Replay", "image", "events"],
+    ] {
+        let call = Call {
+            words,
+            ..replayed(Status::NotBuilt { event: 0 }, 0)
+        };
+        let events = LIST_HEADER.as_bytes();
+        assert!(rt; gives(rt.alloc(), &call, &ZEROS, events, NOT_BUILT.as_bytes())?);
+    }
+    Ok(())
+}
+
+/// Whether the file is refused before anything is printed, after so many asks.
+fn is_refused(alloc: Global, image: &[u8], events: &str, asks: usize) -> Result<bool, Fail> {
+    let call = replayed(Status::NotBuilt { event: 0 }, asks);
+    gives(alloc, &call, image, events.as_bytes(), NOT_BUILT.as_bytes())
+}
+
+#[test]
+fn prints_nothing_before_a_refused_file(rt: HostRuntime) -> Result<(), Fail> {
+    let one_processor = "axp-events 1 cpus 1 budget 1\n";
+    assert!(rt; is_refused(rt.alloc(), &ZEROS, "", 2)?);
+    assert!(rt; is_refused(rt.alloc(), &ZEROS, one_processor, 2)?);
+    assert!(rt; is_refused(rt.alloc(), b"AXPI", LIST_HEADER, 1)?);
+    Ok(())
+}
+
+/// A file one byte longer than an image may be is refused, and the list is not asked for.
+#[test]
+fn refuses_a_long_image(rt: HostRuntime) -> Result<(), Fail> {
+    let long = vec![in rt.alloc(); 0_u8; 33_554_433]?;
+    assert!(rt; is_refused(rt.alloc(), long.as_slice(), LIST_HEADER, 1)?);
+    Ok(())
+}
+
+/// Whether a call over the list of two halts ends so, with this text.
+fn halts_give(alloc: Global, call: &Call, text: &str) -> Result<bool, Fail> {
+    let events = joined(alloc, LIST_HEADER, HALTS)?;
+    gives(alloc, call, &ZEROS, events.as_slice(), text.as_bytes())
+}
+
+#[test]
+fn tells_that_the_desk_failed(rt: HostRuntime) -> Result<(), Fail> {
+    for (words, failing_fetch, asks) in [
+        (REPLAY, 1, 1),
+        (REPLAY, 2, 2),
+        // no list has the name
+        (["replay", "absent", "events"], 0, 1),
+        (["replay", "image", "absent"], 0, 2),
+    ] {
+        let call = Call {
+            words,
+            failing_fetch,
+            ..replayed(Status::ReadFault, asks)
+        };
+        assert!(rt; halts_give(rt.alloc(), &call, READ_FAULT)?);
     }
     Ok(())
 }
 
 #[test]
-fn prints_nothing_before_a_refusal(rt: HostRuntime) -> Result<(), Fail> {
-    let rows = [
-        unknown_words(["replay", "", "events"]),
-        unknown_words(["replay", "image", ""]),
-        unknown_words(["Replay", "image", "events"]),
-        replayed(&ZEROS, "", NOT_BUILT, Status::NotBuilt { event: 0 }),
-        replayed(
-            &ZEROS,
-            "axp-events 1 cpus 1 budget 1\n",
-            NOT_BUILT,
-            Status::NotBuilt { event: 0 },
-        ),
-        Row {
-            asks: 1,
-            ..replayed(
-                b"AXPI",
-                HALT_EVENTS,
-                NOT_BUILT,
-                Status::NotBuilt { event: 0 },
-            )
-        },
-    ];
-    for row in &rows {
-        assert!(rt; gives(rt.alloc(), row)?);
-    }
-    Ok(())
-}
-
-#[test]
-fn tells_who_failed(rt: HostRuntime) -> Result<(), Fail> {
-    let rows = [
-        failing(1, 0, READ_FAULT, Status::ReadFault, 1),
-        failing(2, 0, READ_FAULT, Status::ReadFault, 2),
-        failing(1, 1, "", Status::WriteFault, 1),
-        failing(0, 1, "", Status::WriteFault, 2),
-        failing(0, 2, HALT_HEADER, Status::WriteFault, 2),
-        Row {
-            words: ["replay", "image", "absent"],
-            ..failing(0, 0, READ_FAULT, Status::ReadFault, 2)
-        },
-    ];
-    for row in &rows {
-        assert!(rt; gives(rt.alloc(), row)?);
+fn tells_that_the_sink_failed(rt: HostRuntime) -> Result<(), Fail> {
+    for (failing_fetch, failing_put, text, asks) in [
+        (1, 1, "", 1),
+        (0, 1, "", 2),
+        (0, 2, TEXT_HEADER, 2),
+    ] {
+        let call = Call {
+            failing_fetch,
+            failing_put,
+            ..replayed(Status::WriteFault, asks)
+        };
+        assert!(rt; halts_give(rt.alloc(), &call, text)?);
     }
     Ok(())
 }

@@ -11,6 +11,7 @@ use Rattle.axp_lsu.specs.Keeping.{has_dropped}
 use Rattle.axp_lsu.specs.declared.asks.Ask2.{Ask2}
 use Rattle.axp_lsu.specs.declared.asks.Ask2.TheVariants as ask
 use Rattle.axp_lsu.specs.declared.since.Since.{Since}
+use Rattle.axp_cpu.proofs.ActorLemmas.{steps_left}
 use Rattle.axp_cpu.specs.Actors.{Actor, actor_intent, asked_by, is_built, request_of}
 use Rattle.axp_cpu.specs.Seats.{Seat, is_finished}
 
@@ -46,9 +47,6 @@ IsAllowed (act.Take b) most steps s = Unit {0}
 IsAllowed (act.Drop b line) most steps s = (steps < most) × (has_dropped b s ≡ false)
 IsAllowed act.Poll most steps s = (steps < most) × (s.polled ≡ false)
 IsAllowed act.Tick most steps s = (steps < most) × (s.ticked ≡ false)
-
-steps_left : (s : Seat) → is_finished s ≡ false → s.steps < s.budget
-steps_left s h = leb-false s.budget s.steps (or_parts _ (leb s.budget s.steps) h).1
 
 now_left : (s : Seat) (filled : Bool) → (not (is_finished s) && not filled) ≡ true → (s.steps < s.budget) × (filled ≡ false)
 now_left s filled h =

@@ -28,6 +28,7 @@ use Rattle.axp_lsu.specs.Going as going
 use Rattle.axp_lsu.specs.Going.{after_access, after_line, after_late, after_drain, after_barrier, after_fill, fill_outcome, drain_outcome, after_act, outcome_by, poll_outcome, after_stored, step_outcome, after_step, take_outcome}
 use Rattle.axp_lsu.specs.Keeping.{LocalMemory, with_copies}
 use Rattle.axp_lsu.specs.declared.asks.Ask2.{Ask2}
+use Rattle.axp_lsu.proofs.Makes.{brought-buffer, delivered-buffer, fenced-buffer, filled-buffer, rewritten-buffer, with_copies-buffer}
 use Rattle.axp_model.specs.Legal.{is_timely}
 use Rattle.axp_model.specs.Outcomes.{bank_for}
 use Rattle.axp_laws.proofs.RunFacts.{Fitting}
@@ -39,36 +40,6 @@ use Rattle.axp_world.proofs.PlayedRecords.{actor_other, actor_own, shown}
 use Rattle.axp_world.proofs.BufferEntries.{alike_none}
 pub use Rattle.axp_world.proofs.BufferSteps.{IsBuffered, buffer_agrees}
 use Rattle.axp_world.proofs.BufferSteps.{IsQuiet, barrier_step, drain_step, other_step, quiet_step, write_step}
-
--- copies leave the buffer as it is
-with_copies_buffer : (b : Bank) (cs : List LineCopy) (u : LocalMemory) → (with_copies b cs u).buffer ≡ u.buffer
-with_copies_buffer Even cs u = refl
-with_copies_buffer Odd cs u = refl
-with_copies_buffer Code cs u = refl
-
-brought_buffer : (b : Bank) (line : Line) (t : Option Reply) (u : LocalMemory) → (after_line b line t u).buffer ≡ u.buffer
-brought_buffer b line None u = refl
-brought_buffer b line (Some (reply.Line turn bytes)) u = with_copies_buffer b _ u
-brought_buffer b line (Some _) u = refl
-
-rewritten_buffer : (line : Line) (t : Option Reply) (u : LocalMemory) → (after_stored line t u).buffer ≡ u.buffer
-rewritten_buffer line None u = refl
-rewritten_buffer line (Some (reply.Stored turn bytes)) u = with_copies_buffer (data_bank (line_number line)) _ u
-rewritten_buffer line (Some _) u = refl
-
-fenced_buffer : (t : Option Reply) (u : LocalMemory) → (after_barrier t u).buffer ≡ u.buffer
-fenced_buffer None u = refl
-fenced_buffer (Some (reply.Barrier turn gone)) u = refl
-fenced_buffer (Some _) u = refl
-
-delivered_buffer : (t : Option Reply) (u : LocalMemory) → (after_late t u).buffer ≡ u.buffer
-delivered_buffer None u = refl
-delivered_buffer (Some (reply.Late line turn)) u = with_copies_buffer (data_bank (line_number line)) _ u
-delivered_buffer (Some _) u = refl
-
-filled_buffer : (o : Option Wanted) (t : Option Reply) (u : LocalMemory) → (after_fill o t u).buffer ≡ u.buffer
-filled_buffer None t u = refl
-filled_buffer (Some w) t u = brought_buffer (bank_for w.kind (line_of w.address)) (line_at w.address) t u
 
 -- what such acts show is quiet
 quiet_fill : (o : Option Wanted) (t : Option Reply) → IsQuiet (fill_outcome o t)
@@ -101,11 +72,11 @@ access_step : (k : Kind) (cpu : Cpu) (a s x : ℕ) (t : Option Reply) (u : Local
 access_step kind.Fetch cpu a s x t u e h ok fits was = leaves_buffer e _ h u.buffer u.buffer refl (refl, refl) fits was
 access_step kind.Read cpu a s x t u e h ok fits was = leaves_buffer e _ h u.buffer u.buffer refl (refl, refl) fits was
 access_step kind.Write cpu a s x t u e h ok fits was = write_step (cpu_number e.cpu) e cpu a s x false h u.buffer refl ok fits was
-access_step kind.Locked cpu a s x t u e h ok fits was = leaves_buffer e _ h u.buffer _ (brought_buffer (data_bank (line_of a)) (line_at a) t u) (refl, refl) fits was
-access_step kind.Conditional cpu a s x t u e h ok fits was = leaves_buffer e _ h u.buffer _ (rewritten_buffer (line_at a) t u) (refl, refl) fits was
-access_step kind.Barrier cpu a s x t u e h ok fits was = leaves_buffer e _ h u.buffer _ (fenced_buffer t u) (refl, refl) fits was
+access_step kind.Locked cpu a s x t u e h ok fits was = leaves_buffer e _ h u.buffer _ (brought-buffer (data_bank (line_of a)) (line_at a) t u) (refl, refl) fits was
+access_step kind.Conditional cpu a s x t u e h ok fits was = leaves_buffer e _ h u.buffer _ (rewritten-buffer (line_at a) t u) (refl, refl) fits was
+access_step kind.Barrier cpu a s x t u e h ok fits was = leaves_buffer e _ h u.buffer _ (fenced-buffer t u) (refl, refl) fits was
 access_step kind.WriteBarrier cpu a s x t u e h ok fits was = barrier_step (cpu_number e.cpu) e cpu a s x false _ h u.buffer refl fits was
-access_step kind.CodeBarrier cpu a s x t u e h ok fits was = leaves_buffer e _ h u.buffer _ (fenced_buffer t u) (refl, refl) fits was
+access_step kind.CodeBarrier cpu a s x t u e h ok fits was = leaves_buffer e _ h u.buffer _ (fenced-buffer t u) (refl, refl) fits was
 access_step kind.Signal cpu a s x t u e h ok fits was = leaves_buffer e _ h u.buffer u.buffer refl (refl, refl) fits was
 access_step kind.Console cpu a s x t u e h ok fits was = leaves_buffer e _ h u.buffer u.buffer refl (refl, refl) fits was
 access_step kind.Poll cpu a s x t u e h ok fits was = leaves_buffer e _ h u.buffer u.buffer refl (refl, refl) fits was
@@ -142,17 +113,17 @@ drained_step : (k : ℕ) (o : Option Pending) (t : Option Reply) (u : LocalMemor
     → IsBuffered (cpu_number e.cpu) (by_event e (drain_outcome o t) ∷ h) (after_drain k o t u).buffer
 drained_step k None t u q e h at is fits was = cc
 drained_step k (Some f) t u q e h at is fits was =
-    subst (λ b. IsBuffered (cpu_number e.cpu) (by_event e (drain_outcome (Some f) t) ∷ h) b) (sym (rewritten_buffer (line_numbered f.line) t (record u { buffer = without k u.buffer })))
+    subst (λ b. IsBuffered (cpu_number e.cpu) (by_event e (drain_outcome (Some f) t) ∷ h) b) (sym (rewritten-buffer (line_numbered f.line) t (record u { buffer = without k u.buffer })))
     (drain_step (cpu_number e.cpu) k e f (line_numbered f.line) (going.turn_in t) h u.buffer refl at fits was)
 
 -- each act
 act_step : (a : Act) (cpu : Cpu) (i : Intent) (t : Option Reply) (u : LocalMemory) (q : Ask2) (e : Event) (h : List Record) → act_ask a i u ≡ Some q → Fitting (by_event e (outcome_by a cpu i u t) ∷ h) → IsBuffered (cpu_number e.cpu) h u.buffer
     → IsBuffered (cpu_number e.cpu) (by_event e (outcome_by a cpu i u t) ∷ h) (after_act a i t u).buffer
 act_step act.Step cpu i t u q e h is fits was = step_step i.wanted i.boundary i.lock_flag cpu t u q e h is fits was
-act_step act.Fill cpu i t u q e h is fits was = leaves_buffer e _ h u.buffer _ (filled_buffer i.wanted t u) (quiet_fill i.wanted t) fits was
+act_step act.Fill cpu i t u q e h is fits was = leaves_buffer e _ h u.buffer _ (filled-buffer i.wanted t u) (quiet_fill i.wanted t) fits was
 act_step (act.Drain k) cpu i t u q e h is fits was = drained_step k (slice_get (oldest_group u.buffer.kept) k) t u q e h refl is fits was
-act_step (act.Take b) cpu i t u q e h is fits was = leaves_buffer e _ h u.buffer _ (delivered_buffer t u) (quiet_take u t) fits was
-act_step (act.Drop b line) cpu i t u q e h is fits was = leaves_buffer e _ h u.buffer _ (with_copies_buffer b _ u) tt fits was
+act_step (act.Take b) cpu i t u q e h is fits was = leaves_buffer e _ h u.buffer _ (delivered-buffer t u) (quiet_take u t) fits was
+act_step (act.Drop b line) cpu i t u q e h is fits was = leaves_buffer e _ h u.buffer _ (with_copies-buffer b _ u) tt fits was
 act_step act.Poll cpu i t u q e h is fits was = leaves_buffer e _ h u.buffer u.buffer refl (quiet_poll i.takes_interrupts t) fits was
 act_step act.Tick cpu i t u q e h is fits was = leaves_buffer e _ h u.buffer u.buffer refl tt fits was
 

@@ -8,6 +8,7 @@ use Rattle.axp_cpu.specs.Plans.{Plan, End, Want, Unbuilt, along, given, is_built
 use Rattle.axp_cpu.specs.Rows.{group}
 use Rattle.axp_cpu.specs.Seats.{Seat, is_built_after, plan_is_built_after, seat_at_plan, plan_now, seat_after_value, wanted_by}
 use Rattle.axp_cpu.proofs.AnswerLemmas.{leads_same}
+use Rattle.axp_cpu.proofs.SeatLemmas.{along-more}
 use Rattle.axp_line.specs.declared.messages.Reply.{Reply}
 use Rattle.axp_lsu.specs.Going.{value_of}
 use Rattle.axp_lsu.specs.declared.asks.Ask2.{Ask2}
@@ -18,10 +19,6 @@ abbrev pub WantsWithin : Seat → Type 0
 WantsWithin s = is_empty s.values ≡ false → is_some (wanted_by (plan_now s)) ≡ true
 
 -- a plan goes on
-along_more : (vs : List ℕ) (v : ℕ) (p : Plan) → along (vs ++ v ∷ []) p ≡ given v (along vs p)
-along_more [] v p = refl
-along_more (x ∷ vs) v p = along_more vs v (given x p)
-
 given_built : (v : ℕ) (p : Plan) → plan_is_built_after v p ≡ true → is_built (given v p) ≡ true
 given_built v (End t) built = cc
 given_built v (Want w k) built = built
@@ -35,7 +32,7 @@ moved_wants s vs Unbuilt is built = cc
 stepped_wants : (s : Seat) (v : ℕ) → is_built_after s v ≡ true → WantsWithin (seat_after_value s v)
 stepped_wants s v built =
     let vs : List ℕ = s.values ++ v ∷ [] in
-    moved_wants s vs (along vs (group s.size s.start)) refl (ap is_built (along_more s.values v (group s.size s.start)) ∙ given_built v (plan_now s) built)
+    moved_wants s vs (along vs (group s.size s.start)) refl (ap is_built (along-more s.values v (group s.size s.start)) ∙ given_built v (plan_now s) built)
 
 moved_by_wants : (o : Option Wanted) (a : Actor) (t : Option Reply) → (actor_intent a).wanted ≡ o → step_built o a ≡ true → WantsWithin (moved_by o t a)
 moved_by_wants None a t wants built = cc

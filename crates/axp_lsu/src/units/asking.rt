@@ -1,15 +1,14 @@
-ghost use Rattle.std.specs.Prelude.{ℕ, ◌≡◌, ◌+◌, ◌≤◌, ◌++◌, if◌then◌else◌, length, slice_get, IfSome, Some, None};
+ghost use Rattle.std.specs.Prelude.{ℕ, ◌≡◌, ◌+◌, ◌≤◌, ◌++◌, if◌then◌else◌, length, IfSome, Some, None};
 ghost use Rattle.axp_lsu.specs.declared.asks.Ask2.TheVariants.{Private};
 ghost use Rattle.std.specs.List.{AllByRecursion};
 ghost use Rattle.axp_base.specs.Cpus.{cpu_of};
 ghost use Rattle.axp_base.specs.Lines.{line_number};
 ghost use Rattle.axp_line.specs.declared.messages.TheConstants.{MAX_HELD};
-ghost use Rattle.axp_wbuf.specs.Drains.{oldest_group};
 ghost use Rattle.axp_model.specs.Legal.{is_timely};
 ghost use Rattle.axp_base.specs.Lines.{line_at};
-ghost use Rattle.axp_lsu.specs.Asking.{is_ready, signal_to, access_ask, step_ask, fill_for, fill_ask, drain_ask, take_ask, act_ask, ask_of};
+ghost use Rattle.axp_lsu.specs.Asking.{access_ask, act_ask, ask_of, drain_ask, fill_ask, fill_for, is_ready, signal_to, step_ask, take_ask};
 ghost use Rattle.axp_lsu.specs.Fitting.{IsWithinSome};
-ghost use Rattle.axp_lsu.specs.Keeping.{addressed, copies_of, data_copies, has_dropped, held_pairs};
+ghost use Rattle.axp_lsu.specs.Keeping.{addressed, entry_at, has_dropped, held_pairs};
 ghost use Rattle.axp_lsu.specs.Within.{IsAskWithin, IsKeptWithin, IsSmall, IsWantedWithin};
 
 use super::{Lsu, line_at};
@@ -20,12 +19,13 @@ use axp_line::{Held, Request};
 use axp_regs::Kind;
 
 impl Lsu {
-    /// What an act asks; `None` exactly where it is not legal, but for a take where nothing is late,
-    /// which the bus alone knows.
+    /// What an act asks; `None` exactly where it is not legal, but for a take where nothing is
+    /// late, which the bus alone knows.
     pub fn ask(&self, act: Act, intent: &Intent) -> Option<Ask2>
         requires { IsWithinSome self.now }
         ensures value { result ≡ ask_of act intent.now self.now }
-        ensures within { (size : ℕ) → IsKeptWithin size self.now → IsWantedWithin size intent.now.wanted → IfSome result (IsAskWithin size) }
+        ensures within { (size : ℕ) → IsKeptWithin size self.now
+            → IsWantedWithin size intent.now.wanted → IfSome result (IsAskWithin size) }
     {
         self.legal_ask(act, intent)
     }
@@ -68,7 +68,8 @@ impl Lsu {
     /// A step makes the wanted access, or none at a boundary that wants none.
     fn step_ask(&self, intent: &Intent) -> Option<Ask2>
         requires { IsWithinSome self.now }
-        ensures { result ≡ step_ask intent.now.boundary intent.now.wanted intent.now.lock_flag self.now }
+        ensures { result
+            ≡ step_ask intent.now.boundary intent.now.wanted intent.now.lock_flag self.now }
     {
         match &intent.wanted {
             None => private_if(intent.boundary),
@@ -175,7 +176,7 @@ impl Lsu {
 
     /// A drain writes an entry of the oldest group to memory.
     fn drain_ask(&self, k: u8) -> Option<Ask2>
-        ensures { result ≡ drain_ask (slice_get (oldest_group self.now.buffer.kept) k) }
+        ensures { result ≡ drain_ask (entry_at k self.now) }
     {
         if k >= self.buffer.drains() {
             return None;

@@ -1,17 +1,16 @@
-ghost use Rattle.std.specs.Prelude.{ℕ, ◌≡◌, ◌+◌, ◌/◌, ◌%◌, ◌^◌, ◌<◌, ◌≤◌, true, length, max, slice_get, Some};
-ghost use Rattle.axp_base.specs.Lines.{line_number, data_bank};
+ghost use Rattle.std.specs.Prelude.{ℕ, ◌≡◌, ◌+◌, ◌%◌, ◌^◌, ◌<◌, ◌≤◌, true, length, Some};
+ghost use Rattle.axp_base.specs.Lines.{line_number};
 ghost use Rattle.axp_base.specs.Masks.{IsSize};
-ghost use Rattle.axp_bank.specs.Copies.{copy_of, stamp_of, has_older, put, refreshed, invalidated, dropped};
 ghost use Rattle.axp_access.specs.declared.Act.TheVariants.{Step};
 ghost use Rattle.axp_access.specs.declared.Place.TheVariants.{Entry};
 ghost use Rattle.axp_wbuf.specs.Drains.{oldest_group};
 ghost use Rattle.axp_model.specs.Outcomes.{bank_for};
 ghost use Rattle.axp_base.specs.Lines.{line_of, line_at};
-ghost use Rattle.axp_wbuf.specs.Pending.{takes, stored, store_number};
+ghost use Rattle.axp_wbuf.specs.Pending.{store_number, takes};
 ghost use Rattle.axp_lsu.specs.Asking.{act_ask, ask_of, is_ready};
-ghost use Rattle.axp_lsu.specs.Fitting.{ReplyFits, IsWantedInSome, ShowsFitting, WantsFitting};
-ghost use Rattle.axp_lsu.specs.Going.{after_access, advanced, after_line, after_late, drain_outcome, after_drain, after_barrier, after_fill, fill_outcome, after_act, outcome_by, outcome_of, place_by, poll_outcome, after_stored, stamp_or_none, step_outcome, after_step, success_by, take_outcome, turn_in};
-ghost use Rattle.axp_lsu.specs.Keeping.{copies_of, data_copies, nothing, with_copies, with_drop};
+ghost use Rattle.axp_lsu.specs.Fitting.{IsWantedInSome, ReplyFits, ShowsFitting, WantsFitting};
+ghost use Rattle.axp_lsu.specs.Going.{after_access, advanced, after_late, drain_outcome, after_drain, fill_outcome, after_fill, outcome_of, place_by, poll_outcome, read_place, step_outcome, after_step, success_by, take_outcome, turn_in, with_stored};
+ghost use Rattle.axp_lsu.specs.Keeping.{entry_at, nothing, with_fill};
 ghost use Rattle.axp_lsu.specs.Within.{IsKeptWithin, IsWantedWithin};
 
 use super::values::is_stored;
@@ -32,7 +31,8 @@ impl Lsu {
         ensures outcome { result ≡ outcome_of act cpu intent.now self.old reply }
         ensures fits { WantsFitting intent.now.wanted → ShowsFitting result }
         ensures kept { self.new ≡ advanced act intent.now reply self.old }
-        ensures within { (size : ℕ) → IsKeptWithin size self.old → IsWantedWithin size intent.now.wanted → IsKeptWithin size self.new }
+        ensures within { (size : ℕ) → IsKeptWithin size self.old
+            → IsWantedWithin size intent.now.wanted → IsKeptWithin size self.new }
         ensures one_more { self.new.buffer.made ≤ self.old.buffer.made + 1 }
     {
         self.go_on(act, cpu, intent, reply)
@@ -74,7 +74,8 @@ impl Lsu {
         requires few_made { self.old.buffer.made + 1 < 2 ^ 32 }
         ensures outcome { result ≡ step_outcome cpu intent.now.wanted self.old reply }
         ensures fits { WantsFitting intent.now.wanted → ShowsFitting result }
-        ensures kept { self.new ≡ record (after_step intent.now.wanted reply self.old) { since = nothing } }
+        ensures kept { self.new
+            ≡ record (after_step intent.now.wanted reply self.old) { since = nothing } }
     {
         let outcome = match &intent.wanted {
             None => Outcome::NoAccess,
@@ -111,7 +112,8 @@ impl Lsu {
         requires is_ready { is_ready wanted.now.kind (line_of wanted.now.address) self.old ≡ true }
         requires wanted { IsWantedInSome (Some wanted.now) }
         requires few_made { self.old.buffer.made + 1 < 2 ^ 32 }
-        ensures place { result ≡ place_by wanted.now.kind (line_of wanted.now.address) self.old reply }
+        ensures place { result
+            ≡ place_by wanted.now.kind (line_of wanted.now.address) self.old reply }
         ensures kept { self.new ≡ after_access wanted.now.kind wanted.now reply self.old }
     {
         let line = line_at(wanted.address);
@@ -144,10 +146,10 @@ impl Lsu {
         }
     }
 
-    /// Where a plain read of this line stands: just after the later of its copy's stamp and the last
-    /// barrier.
+    /// Where a plain read of this line stands: just after the later of its copy's stamp and the
+    /// last barrier.
     fn read_place(&self, line: Line) -> u64
-        ensures { result ≡ max (stamp_or_none (stamp_of (line_number line) (data_copies (line_number line) self.now))) self.now.barrier }
+        ensures { result ≡ read_place (line_number line) self.now }
     {
         let stamp = match self.data(line).get(line) {
             None => 0,
@@ -163,7 +165,7 @@ impl Lsu {
         requires aligned { wanted.now.address % wanted.now.size ≡ 0 }
         requires few_made { self.old.buffer.made + 1 < 2 ^ 32 }
         ensures place { result ≡ Entry (store_number (line_of wanted.now.address) self.old.buffer) }
-        ensures kept { self.new ≡ record self.old { buffer = stored wanted.now.address wanted.now.size wanted.now.value self.old.buffer } }
+        ensures kept { self.new ≡ with_stored wanted.now self.old }
     {
         match self.buffer.store(wanted.address, wanted.size, wanted.value) {
             Ok(number) => Place::Entry(number),
@@ -172,61 +174,11 @@ impl Lsu {
         }
     }
 
-    /// A line comes from the bus: its copy is put into the bank, or refreshed where it is held.
-    fn bring(&mut self, bank: Bank, line: Line, reply: Option<Reply>)
-        ensures { self.new ≡ after_line bank line reply self.old }
-    {
-        if let Some(Reply::Line { turn, bytes }) = reply {
-            self.put(bank, line, turn, bytes);
-        }
-    }
-
-    fn put(&mut self, bank: Bank, line: Line, turn: u64, bytes: LineData)
-        ensures { self.new ≡ with_copies bank (put (copy_of line turn bytes) (copies_of bank self.old)) self.old }
-    {
-        // a full bank stays as it is, and a line is asked for only where there is room
-        let _ = match bank {
-            Bank::Even => self.even.put(line, turn, bytes),
-            Bank::Odd => self.odd.put(line, turn, bytes),
-            Bank::Code => self.code.put_at(line, turn, bytes),
-        };
-    }
-
-    /// A line was written to memory: its data copy, if there is one, is now the line as written.
-    fn rewrite(&mut self, line: Line, reply: Option<Reply>)
-        ensures { self.new ≡ after_stored line reply self.old }
-    {
-        if let Some(Reply::Stored { turn, bytes }) = reply {
-            self.refresh(line, turn, bytes);
-        }
-    }
-
-    fn refresh(&mut self, line: Line, turn: u64, bytes: LineData)
-        ensures { self.new ≡ with_copies (data_bank (line_number line)) (refreshed (copy_of line turn bytes) (data_copies (line_number line) self.old)) self.old }
-    {
-        if in_even(line) {
-            self.even.refresh(line, turn, bytes);
-        } else {
-            self.odd.refresh(line, turn, bytes);
-        }
-    }
-
-    /// A barrier delivers all that was late: the bits are of bank `d0`'s copies, and then of `d1`'s.
-    fn fence(&mut self, reply: Option<Reply>)
-        ensures { self.new ≡ after_barrier reply self.old }
-    {
-        if let Some(Reply::Barrier { turn, gone }) = reply {
-            let even = self.even.len();
-            self.even.spare(gone);
-            self.odd.spare(gone >> even);
-            self.barrier = turn;
-        }
-    }
-
     /// Copies the line of a wanted fetch or plain read into its bank.
     fn fill(&mut self, intent: &Intent, reply: Option<Reply>) -> Outcome
         ensures outcome { result ≡ fill_outcome intent.now.wanted reply }
-        ensures kept { self.new ≡ record (after_fill intent.now.wanted reply self.old) { since = record self.old.since { filled = true } } }
+        ensures kept { self.new
+            ≡ record (after_fill intent.now.wanted reply self.old) { since = with_fill self.old.since } }
     {
         self.since.filled = true;
         match &intent.wanted {
@@ -247,8 +199,8 @@ impl Lsu {
     /// An entry of the oldest group leaves for memory.
     fn drain(&mut self, k: u8, reply: Option<Reply>) -> Outcome
         requires { k < length (oldest_group self.old.buffer.kept) }
-        ensures outcome { result ≡ drain_outcome (slice_get (oldest_group self.old.buffer.kept) k) reply }
-        ensures kept { self.new ≡ after_drain k (slice_get (oldest_group self.old.buffer.kept) k) reply self.old }
+        ensures outcome { result ≡ drain_outcome (entry_at k self.old) reply }
+        ensures kept { self.new ≡ after_drain k (entry_at k self.old) reply self.old }
     {
         let (entry, line, _, _) = self.buffer.oldest(k);
         self.buffer.remove(k);
@@ -272,37 +224,6 @@ impl Lsu {
                 gone: self.invalidate(line, turn),
             },
             _ => Outcome::NoAccess,
-        }
-    }
-
-    fn invalidate(&mut self, line: Line, turn: u64) -> bool
-        ensures gone { result ≡ has_older (line_number line) turn (data_copies (line_number line) self.old) }
-        ensures kept { self.new ≡ with_copies (data_bank (line_number line)) (invalidated (line_number line) turn (data_copies (line_number line) self.old)) self.old }
-    {
-        if in_even(line) {
-            self.even.invalidate(line, turn)
-        } else {
-            self.odd.invalidate(line, turn)
-        }
-    }
-
-    /// Gives up the bank's copy of a line.
-    fn give_up(&mut self, bank: Bank, line: Line)
-        ensures { self.new ≡ record (with_copies bank (dropped (line_number line) (copies_of bank self.old)) self.old) { since = with_drop bank self.old.since } }
-    {
-        match bank {
-            Bank::Even => {
-                self.even.drop_line(line);
-                self.since.dropped_even = true;
-            }
-            Bank::Odd => {
-                self.odd.drop_line(line);
-                self.since.dropped_odd = true;
-            }
-            Bank::Code => {
-                self.code.drop_line(line);
-                self.since.dropped_code = true;
-            }
         }
     }
 }

@@ -4,7 +4,7 @@ ghost use Rattle.axp_base.specs.Parts.{part};
 ghost use Rattle.axp_base.specs.declared.lines.TheConstants.{LINE_BYTES};
 ghost use Rattle.axp_line.specs.Lines.{bytes_of_line};
 ghost use Rattle.axp_lsu.specs.Fitting.{FitsSize, IsWantedInSome};
-ghost use Rattle.axp_lsu.specs.Going.{fetched_value, is_stored, locked_value, read_value, shown_by, value_of};
+ghost use Rattle.axp_lsu.specs.Going.{fetched_value, found_by, is_stored, locked_value, read_value, shown_by, value_of};
 
 use super::Lsu;
 use axp_access::Wanted;
@@ -20,9 +20,7 @@ impl Lsu {
         ensures { result ≡ value_of wanted.now self.now reply }
     {
         match wanted.kind {
-            Kind::Fetch => self.fetched(wanted),
-            Kind::Read => self.read(wanted),
-            Kind::Locked => locked(wanted, reply),
+            Kind::Fetch | Kind::Read | Kind::Locked => self.found(wanted, reply),
             Kind::Conditional => u64::from(is_stored(reply)),
             Kind::Write
             | Kind::Barrier
@@ -38,13 +36,26 @@ impl Lsu {
     pub(super) fn shown(&self, wanted: &Wanted, reply: Option<Reply>) -> u64
         requires { IsWantedInSome (Some wanted.now) }
         ensures value { result ≡ shown_by wanted.now.kind wanted.now self.now reply }
-        ensures fits { FitsSize wanted.now.kind wanted.now.size wanted.now.value → FitsSize wanted.now.kind wanted.now.size result }
+        ensures fits { FitsSize wanted.now.kind wanted.now.size wanted.now.value
+            → FitsSize wanted.now.kind wanted.now.size result }
+    {
+        match wanted.kind {
+            Kind::Fetch | Kind::Read | Kind::Locked => self.found(wanted, reply),
+            _ => wanted.value,
+        }
+    }
+
+    /// What a fetch or a plain read finds in its bank, and a load-locked in memory.
+    fn found(&self, wanted: &Wanted, reply: Option<Reply>) -> u64
+        requires sized { IsSize wanted.now.size }
+        requires aligned { wanted.now.address % wanted.now.size ≡ 0 }
+        ensures value { result ≡ found_by wanted.now.kind wanted.now self.now reply }
+        ensures small { result < 2 ^ (8 * wanted.now.size) }
     {
         match wanted.kind {
             Kind::Fetch => self.fetched(wanted),
             Kind::Read => self.read(wanted),
-            Kind::Locked => locked(wanted, reply),
-            _ => wanted.value,
+            _ => locked(wanted, reply),
         }
     }
 
@@ -107,7 +118,8 @@ pub(super) fn is_stored(reply: Option<Reply>) -> bool
 fn part_of(bytes: &LineData, wanted: &Wanted) -> u64
     requires sized { IsSize wanted.now.size }
     requires aligned { wanted.now.address % wanted.now.size ≡ 0 }
-    ensures value { result ≡ part (bytes_of_line bytes.now) (wanted.now.address % LINE_BYTES) wanted.now.size }
+    ensures value { result
+        ≡ part (bytes_of_line bytes.now) (wanted.now.address % LINE_BYTES) wanted.now.size }
     ensures small { result < 2 ^ (8 * wanted.now.size) }
 {
     bytes.get((wanted.address % LINE_BYTES) as u8, wanted.size)

@@ -1,5 +1,5 @@
 //! How a list of events that was worked out by hand from the rules of the machine is tried.
-use super::prints;
+use super::{gives, replayed};
 use crate::Status;
 use std::alloc::Global;
 use std::test::Fail;
@@ -13,9 +13,11 @@ pub struct Worked {
     pub pointer: Option<u64>,
     /// The budget of each processor's steps, as a header has it.
     pub budget: &'static str,
-    /// The whole text; each of its event lines begins with its event.
-    pub text: &'static str,
-    /// The lines of the list behind those events.
+    /// The first lines behind the header, which other lists may share; each begins with its event.
+    pub start: &'static str,
+    /// The lines behind these, to the end.
+    pub rest: &'static str,
+    /// The lines of the list behind the events that are printed.
     pub more: &'static str,
     pub status: Status,
 }
@@ -24,17 +26,19 @@ pub struct Worked {
 pub fn holds(alloc: Global, worked: &Worked) -> Result<bool, Fail> {
     let image = image(alloc, worked)?;
     let events = events(alloc, worked)?;
-    prints(
+    let text = text(alloc, worked)?;
+    let call = replayed(worked.status, 2);
+    gives(
         alloc,
+        &call,
         image.as_slice(),
         events.as_slice(),
-        worked.text,
-        worked.status,
+        text.as_slice(),
     )
 }
 
-/// The image file: four pages of memory, the program at 0x2000, where every processor starts, the stack's
-/// address 0x4000, and there the pointer.
+/// The image file: four pages of memory, the program at 0x2000, where every processor starts, the
+/// stack's address 0x4000, and there the pointer.
 fn image(alloc: Global, worked: &Worked) -> Result<Vec<u8>, Fail> {
     let mut file = Vec::new(alloc);
     let segments = if worked.pointer.is_some() { 2 } else { 1 };
@@ -64,12 +68,25 @@ fn events(alloc: Global, worked: &Worked) -> Result<Vec<u8>, Fail> {
     list.extend_from_slice(b"axp-events 1 cpus 2 budget ")?;
     list.extend_from_slice(worked.budget.as_bytes())?;
     list.extend_from_slice(b"\n")?;
-    for line in worked.text.lines() {
-        if let Some((event, _)) = line.split_once(" : ") {
-            list.extend_from_slice(event.as_bytes())?;
-            list.extend_from_slice(b"\n")?;
+    for part in [worked.start, worked.rest] {
+        for line in part.lines() {
+            if let Some((event, _)) = line.split_once(" : ") {
+                list.extend_from_slice(event.as_bytes())?;
+                list.extend_from_slice(b"\n")?;
+            }
         }
     }
     list.extend_from_slice(worked.more.as_bytes())?;
     Ok(list)
+}
+
+/// The whole text.
+fn text(alloc: Global, worked: &Worked) -> Result<Vec<u8>, Fail> {
+    let mut text = Vec::new(alloc);
+    text.extend_from_slice(b"axp-trace 1 cpus 2 budget ")?;
+    text.extend_from_slice(worked.budget.as_bytes())?;
+    text.extend_from_slice(b" memory 32768\n")?;
+    text.extend_from_slice(worked.start.as_bytes())?;
+    text.extend_from_slice(worked.rest.as_bytes())?;
+    Ok(text)
 }

@@ -1,5 +1,6 @@
 use Rattle.std.proofs.Common.{ap}
 use Rattle.axp_cpu.specs.Seats.{Seat}
+use Rattle.axp_cpu.proofs.RegisterLemmas.{seat_in_has}
 use Rattle.axp_cpu.proofs.ShowingLemmas.{flag_shown, goes_on_after, goes_on_shown, none_stored, others_stay, register_shown}
 use Rattle.axp_cpu.proofs.laws.registers_get_what_is_shown.Goals as goal
 
@@ -20,3 +21,6 @@ returns-clause-ends c = λ s op a x is. ap (λ (q : Seat). q.values) (goes_on_sh
 
 pub returns-clause-next : goal.returns-clause-next
 returns-clause-next c = goes_on_after
+
+pub returns-clause-whole : goal.returns-clause-whole
+returns-clause-whole c = seat_in_has

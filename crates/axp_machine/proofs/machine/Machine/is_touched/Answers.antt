@@ -1,4 +1,5 @@
 use Rattle.std.proofs.Common.{◌≡◌, subst}
+use Rattle.axp_bus.proofs.StandLemmas.{touched_is}
 use Rattle.axp_world.specs.Worlds.{image_bytes}
 use Rattle.axp_machine.specs.Runs.{Seen, touches, world_of}
 use Rattle.axp_machine.specs.Ties.{seen}
@@ -7,6 +8,7 @@ use Rattle.axp_machine.proofs.machine.Machine.is_touched.Goals as goal
 
 pub returns : goal.returns
 returns c =
+    let m = seen c.self.inside in
+    let told = touched_is c.self.inside.bus (image_bytes m.image) (world_of m).calls c.args.quadword c.is_touched.result c.self.invariant.bus c.is_touched.ensures in
     subst (λ (m : Seen). c.is_touched.result ≡ touches m c.args.quadword) c.self.view_is
-    (touched_shown (seen c.self.inside) c.args.quadword c.is_touched.result c.self.invariant.valid c.self.invariant.run
-    (c.is_touched.ensures (image_bytes c.self.inside.image) (world_of (seen c.self.inside)).calls c.self.invariant.bus))
+    (touched_shown m c.args.quadword c.is_touched.result c.self.invariant.valid c.self.invariant.run told)
