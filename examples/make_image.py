@@ -12,7 +12,7 @@ memory, displacements, literals and the registers' numbers, which are decimal.
   name:                     names the address of the next word, for branches
   STQ R1, 64(R30)           an instruction, as docs/TABLES.md names it; /V forms have a V at the end
 
-The operands are: memory format Ra, displacement(Rb); branches Ra, name or address; operate format Ra, Rb, Rc
+The operands are: memory format Ra, displacement(Rb); branches Ra, and a name or an address of 4 digits or more; operate format Ra, Rb, Rc
 or Ra, #literal, Rc; jumps Ra, (Rb); RPCC Ra; CALL_PAL the call's name. The others of opcode 18 have none.
 """
 
@@ -53,6 +53,12 @@ def number_of_register(text):
     return int(text[1:])
 
 
+def target_of(text, labels):
+    if text not in labels and not re.fullmatch(r"[0-9A-F]{4,}", text):
+        raise ValueError(f"{text} is neither a name nor an address")
+    return labels[text] if text in labels else int(text, 16)
+
+
 def word_of(name, operands, address, labels):
     """The word of an instruction that stands at an address."""
     if name in MEMORY:
@@ -62,8 +68,8 @@ def word_of(name, operands, address, labels):
         return (MEMORY[name] << 26 | number_of_register(a) << 21 | number_of_register(base) << 16
                 | int(displacement) & 0xFFFF)
     if name in BRANCH:
-        target = labels[operands[1]] if operands[1] in labels else int(operands[1], 16)
-        return BRANCH[name] << 26 | number_of_register(operands[0]) << 21 | (target - address - 4) // 4 & 0x1FFFFF
+        words = (target_of(operands[1], labels) - address - 4) // 4
+        return BRANCH[name] << 26 | number_of_register(operands[0]) << 21 | words & 0x1FFFFF
     if name in JUMP:
         base = number_of_register(operands[1].strip("()"))
         return 0x1A << 26 | number_of_register(operands[0]) << 21 | base << 16 | JUMP[name] << 14
