@@ -4,12 +4,10 @@
 ghost use Rattle.std.specs.Prelude.{◌≡◌, IfOk, IfErr, OnErr, IfSome};
 ghost use Rattle.std.specs.IoError.{error_kind};
 ghost use Rattle.std.specs.Process.{exit_status};
-ghost use Rattle.axp_top.specs.Answers.{answer_of, asks_of};
-ghost use Rattle.axp_top.specs.Statuses.{AsksFront, DeskCount, Settles, SinkCount};
-ghost use Rattle.axp_top.specs.Statuses.{number_of_status};
+ghost use Rattle.axp_top.specs.Outside.{outside_at};
 ghost use Rattle.axp_top.specs.Words.{order_of};
-ghost use Rattle.axp_top.specs.declared.status.Status.{Status};
 ghost use Rattle.axp_program.specs.Numbers.{IsExitNumber, number_without_words};
+ghost use Rattle.axp_program.specs.Served.{IsServed};
 
 use axp_base::NoMemory;
 use axp_io::{Desk, FileDesk, OutSink, Sink};
@@ -41,16 +39,10 @@ fn serve_words<D: Desk, K: Sink>(
     desk: &mut D,
     sink: &mut K,
 ) -> u8
-    // The number is that of a status, and the text and the counts are those of the words and of
-    // this status.
-    ensures served { IfOk words (λ words. (status : Status) × (result ≡ number_of_status status)
-        × IfSome (answer_of (order_of words.items) (D.told desk.old))
-        (λ answer. Settles (K.taken sink.old) (K.taken sink.new)
-        (D.faults desk.old) (D.faults desk.new) answer status)
-        × SinkCount (K.faults sink.old) (K.faults sink.new) status
-        × DeskCount (D.faults desk.old) (D.faults desk.new) status) }
-    ensures asks { IfOk words (λ words. AsksFront (D.asks desk.old) (D.asks desk.new)
-        (asks_of (order_of words.items))) }
+    // The number is that of a status, and the top call's promises hold with this status.
+    ensures served { let at = outside_at D.faults D.asks K.taken K.faults K.puts in
+        IfOk words (λ words. IsServed (D.told desk.old) (at desk.old sink.old)
+        (at desk.new sink.new) (order_of words.items) result) }
     ensures no_words { IfErr words (λ error. result ≡ number_without_words (error_kind error)) }
     ensures nothing_asked { OnErr words (D.asks desk.new ≡ D.asks desk.old) }
     ensures nothing_put { OnErr words (K.puts sink.new ≡ K.puts sink.old) }
