@@ -65,8 +65,8 @@ pub struct Wanted {
     pub address: u64,
     /// The number of bytes, 1, 2, 4 or 8; 4 for a fetch.
     pub size: u8,
-    /// The bytes to be stored as a little-endian number, the processor that a signal goes to, or the
-    /// byte that is sent to the console; else 0.
+    /// The bytes to be stored as a little-endian number, the processor that a signal goes to, or
+    /// the byte that is sent to the console; else 0.
     pub value: u64,
 }
 

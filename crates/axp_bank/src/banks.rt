@@ -1,8 +1,11 @@
-ghost use Rattle.std.specs.Prelude.{◌≡◌, ◌<◌, ◌≤◌, [], length, slice_set, not, false, is_ok, is_none, OnErr};
+ghost use Rattle.std.specs.Prelude.{◌≡◌, ◌<◌, ◌≤◌, [], length, slice_set, not, false, is_ok};
+ghost use Rattle.std.specs.Prelude.{is_none, OnErr};
 ghost use Rattle.std.specs.List.{position};
 ghost use Rattle.std.specs.Option.{option_map};
 ghost use Rattle.axp_base.specs.Lines.{line_number};
-ghost use Rattle.axp_bank.specs.Copies.{Whole, copy_of, line_of, is_of, is_held, get_of, has_older, has_room, put, refreshed, inserted, invalidated, dropped, held_lines, spared};
+ghost use Rattle.axp_bank.specs.Copies.{Whole, copy_of, line_of, is_of, is_held, get_of, has_older};
+ghost use Rattle.axp_bank.specs.Copies.{has_room, put, refreshed, inserted, invalidated, dropped};
+ghost use Rattle.axp_bank.specs.Copies.{held_lines, spared};
 ghost use Rattle.axp_bank.specs.Places.{PlaceOf, IsPlace, IsPlaceFor, is_above};
 ghost use Rattle.axp_base.specs.declared.limits.TheConstants.{BANK_COPIES};
 
@@ -12,8 +15,8 @@ use axp_base::{BANK_COPIES, Line};
 use axp_line::{LineData, NoRoom};
 use std::marker::Model;
 
-/// A data bank: at most [`BANK_COPIES`] copies of lines, of each line at most one, seen as the list of
-/// its copies in ascending order of lines.
+/// A data bank: at most [`BANK_COPIES`] copies of lines, of each line at most one, seen as the list
+/// of its copies in ascending order of lines.
 #[derive(Drop)]
 pub struct CopyBank {
     copies: ArrayVec<LineCopy, BANK_COPIES>,
@@ -44,7 +47,8 @@ impl CopyBank {
 
     /// The stamp and the data of the copy of a line; `None` exactly where the line is not held.
     pub fn get(&self, line: Line) -> Option<(u64, &LineData)>
-        ensures value { option_map (λ r. (r.0, r.1.now)) result ≡ get_of (line_number line) self.now }
+        ensures value { option_map (λ r. (r.0, r.1.now)) result
+            ≡ get_of (line_number line) self.now }
         ensures none { is_none result ≡ not (is_held (line_number line) self.now) }
     {
         match place_of(&self.copies, line) {
@@ -81,8 +85,8 @@ impl CopyBank {
         self.holds(line) || self.len() < BANK_COPIES
     }
 
-    /// Keeps this copy, in place of the one of its line or beside the others; [`NoRoom`] exactly where
-    /// the line is not held and [`BANK_COPIES`] other lines are, and then nothing changes.
+    /// Keeps this copy, in place of the one of its line or beside the others; [`NoRoom`] exactly
+    /// where the line is not held and [`BANK_COPIES`] other lines are, and then nothing changes.
     #[tactic(auto, unfolding(crate::specs::Copies::put))]
     pub fn put(&mut self, line: Line, stamp: u64, bytes: LineData) -> Result<(), NoRoom>
         ensures answer { is_ok result ≡ has_room (line_number line) self.old }
@@ -110,7 +114,8 @@ impl CopyBank {
         }
     }
 
-    /// Removes the copy of a line exactly where its stamp is less than the turn, and tells whether it did.
+    /// Removes the copy of a line exactly where its stamp is less than the turn, and tells whether
+    /// it did.
     #[tactic(auto, unfolding(crate::specs::Copies::invalidated))]
     pub fn invalidate(&mut self, line: Line, turn: u64) -> bool
         ensures told { result ≡ has_older (line_number line) turn self.old }

@@ -1,5 +1,7 @@
-//! Laws of limits, of parts of lists and of spans, each proved as the contract of a function that does nothing.
-ghost use Rattle.std.specs.Prelude.{ℕ, pos, int_lt, List, ◌≡◌, ◌+◌, ◌-◌, ◌*◌, ◌/◌, ◌%◌, ◌^◌, ◌<◌, ◌≤◌, ◌⊎◌, IsTrue, length, slice_index};
+//! Laws of limits, of parts of lists and of spans, each proved as the contract of a function that
+//! does nothing.
+ghost use Rattle.std.specs.Prelude.{ℕ, pos, int_lt, List, ◌≡◌, ◌+◌, ◌-◌, ◌*◌, ◌/◌, ◌%◌, ◌^◌, ◌<◌};
+ghost use Rattle.std.specs.Prelude.{◌≤◌, ◌⊎◌, IsTrue, length, slice_index};
 ghost use Rattle.std.specs.Int.{cast_signed, w8, w16, w32};
 ghost use Rattle.axp_base.specs.declared.limits.TheConstants.{BANK_COPIES, WBUF_ENTRIES};
 ghost use Rattle.axp_base.specs.declared.lines.TheConstants.{LINE_BYTES, LOCK_BYTES};
@@ -29,7 +31,8 @@ pub fn put_is_read_back()
         → slice_index (with_part bytes offset n v) (offset + i) ≡ byte v i }
     ensures others { (bytes : List ℕ) (offset n v k : ℕ) → (k < offset) ⊎ (offset + n ≤ k)
         → slice_index (with_part bytes offset n v) k ≡ slice_index bytes k }
-    ensures as_long { (bytes : List ℕ) (offset n v : ℕ) → length (with_part bytes offset n v) ≡ length bytes }
+    ensures as_long { (bytes : List ℕ) (offset n v : ℕ)
+        → length (with_part bytes offset n v) ≡ length bytes }
 {}
 
 /// The bytes of an access are in one line, and its span has the bit of each of them and no other.
@@ -38,7 +41,8 @@ pub fn span_is_its_bytes()
         → (address + i) / LINE_BYTES ≡ address / LINE_BYTES }
     ensures each { (address size i : ℕ) → IsSize size → address % size ≡ 0 → i < size
         → IsTrue (has_bit (span_of address size) ((address + i) % LINE_BYTES)) }
-    ensures only { (address size n : ℕ) → IsSize size → address % size ≡ 0 → IsTrue (has_bit (span_of address size) n)
+    ensures only { (address size n : ℕ) → IsSize size → address % size ≡ 0
+        → IsTrue (has_bit (span_of address size) n)
         → (i : ℕ) × (i < size) × ((address + i) % LINE_BYTES ≡ n) }
 {}
 
@@ -47,7 +51,8 @@ pub fn span_is_its_bytes()
 pub fn sign_extension_keeps_the_integer()
     ensures small { (k x : ℕ) → k ≤ 64 → sign_extended k x < 2 ^ 64 }
     ensures low { (k x : ℕ) → k ≤ 64 → sign_extended k x % 2 ^ k ≡ x % 2 ^ k }
-    ensures above { (k x n : ℕ) → 1 ≤ k → k ≤ n → n < 64 → has_bit (sign_extended k x) n ≡ has_bit x (k - 1) }
+    ensures above { (k x n : ℕ) → 1 ≤ k → k ≤ n → n < 64
+        → has_bit (sign_extended k x) n ≡ has_bit x (k - 1) }
     ensures of_a_byte { (x : ℕ) → signed (sign_extended 8 x) ≡ cast_signed w8 (x % 2 ^ 8) }
     ensures of_a_word { (x : ℕ) → signed (sign_extended 16 x) ≡ cast_signed w16 (x % 2 ^ 16) }
     ensures of_a_longword { (x : ℕ) → signed (sign_extended 32 x) ≡ cast_signed w32 (x % 2 ^ 32) }

@@ -1,5 +1,5 @@
-//! The values that every other crate speaks of: processors, lines and banks, masks of bytes, numbers
-//! of 64 bits, and lists of bytes.
+//! The values that every other crate speaks of: processors, lines and banks, masks of bytes,
+//! numbers of 64 bits, and lists of bytes.
 #![tactic(auto)]
 
 mod byte_lists;

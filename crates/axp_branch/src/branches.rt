@@ -22,8 +22,8 @@ pub fn taken(op: BranchOp, a: u64) -> bool
     }
 }
 
-/// The target of a branch: the updated program counter and 4 times the displacement, a signed number
-/// of 21 bits, whose higher bits are ignored.
+/// The target of a branch: the updated program counter and 4 times the displacement, a signed
+/// number of 21 bits, whose higher bits are ignored.
 pub fn target(next: u64, disp: u32) -> u64
     ensures { result ≡ target_of next disp }
 {

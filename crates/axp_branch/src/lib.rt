@@ -1,5 +1,5 @@
-//! The instructions of the branch format (section 4.3 of the architecture manual, control): whether a
-//! branch is taken, and its target. Their rows are `specs/Branches.antt`.
+//! The instructions of the branch format (section 4.3 of the architecture manual, control): whether
+//! a branch is taken, and its target. Their rows are `specs/Branches.antt`.
 #![tactic(auto)]
 
 mod branches;

@@ -1,5 +1,6 @@
 //! The bus.
-ghost use Rattle.std.specs.Prelude.{◌≡◌, ◌+◌, ◌++◌, ◌*◌, ◌%◌, ◌^◌, ◌<◌, ◌≤◌, ◌∷◌, [], ℕ, List, IfOk, Some, length, not, slice_get, if◌then◌else◌};
+ghost use Rattle.std.specs.Prelude.{◌≡◌, ◌+◌, ◌++◌, ◌*◌, ◌%◌, ◌^◌, ◌<◌, ◌≤◌, ◌∷◌, [], ℕ, List};
+ghost use Rattle.std.specs.Prelude.{IfOk, Some, length, not, slice_get, if◌then◌else◌};
 ghost use Rattle.axp_base.specs.Cpus.{cpu_number};
 ghost use Rattle.axp_base.specs.Parts.{part};
 ghost use Rattle.axp_base.specs.declared.parts.TheConstants.{QUADWORD_BYTES};
@@ -80,9 +81,12 @@ impl Bus {
         requires asks { MayAsk (length self.old.memory) (length self.old.ports) request.now }
         requires turns { self.old.turns < self.old.room }
         requires printed { length self.old.printed < self.old.room }
-        ensures reply { (image : ℕ → ℕ) (calls : List BusCall) → Stands self.old image calls → result ≡ bus_reply image calls (cpu_number cpu) request.now }
-        ensures stands { (image : ℕ → ℕ) (calls : List BusCall) → Stands self.old image calls → Stands self.new image (call_of cpu request.now result ∷ calls) }
-        ensures turns { self.new.turns ≡ (if is_turn result then self.old.turns + 1 else self.old.turns) }
+        ensures reply { (image : ℕ → ℕ) (calls : List BusCall) → Stands self.old image calls
+            → result ≡ bus_reply image calls (cpu_number cpu) request.now }
+        ensures stands { (image : ℕ → ℕ) (calls : List BusCall) → Stands self.old image calls
+            → Stands self.new image (call_of cpu request.now result ∷ calls) }
+        ensures turns { self.new.turns ≡ (if is_turn result then self.old.turns
+            + 1 else self.old.turns) }
         ensures printed { self.new.printed ≡ self.old.printed ++ printed_by request.now }
         ensures size { length self.new.memory ≡ length self.old.memory }
         ensures cpus { length self.new.ports ≡ length self.old.ports }
@@ -161,7 +165,8 @@ impl Bus {
         self.ports.len() as u8
     }
 
-    /// For how many turns there is room, those made included, and for how many bytes to the console.
+    /// For how many turns there is room, those made included, and for how many bytes to the
+    /// console.
     pub fn room(&self) -> u32
         ensures { result ≡ self.now.room }
     {

@@ -1,5 +1,5 @@
-//! The bus that processors share: memory, what each of them is still to see of the others' writes, their
-//! lock registers and interprocessor interrupts, and the console.
+//! The bus that processors share: memory, what each of them is still to see of the others' writes,
+//! their lock registers and interprocessor interrupts, and the console.
 #![tactic(auto)]
 
 mod buses;

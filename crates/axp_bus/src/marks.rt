@@ -1,5 +1,6 @@
 //! The marks of the aligned quadwords of memory that were written, one for each quadword.
-ghost use Rattle.std.specs.Prelude.{◌≡◌, ◌+◌, ◌*◌, ◌/◌, ◌%◌, ◌^◌, ◌<◌, ◌≤◌, ◌⊎◌, ℕ, Some, List, length, not, ◌||◌};
+ghost use Rattle.std.specs.Prelude.{◌≡◌, ◌+◌, ◌*◌, ◌/◌, ◌%◌, ◌^◌, ◌<◌, ◌≤◌, ◌⊎◌, ℕ, Some, List};
+ghost use Rattle.std.specs.Prelude.{length, not, ◌||◌};
 ghost use Rattle.axp_base.specs.Lines.{line_number};
 ghost use Rattle.axp_base.specs.Masks.{mask_bits};
 ghost use Rattle.axp_base.specs.declared.lines.TheConstants.{LINE_BYTES};
@@ -34,7 +35,8 @@ fn has_part(mask: Mask, n: u8) -> bool
 fn mark_line(marks: &mut [bool], line: Line, mask: Mask)
     requires whole { length marks.old * QUADWORD_BYTES % LINE_BYTES ≡ 0 }
     requires inside { line_number line * LINE_BYTES < length marks.old * QUADWORD_BYTES }
-    ensures { (bytes : List ℕ) → Marked (Some (record { line = line; bits = mask_bits mask; bytes = bytes })) marks.old marks.new }
+    ensures { (bytes : List ℕ) → Marked (Some
+        (record { line = line; bits = mask_bits mask; bytes = bytes })) marks.old marks.new }
 {
     let first = (line.address() / QUADWORD_BYTES) as usize;
     for n in 0..QUADWORDS {

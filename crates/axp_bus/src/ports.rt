@@ -9,7 +9,8 @@ ghost use Rattle.axp_base.specs.Lists.{is_empty};
 ghost use Rattle.axp_base.specs.Blocks.{lock_by_other};
 ghost use Rattle.axp_line.specs.BusCalls.{late_by_own, lock_by_own, signals, takes_interrupt};
 ghost use Rattle.axp_line.specs.declared.messages.Request.TheVariants as request;
-ghost use Rattle.axp_bus.specs.Ports.{AreFresh, IsFresh, PortHasRoom, Noted, late_in, pending_after};
+ghost use Rattle.axp_bus.specs.Ports.{AreFresh, IsFresh, PortHasRoom, Noted, late_in};
+ghost use Rattle.axp_bus.specs.Ports.{pending_after};
 
 use crate::writes::line_written;
 use axp_base::{Bank, Cpu, Line, NoMemory};
@@ -18,8 +19,8 @@ use axp_line::{Reply, Request};
 use axp_lockreg::LockReg;
 use std::alloc::Global;
 
-/// What the bus keeps for one processor: the writes of others to lines of each data bank that it has
-/// not yet seen, its lock register, and whether an interrupt of it is requested.
+/// What the bus keeps for one processor: the writes of others to lines of each data bank that it
+/// has not yet seen, its lock register, and whether an interrupt of it is requested.
 #[derive(Debug, Drop)]
 pub(crate) struct Port {
     pub(crate) even: LateQueue,
@@ -54,8 +55,8 @@ impl Port {
         }
     }
 
-    /// Keeps what a call of processor `cpu` means for this processor, `number`. The call's turn, if it
-    /// makes one, is `turn`.
+    /// Keeps what a call of processor `cpu` means for this processor, `number`. The call's turn, if
+    /// it makes one, is `turn`.
     pub(crate) fn note(&mut self, number: u8, cpu: Cpu, request: &Request, reply: Reply, turn: u64)
         requires { PortHasRoom turn self.old }
         ensures { Noted (cpu_number cpu == number) number turn request.now reply self.old self.new }
@@ -71,9 +72,12 @@ impl Port {
 
     /// Keeps what an own call means.
     fn note_own(&mut self, request: &Request, reply: Reply)
-        ensures even { self.new.even ≡ queue (late_by_own Even request.now reply self.old.even.pairs) self.old.even.room }
-        ensures odd { self.new.odd ≡ queue (late_by_own Odd request.now reply self.old.odd.pairs) self.old.odd.room }
-        ensures lock { locked_block self.new.lock ≡ lock_by_own request.now (locked_block self.old.lock) }
+        ensures even { self.new.even ≡ queue
+            (late_by_own Even request.now reply self.old.even.pairs) self.old.even.room }
+        ensures odd { self.new.odd ≡ queue (late_by_own Odd request.now reply self.old.odd.pairs)
+            self.old.odd.room }
+        ensures lock { locked_block self.new.lock
+            ≡ lock_by_own request.now (locked_block self.old.lock) }
         ensures pending { self.new.pending ≡ self.old.pending }
     {
         match request {
@@ -99,8 +103,10 @@ impl Port {
 
     /// Drops what a take was answered.
     fn deliver(&mut self, bank: Bank, reply: Reply)
-        ensures even { self.new.even ≡ queue (late_by_own Even (request.Take bank) reply self.old.even.pairs) self.old.even.room }
-        ensures odd { self.new.odd ≡ queue (late_by_own Odd (request.Take bank) reply self.old.odd.pairs) self.old.odd.room }
+        ensures even { self.new.even ≡ queue
+            (late_by_own Even (request.Take bank) reply self.old.even.pairs) self.old.even.room }
+        ensures odd { self.new.odd ≡ queue
+            (late_by_own Odd (request.Take bank) reply self.old.odd.pairs) self.old.odd.room }
         ensures lock { self.new.lock ≡ self.old.lock }
         ensures pending { self.new.pending ≡ self.old.pending }
     {
@@ -119,9 +125,12 @@ impl Port {
     /// Keeps what another processor's call means that wrote this line, if one, in this turn.
     fn note_other(&mut self, line: Option<Line>, turn: u64)
         requires { PortHasRoom turn self.old }
-        ensures even { self.new.even ≡ queue (late_by_other Even line turn self.old.even.pairs) self.old.even.room }
-        ensures odd { self.new.odd ≡ queue (late_by_other Odd line turn self.old.odd.pairs) self.old.odd.room }
-        ensures lock { locked_block self.new.lock ≡ lock_by_other line (locked_block self.old.lock) }
+        ensures even { self.new.even ≡ queue (late_by_other Even line turn self.old.even.pairs)
+            self.old.even.room }
+        ensures odd { self.new.odd ≡ queue (late_by_other Odd line turn self.old.odd.pairs)
+            self.old.odd.room }
+        ensures lock { locked_block self.new.lock
+            ≡ lock_by_other line (locked_block self.old.lock) }
         ensures pending { self.new.pending ≡ self.old.pending }
     {
         let Some(line) = line else { return };

@@ -1,11 +1,14 @@
 //! What the bus answers, by its parts.
-ghost use Rattle.std.specs.Prelude.{◌≡◌, ◌+◌, ◌*◌, ◌^◌, ◌<◌, ◌≤◌, ◌↔◌, ◌&&◌, ℕ, Some, IsTrue, not, length};
+ghost use Rattle.std.specs.Prelude.{◌≡◌, ◌+◌, ◌*◌, ◌^◌, ◌<◌, ◌≤◌, ◌↔◌, ◌&&◌, ℕ, Some, IsTrue, not};
+ghost use Rattle.std.specs.Prelude.{length};
 ghost use Rattle.axp_base.specs.Lines.{line_number};
 ghost use Rattle.axp_base.specs.declared.lines.TheConstants.{LINE_BYTES};
 ghost use Rattle.axp_base.specs.Blocks.{is_allowed};
 ghost use Rattle.axp_lockreg.specs.Blocks.{locked_block};
 ghost use Rattle.axp_line.specs.BusCalls.{overwritten};
-ghost use Rattle.axp_line.specs.BusReply.{PortState, first_late, gone, is_late, late_in, line_of_memory, line_reply, reply_by, stored_reply, conditional_reply};
+ghost use Rattle.axp_line.specs.BusReply.{PortState, first_late, gone, is_late, late_in};
+ghost use Rattle.axp_line.specs.BusReply.{line_of_memory, line_reply, reply_by, stored_reply};
+ghost use Rattle.axp_line.specs.BusReply.{conditional_reply};
 ghost use Rattle.axp_base.specs.Lists.{is_empty};
 ghost use Rattle.axp_bus.specs.Buses.{Agrees, MayAsk, port_state_of};
 ghost use Rattle.axp_bus.specs.Writes.{written_of};
@@ -28,7 +31,8 @@ fn line_now(memory: &Ram, line: Line) -> LineData
 /// The bytes of a write's line after it.
 fn line_after(memory: &Ram, write: &Write) -> LineData
     requires { line_number write.now.line * LINE_BYTES < length memory.now }
-    ensures { (m : ℕ → ℕ) → Agrees memory.now m → result ≡ line_of_memory (overwritten (Some (written_of write.now)) m) write.now.line }
+    ensures { (m : ℕ → ℕ) → Agrees memory.now m
+        → result ≡ line_of_memory (overwritten (Some (written_of write.now)) m) write.now.line }
 {
     let mut bytes = memory.line(write.line);
     bytes.merge(write.mask, &write.bytes);
@@ -38,7 +42,8 @@ fn line_after(memory: &Ram, write: &Write) -> LineData
 /// The answer to a fill or a load-locked.
 fn line_reply(memory: &Ram, turns: u64, line: Line) -> Reply
     requires { line_number line * LINE_BYTES < length memory.now }
-    ensures { (m : ℕ → ℕ) (port : Port) → Agrees memory.now m → result ≡ line_reply (port_state_of m turns port) line }
+    ensures { (m : ℕ → ℕ) (port : Port) → Agrees memory.now m
+        → result ≡ line_reply (port_state_of m turns port) line }
 {
     Reply::Line {
         turn: turns,
@@ -50,7 +55,9 @@ fn line_reply(memory: &Ram, turns: u64, line: Line) -> Reply
 fn stored_reply(memory: &Ram, turns: u64, write: &Write) -> Reply
     requires inside { line_number write.now.line * LINE_BYTES < length memory.now }
     requires turns { turns < 2 ^ 32 }
-    ensures { (m : ℕ → ℕ) (port : Port) → Agrees memory.now m → result ≡ stored_reply (port_state_of m turns port) (Some (written_of write.now)) write.now.line }
+    ensures { (m : ℕ → ℕ) (port : Port) → Agrees memory.now m
+        → result ≡ stored_reply (port_state_of m turns port) (Some (written_of write.now))
+        write.now.line }
 {
     Reply::Stored {
         turn: turns + 1,
@@ -69,7 +76,9 @@ fn succeeds(port: &Port, address: u64, armed: bool) -> bool
 fn tried_reply(memory: &Ram, turns: u64, write: &Write, succeeds: bool) -> Reply
     requires inside { line_number write.now.line * LINE_BYTES < length memory.now }
     requires turns { turns < 2 ^ 32 }
-    ensures { (m : ℕ → ℕ) (port : Port) → Agrees memory.now m → result ≡ conditional_reply succeeds (port_state_of m turns port) (Some (written_of write.now)) write.now.line }
+    ensures { (m : ℕ → ℕ) (port : Port) → Agrees memory.now m
+        → result ≡ conditional_reply succeeds (port_state_of m turns port)
+        (Some (written_of write.now)) write.now.line }
 {
     if succeeds {
         stored_reply(memory, turns, write)
@@ -90,7 +99,8 @@ fn first_late(queue: &LateQueue) -> Reply
 
 /// The answer to a take.
 fn take_reply(port: &Port, bank: Bank) -> Reply
-    ensures { (m : ℕ → ℕ) (turns : ℕ) → result ≡ first_late (late_in (port_state_of m turns port.now) bank) }
+    ensures { (m : ℕ → ℕ) (turns : ℕ) → result
+        ≡ first_late (late_in (port_state_of m turns port.now) bank) }
 {
     match bank {
         Bank::Even => first_late(&port.even),
@@ -101,7 +111,8 @@ fn take_reply(port: &Port, bank: Bank) -> Reply
 
 /// Whether something late reaches a copy of the line at an address that has this stamp.
 fn is_late(port: &Port, address: u32, stamp: u32) -> bool
-    ensures { (m : ℕ → ℕ) (turns : ℕ) → result ≡ is_late (port_state_of m turns port.now) address stamp }
+    ensures { (m : ℕ → ℕ) (turns : ℕ) → result
+        ≡ is_late (port_state_of m turns port.now) address stamp }
 {
     let line = Line::of(u64::from(address));
     let stamp = u64::from(stamp);
@@ -125,7 +136,8 @@ fn gone(port: &Port, held: &Held) -> u32
 pub(crate) fn reply_at(memory: &Ram, turns: u64, port: &Port, request: &Request) -> Reply
     requires asks { (cpus : ℕ) × MayAsk (length memory.now) cpus request.now }
     requires turns { turns < 2 ^ 32 }
-    ensures { (m : ℕ → ℕ) → Agrees memory.now m → result ≡ reply_by (port_state_of m turns port.now) request.now }
+    ensures { (m : ℕ → ℕ) → Agrees memory.now m
+        → result ≡ reply_by (port_state_of m turns port.now) request.now }
 {
     match request {
         Request::Fill { line } => line_reply(memory, turns, *line),

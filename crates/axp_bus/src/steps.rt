@@ -28,7 +28,8 @@ pub(crate) fn note_all(ports: &mut [Port], cpu: Cpu, request: &Request, reply: R
 pub(crate) fn write_down(memory: &mut Ram, request: &Request, reply: Reply)
     requires asks { (cpus : ℕ) × MayAsk (length memory.old) cpus request.now }
     requires whole { AreLines memory.old }
-    ensures bytes { (m : ℕ → ℕ) → Agrees memory.old m → Agrees memory.new (overwritten (write_made request.now reply) m) }
+    ensures bytes { (m : ℕ → ℕ) → Agrees memory.old m
+        → Agrees memory.new (overwritten (write_made request.now reply) m) }
     ensures size { length memory.new ≡ length memory.old }
 {
     let Reply::Stored { .. } = reply else { return };

@@ -327,7 +327,8 @@ fn touches(bus: &Bus, quadwords: &[u64]) -> bool {
     true
 }
 
-/// Asks what the rows say, each of which is answered, and compares which quadwords are touched then.
+/// Asks what the rows say, each of which is answered, and compares which quadwords are touched
+/// then.
 fn compare_touched(rt: &impl Abort, bus: &mut Bus, first: Cpu, rows: &[(u8, Asks, usize)]) {
     for &(cpu, asks, count) in rows {
         let reply = ask_row(bus, cpu, asks, first);

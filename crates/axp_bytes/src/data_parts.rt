@@ -1,6 +1,8 @@
 //! Data of 1, 2, 4 or 8 bytes in a quadword, `n` bytes up, and what of them reaches into the next.
 ghost use Rattle.std.specs.Prelude.{◌≡◌, ◌<◌};
-ghost use Rattle.axp_bytes.specs.Results.{extracted_low, extracted_high, moved_up, inserted_low, inserted_high, below_byte, from_byte, masked_low, masked_high};
+ghost use Rattle.axp_bytes.specs.Results.{extracted_low, extracted_high, moved_up, inserted_low};
+ghost use Rattle.axp_bytes.specs.Results.{inserted_high, below_byte, from_byte, masked_low};
+ghost use Rattle.axp_bytes.specs.Results.{masked_high};
 
 use axp_base::Size;
 

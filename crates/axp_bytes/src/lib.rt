@@ -1,7 +1,7 @@
 //! The operate instructions of opcode 12 (hexadecimal): the shifts (Alpha Architecture Reference
-//! Manual, section 4.5) and the byte manipulation instructions without CMPBGE (section 4.6). Their rows
-//! are `specs/Rows.antt`, and `src/laws.rt` has what follows from them. Bytes are numbered from the
-//! lowest.
+//! Manual, section 4.5) and the byte manipulation instructions without CMPBGE (section 4.6). Their
+//! rows are `specs/Rows.antt`, and `src/laws.rt` has what follows from them. Bytes are numbered
+//! from the lowest.
 #![tactic(auto)]
 
 mod data_parts;

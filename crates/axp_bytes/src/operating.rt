@@ -8,9 +8,9 @@ use crate::zapping::zap;
 use axp_base::{Size, sext};
 use axp_decode::Op;
 
-/// What an instruction of opcode 12 (hexadecimal) writes to Rc, where `a` is the value of Ra and `b`
-/// that of Rb or the literal: extract, insert and mask at the byte that the low three bits of `b`
-/// number, ZAP and ZAPNOT by its low eight bits, and shifts by its low six bits.
+/// What an instruction of opcode 12 (hexadecimal) writes to Rc, where `a` is the value of Ra and
+/// `b` that of Rb or the literal: extract, insert and mask at the byte that the low three bits of
+/// `b` number, ZAP and ZAPNOT by its low eight bits, and shifts by its low six bits.
 #[tactic(auto, unfolding(crate::specs::Rows::value_of))]
 pub fn bytes(op: Op, a: u64, b: u64) -> u64
     requires { IsByteOp op }

@@ -1,5 +1,5 @@
-//! Rows worked out by hand from what sections 4.5 and 4.6 of the Alpha Architecture Reference Manual
-//! say that each instruction does.
+//! Rows worked out by hand from what sections 4.5 and 4.6 of the Alpha Architecture Reference
+//! Manual say that each instruction does.
 use super::*;
 use axp_decode::{BYTE_OPCODE, Op, opcode_number};
 use std::process::Abort;

@@ -1,5 +1,6 @@
 //! Laws of the instruction table, each proved as the contract of a function that does nothing.
-ghost use Rattle.std.specs.Prelude.{ℕ, false, not, ◌≡◌, ◌≢◌, [], List, length, Option, Some, None, IfNone, IfSome};
+ghost use Rattle.std.specs.Prelude.{ℕ, false, not, ◌≡◌, ◌≢◌, [], List, length, Option, Some, None};
+ghost use Rattle.std.specs.Prelude.{IfNone, IfSome};
 ghost use Rattle.axp_access.specs.declared.Access.{Access};
 ghost use Rattle.axp_access.specs.declared.Record.{Record};
 ghost use Rattle.axp_access.specs.declared.Wanted.{Wanted};
@@ -11,7 +12,8 @@ ghost use Rattle.axp_cpu.specs.Plans.{given, is_built};
 ghost use Rattle.axp_cpu.specs.Refusals.{is_begun, is_refused};
 ghost use Rattle.axp_cpu.specs.Rows.{group, row};
 ghost use Rattle.axp_cpu.specs.Seats.{Seat, is_built_after};
-ghost use Rattle.axp_cpu.specs.Showing.{IsAccessOf, lock_flag, register_value, seat_shown, state_shown};
+ghost use Rattle.axp_cpu.specs.Showing.{IsAccessOf, lock_flag, register_value, seat_shown};
+ghost use Rattle.axp_cpu.specs.Showing.{state_shown};
 ghost use Rattle.axp_cpu.specs.Soundness.{AnswersEnd};
 ghost use Rattle.axp_cpu.specs.CpuStates.{next_pc};
 ghost use Rattle.axp_decode.specs.declared.instructions.Instr.{Instr};
@@ -39,7 +41,8 @@ pub fn what_is_not_built()
 pub fn answered_values_end_groups()
     ensures ends { (size : ℕ) (t : CpuState) → AnswersEnd (group size t) }
     ensures built { (a : Actor) (w : Wanted) (r : Option Reply) → (actor_intent a).wanted ≡ Some w
-        → is_built_after a.seat (value_of w a.kept r) ≡ is_built_after a.seat (value_of w a.kept None) }
+        → is_built_after a.seat (value_of w a.kept r)
+        ≡ is_built_after a.seat (value_of w a.kept None) }
 {}
 
 /// The instruction gets what its access shows. After the Step of a load's access, Ra (but for R31)

@@ -1,7 +1,8 @@
 //! How far a group of accesses has come.
 ghost use Rattle.std.specs.Prelude.{◌≡◌, ◌<◌, ℕ};
 ghost use Rattle.axp_cpu.specs.declared.cpu_states.CpuState.{CpuState};
-ghost use Rattle.axp_cpu.specs.Addresses.{aligned_plan, first_entry, in_kseg, look_up_plan, memory_plan};
+ghost use Rattle.axp_cpu.specs.Addresses.{aligned_plan, first_entry, in_kseg, look_up_plan};
+ghost use Rattle.axp_cpu.specs.Addresses.{memory_plan};
 ghost use Rattle.axp_cpu.specs.Phases.{after, plan_of, table_after, Fits, FollowFits, PhaseFits};
 ghost use Rattle.axp_cpu.specs.Plans.{End};
 ghost use Rattle.axp_cpu.specs.Rows.{next_plan, group, halt_plan, register_plan, register_plan_at};
@@ -185,7 +186,8 @@ pub fn end(table: &CpuState) -> Phase
 /// Writes a register and goes on at an address.
 pub fn write_and_go(table: &CpuState, n: u8, value: u64, pc: u64) -> Phase
     requires { n < REGISTERS }
-    ensures plan { (size : ℕ) (t : CpuState) → plan_of size t result ≡ register_plan_at table.now n value pc }
+    ensures plan { (size : ℕ) (t : CpuState)
+        → plan_of size t result ≡ register_plan_at table.now n value pc }
     ensures fits { PhaseFits result }
 {
     let mut state = table.state;
@@ -197,7 +199,8 @@ pub fn write_and_go(table: &CpuState, n: u8, value: u64, pc: u64) -> Phase
 /// Writes a register and ends.
 pub fn write(table: &CpuState, n: u8, value: u64) -> Phase
     requires { n < REGISTERS }
-    ensures plan { (size : ℕ) (t : CpuState) → plan_of size t result ≡ register_plan table.now n value }
+    ensures plan { (size : ℕ) (t : CpuState)
+        → plan_of size t result ≡ register_plan table.now n value }
     ensures fits { PhaseFits result }
 {
     write_and_go(table, n, value, table.next_pc())

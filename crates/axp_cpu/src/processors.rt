@@ -4,7 +4,8 @@ ghost use Rattle.axp_base.specs.declared.processors.TheConstants.{MAX_BUDGET, MA
 ghost use Rattle.axp_base.specs.Cpus.{cpu_number};
 ghost use Rattle.axp_lsu.specs.Fitting.{ShowsFitting};
 ghost use Rattle.axp_lsu.specs.Within.{IsAskWithin};
-ghost use Rattle.axp_cpu.specs.Actors.{Actor, actor_intent, advanced, first_actor, is_built, moved_by, outcome_of, request_of, seat_after, step_built};
+ghost use Rattle.axp_cpu.specs.Actors.{Actor, actor_intent, advanced, first_actor, is_built};
+ghost use Rattle.axp_cpu.specs.Actors.{moved_by, outcome_of, request_of, seat_after, step_built};
 ghost use Rattle.axp_cpu.specs.ActorStands.{IsAnswered, IsAt, IsMovable, IsSeated, IsSeatedWith};
 ghost use Rattle.axp_cpu.specs.Following as following;
 ghost use Rattle.axp_cpu.specs.Seats.{is_finished, table_now};

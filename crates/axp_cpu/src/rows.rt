@@ -4,7 +4,10 @@ ghost use Rattle.axp_access.specs.Kinds.{is_fetch};
 ghost use Rattle.axp_base.specs.Sizes.{bytes_of};
 ghost use Rattle.axp_cpu.specs.declared.cpu_states.CpuState.{CpuState};
 ghost use Rattle.axp_cpu.specs.Phases.{after, is_instruction, plan_of, FollowFits, PhaseFits};
-ghost use Rattle.axp_cpu.specs.Rows.{address_of, branch_goal, branch_row, cycle_counter, barrier_plan, high_address_of, jump_row, load_locked_plan, load_plan, memory_row, misc_row, operand, operate_row, pal_row, quadword_at, row, store_conditional_plan, store_plan};
+ghost use Rattle.axp_cpu.specs.Rows.{address_of, branch_goal, branch_row, cycle_counter};
+ghost use Rattle.axp_cpu.specs.Rows.{barrier_plan, high_address_of, jump_row, load_locked_plan};
+ghost use Rattle.axp_cpu.specs.Rows.{load_plan, memory_row, misc_row, operand, operate_row};
+ghost use Rattle.axp_cpu.specs.Rows.{pal_row, quadword_at, row, store_conditional_plan, store_plan};
 ghost use Rattle.axp_decode.specs.Format.{FieldsFit, OperandFits};
 ghost use Rattle.axp_regs.specs.declared.states.TheConstants.{REGISTERS};
 
@@ -135,7 +138,12 @@ fn quadword(address: u64) -> u64
 
 /// The access of a datum that a memory instruction wants.
 fn wanted(kind: Kind, what: Size, address: u64, value: u64) -> Wanted
-    ensures { result ≡ record { kind = kind; address = address; size = bytes_of what; value = value } }
+    ensures { result ≡ record {
+      kind = kind;
+      address = address;
+      size = bytes_of what;
+      value = value;
+    } }
 {
     Wanted {
         kind,
@@ -194,7 +202,8 @@ fn load_locked_plan(
 /// A store-conditional of the low datum of Ra, which tells Ra whether it stored.
 fn store_conditional_plan(size: u64, table: &CpuState, what: Size, a: u8, address: u64) -> Phase
     requires { a < REGISTERS }
-    ensures plan { plan_of size table.now result ≡ store_conditional_plan size table.now what a address }
+    ensures plan { plan_of size table.now result
+        ≡ store_conditional_plan size table.now what a address }
     ensures fits { PhaseFits result }
 {
     let value = what.low(table.state.get(a));

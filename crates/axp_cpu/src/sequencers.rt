@@ -2,7 +2,8 @@ ghost use Rattle.std.specs.Prelude.{◌≡◌, IfSome};
 ghost use Rattle.axp_base.specs.Cpus.{cpu_number};
 ghost use Rattle.axp_cpu.specs.Phases.{plan_of, PhaseFits};
 ghost use Rattle.axp_cpu.specs.Seats.{Seat, first_seat, intent_of, is_finished, table_now, wanted};
-ghost use Rattle.axp_cpu.specs.Stands.{Going, GoesOn, IsMakeable, MakesFit, Standing, Stands, plan_left};
+ghost use Rattle.axp_cpu.specs.Stands.{Going, GoesOn, IsMakeable, MakesFit, Standing, Stands};
+ghost use Rattle.axp_cpu.specs.Stands.{plan_left};
 
 use crate::cpu_states::CpuState;
 use crate::phases::{Continuation, Phase, begin, resume};

@@ -1,6 +1,7 @@
 //! From a word to its instruction.
 ghost use Rattle.std.specs.Prelude.{◌≡◌, ◌<◌, ◌^◌};
-ghost use Rattle.axp_decode.specs.Format.{instr_of, operand_of, FieldsFit, OperandFits, ra_of, rb_of, is_floating};
+ghost use Rattle.axp_decode.specs.Format.{instr_of, operand_of, FieldsFit, OperandFits, ra_of};
+ghost use Rattle.axp_decode.specs.Format.{rb_of, is_floating};
 
 use crate::instructions::{Instr, Operand};
 use crate::numbers::{
@@ -49,8 +50,8 @@ fn read_operand(word: u32) -> Operand
     }
 }
 
-/// The instruction that a word stands for. Each word stands for one: what is in no table is `Reserved`.
-/// Its fields fit in their places.
+/// The instruction that a word stands for. Each word stands for one: what is in no table is
+/// `Reserved`. Its fields fit in their places.
 #[tactic(auto, unfolding(crate::specs::Format::instr_of))]
 pub fn decode(word: u32) -> Instr
     ensures value { result ≡ instr_of word }

@@ -35,8 +35,8 @@ fn place_operand(b: Operand) -> u32
     }
 }
 
-/// The word of an instruction. Of a field that is too large for its place, the low bits are taken; a
-/// word that was kept whole is that word.
+/// The word of an instruction. Of a field that is too large for its place, the low bits are taken;
+/// a word that was kept whole is that word.
 #[tactic(auto, unfolding(crate::specs::Format::word_of))]
 pub fn encode(instr: &Instr) -> u32
     ensures { result ≡ word_of instr.now }

@@ -27,8 +27,8 @@ pub enum Instr {
     Jump { kind: u8, a: u8, b: u8, hint: u16 },
     /// The operate format (section 3.3.3).
     Operate { op: Op, a: u8, b: Operand, c: u8 },
-    /// The memory format with a function code (section 3.3.1.1). The registers are kept, though most
-    /// of these instructions ignore them.
+    /// The memory format with a function code (section 3.3.1.1). The registers are kept, though
+    /// most of these instructions ignore them.
     Misc { op: MiscOp, a: u8, b: u8 },
     /// The PALcode format (section 3.3.5).
     Pal { op: PalOp },

@@ -1,8 +1,10 @@
 //! Laws of the tables and formats, each proved as the contract of a function that does nothing.
-//! `decode` returns `instr_of` of its word, and `encode` returns `word_of` of its instruction, so the
-//! laws are theirs.
+//! `decode` returns `instr_of` of its word, and `encode` returns `word_of` of its instruction, so
+//! the laws are theirs.
 ghost use Rattle.std.specs.Prelude.{ℕ, ◌≡◌, ◌↔◌, ◌<◌, ◌^◌, Some, true};
-ghost use Rattle.axp_decode.specs.Table.{memory_number, memory_of, branch_number, branch_of, misc_number, misc_of, pal_number, pal_of, operate_opcode, operate_function, operate_of};
+ghost use Rattle.axp_decode.specs.Table.{memory_number, memory_of, branch_number, branch_of};
+ghost use Rattle.axp_decode.specs.Table.{misc_number, misc_of, pal_number, pal_of, operate_opcode};
+ghost use Rattle.axp_decode.specs.Table.{operate_function, operate_of};
 ghost use Rattle.axp_decode.specs.Format.{instr_of, word_of, opcode_of, is_floating, FieldsFit};
 ghost use Rattle.axp_decode.specs.Words.{StandsFor, IsInNoTable};
 ghost use Rattle.axp_decode.specs.declared.instructions.Instr.{Instr};

@@ -1,9 +1,10 @@
-//! Instruction words of the Alpha and the instructions that they stand for, both ways: `decode` takes
-//! every word to an instruction, and `encode` takes each of these back to its word.
+//! Instruction words of the Alpha and the instructions that they stand for, both ways: `decode`
+//! takes every word to an instruction, and `encode` takes each of these back to its word.
 //!
 //! The formats are those of section 3.3 of the Alpha Architecture Reference Manual, as in
-//! `specs/Format.antt`; the names and numbers are those of its appendix C, as in `specs/Table.antt`.
-//! `docs/TABLES.md` tells which words are of which format, and what is kept of each.
+//! `specs/Format.antt`; the names and numbers are those of its appendix C, as in
+//! `specs/Table.antt`. `docs/TABLES.md` tells which words are of which format, and what is kept of
+//! each.
 #![tactic(auto)]
 
 mod decoding;

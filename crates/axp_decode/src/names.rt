@@ -1,6 +1,6 @@
-//! The names of the instructions, as the Alpha Architecture Reference Manual spells them; a `V` at the
-//! end, as in `ADDLV`, stands for `/V`. Sections are those of the manual, and the numbers of the names
-//! are in its appendix C.
+//! The names of the instructions, as the Alpha Architecture Reference Manual spells them; a `V` at
+//! the end, as in `ADDLV`, stands for `/V`. Sections are those of the manual, and the numbers of
+//! the names are in its appendix C.
 
 /// The loads and stores of integers (section 4.2), told apart by their opcodes.
 #[derive(Clone, Copy, PartialEq, Eq, Debug)]
@@ -38,7 +38,8 @@ pub enum BranchOp {
     BGT,
 }
 
-/// The miscellaneous instructions of opcode 0x18 (section 4.11), told apart by their function codes.
+/// The miscellaneous instructions of opcode 0x18 (section 4.11), told apart by their function
+/// codes.
 #[derive(Clone, Copy, PartialEq, Eq, Debug)]
 pub enum MiscOp {
     TRAPB,
@@ -83,8 +84,8 @@ pub enum PalOp {
     WRUNIQUE,
 }
 
-/// The instructions of the operate format (sections 4.4 to 4.6, and two of 4.11), told apart by their
-/// opcodes and functions.
+/// The instructions of the operate format (sections 4.4 to 4.6, and two of 4.11), told apart by
+/// their opcodes and functions.
 #[derive(Clone, Copy, PartialEq, Eq, Debug)]
 pub enum Op {
     // Opcode 0x10: sums, differences and comparisons.

@@ -1,6 +1,8 @@
 //! The instruction tables as code: from numbers to names, and back.
 ghost use Rattle.std.specs.Prelude.{◌≡◌, ◌<◌, ◌^◌};
-ghost use Rattle.axp_decode.specs.Table.{memory_number, memory_of, branch_number, branch_of, misc_number, misc_of, pal_number, pal_of, operate_opcode, operate_function, operate_of};
+ghost use Rattle.axp_decode.specs.Table.{memory_number, memory_of, branch_number, branch_of};
+ghost use Rattle.axp_decode.specs.Table.{misc_number, misc_of, pal_number, pal_of, operate_opcode};
+ghost use Rattle.axp_decode.specs.Table.{operate_function, operate_of};
 
 use crate::names::{BranchOp, MemOp, MiscOp, Op, PalOp};
 

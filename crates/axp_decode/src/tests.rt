@@ -1,5 +1,6 @@
-//! A word for each name and each kind of jump, and words that are kept whole. Each is put together from
-//! the places of the fields and the numbers in the manual's tables, and not what this program gave.
+//! A word for each name and each kind of jump, and words that are kept whole. Each is put together
+//! from the places of the fields and the numbers in the manual's tables, and not what this program
+//! gave.
 use super::*;
 use std::process::Abort;
 use std::test::*;
@@ -171,8 +172,8 @@ const CALLS: [(u32, PalOp); 26] = [
 /// Words with an opcode of floating point.
 const FLOATING: [u32; 4] = [0x5400_0001, 0x8C3E_0000, 0xCC00_0000, 0xD7FF_FFFF];
 
-/// Words in no table: by the opcode, the function of PALcode (one with a high bit set), the function
-/// of an operate opcode and the function code of opcode 18 (hexadecimal).
+/// Words in no table: by the opcode, the function of PALcode (one with a high bit set), the
+/// function of an operate opcode and the function code of opcode 18 (hexadecimal).
 const RESERVED: [u32; 6] = [
     0x0400_0000,
     0x0000_0001,

@@ -11,8 +11,8 @@ use axp_base::{BANK_COPIES, Line};
 use axp_line::{LineData, NoRoom};
 use std::marker::Model;
 
-/// The code bank: at most [`BANK_COPIES`] copies of lines, of each line at most one, seen as the list of
-/// its copies in ascending order of lines.
+/// The code bank: at most [`BANK_COPIES`] copies of lines, of each line at most one, seen as the
+/// list of its copies in ascending order of lines.
 #[derive(Drop)]
 pub struct CodeBank {
     copies: CopyBank,
@@ -82,8 +82,8 @@ impl CodeBank {
         self.put_at(line, 0, bytes)
     }
 
-    /// Keeps this copy, in place of the one of its line or beside the others; [`NoRoom`] exactly where
-    /// the line is not held and [`BANK_COPIES`] other lines are, and then nothing changes.
+    /// Keeps this copy, in place of the one of its line or beside the others; [`NoRoom`] exactly
+    /// where the line is not held and [`BANK_COPIES`] other lines are, and then nothing changes.
     pub fn put_at(&mut self, line: Line, stamp: u64, bytes: LineData) -> Result<(), NoRoom>
         ensures answer { is_ok result ≡ has_room (line_number line) self.old }
         ensures copies { self.new ≡ put (copy_of line stamp bytes) self.old }

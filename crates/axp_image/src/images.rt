@@ -1,4 +1,5 @@
-ghost use Rattle.std.specs.Prelude.{◌≡◌, ◌+◌, ◌<◌, ◌≤◌, Some, length, slice_get, slice_index, IfOk, OnOk};
+ghost use Rattle.std.specs.Prelude.{◌≡◌, ◌+◌, ◌<◌, ◌≤◌, Some, length, slice_get, slice_index, IfOk};
+ghost use Rattle.std.specs.Prelude.{OnOk};
 ghost use Rattle.axp_image.specs.Contents.{IsValid, byte_in, contents, covers, segment_of};
 
 use axp_base::{Bytes, NoMemory};

@@ -5,7 +5,8 @@ ghost use Rattle.axp_image.specs.declared.limits.TheConstants.{MAX_SEGMENTS, INS
 ghost use Rattle.axp_image.specs.Contents.{AreBytes, Contents, IsValid, byte_in};
 ghost use Rattle.axp_image.specs.Grammar.{image_of};
 ghost use Rattle.axp_image.specs.Spelling.{spelling};
-ghost use Rattle.axp_image.specs.Laws.{DoNotOverlap, HaveTheirBytes, AreZeroElsewhere, smallest, smallest_file};
+ghost use Rattle.axp_image.specs.Laws.{DoNotOverlap, HaveTheirBytes, AreZeroElsewhere, smallest};
+ghost use Rattle.axp_image.specs.Laws.{smallest_file};
 
 /// What the segments of an image say of memory: no byte is in two of them, memory holds each of
 /// their bytes at its place and 0 everywhere else, and each of its bytes is below 256.

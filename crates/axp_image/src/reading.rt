@@ -1,6 +1,7 @@
 ghost use Rattle.std.specs.Prelude.{◌≡◌, ◌+◌, ◌≤◌, IfOk, IfSome, length, option_copied, option_map};
 ghost use Rattle.axp_image.specs.Contents.{IsValid};
-ghost use Rattle.axp_image.specs.Grammar.{piece_at, number_at, is_memory_size, is_entry, header_of, is_extent, extent_at, extents_at, segments_at, image_of};
+ghost use Rattle.axp_image.specs.Grammar.{piece_at, number_at, is_memory_size, is_entry, header_of};
+ghost use Rattle.axp_image.specs.Grammar.{is_extent, extent_at, extents_at, segments_at, image_of};
 
 use crate::images::{Image, Segment};
 use crate::layout::{

@@ -1,7 +1,7 @@
-//! The operate instructions of opcodes 10, 11, 13 and 1C (hexadecimal), by the sections of the Alpha
-//! Architecture Reference Manual: sums, differences, products and comparisons (4.4), logic and
-//! conditional moves (4.5), CMPBGE and the sign extensions (4.6), AMASK and IMPLVER (4.11). Their rows
-//! are `specs/Rows.antt`, and `laws` says what the rows come to.
+//! The operate instructions of opcodes 10, 11, 13 and 1C (hexadecimal), by the sections of the
+//! Alpha Architecture Reference Manual: sums, differences, products and comparisons (4.4), logic
+//! and conditional moves (4.5), CMPBGE and the sign extensions (4.6), AMASK and IMPLVER (4.11).
+//! Their rows are `specs/Rows.antt`, and `laws` says what the rows come to.
 #![tactic(auto)]
 
 mod comparing;

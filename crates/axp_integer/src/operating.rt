@@ -8,8 +8,8 @@ use axp_base::sext;
 use axp_decode::Op;
 
 /// What an integer instruction writes to Rc, and whether it overflows, which a /V instruction alone
-/// does. `a` is the value of Ra, `b` that of Rb or the literal, and `old` that of Rc before, which a
-/// conditional move may leave. Every value of 64 bits is allowed.
+/// does. `a` is the value of Ra, `b` that of Rb or the literal, and `old` that of Rc before, which
+/// a conditional move may leave. Every value of 64 bits is allowed.
 pub fn operate(op: Op, a: u64, b: u64, old: u64) -> (u64, bool)
     requires { IsInteger op }
     ensures value { result.0 ≡ value_of op a b old }

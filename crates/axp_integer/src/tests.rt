@@ -3,7 +3,8 @@ use axp_decode::{BYTE_OPCODE, Op, opcode_number};
 use std::process::Abort;
 use std::test::*;
 
-/// An instruction, the values of Ra, of Rb and of Rc before, and what Rc becomes and whether it overflows.
+/// An instruction, the values of Ra, of Rb and of Rc before, and what Rc becomes and whether it
+/// overflows.
 type Row = (Op, u64, u64, u64, u64, bool);
 
 /// The least and the largest integer of 64 bits, and -1.

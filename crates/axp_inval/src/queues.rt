@@ -27,7 +27,8 @@ impl Model for LateQueue {
 }
 
 impl LateQueue {
-    /// An empty queue, with room for this many pairs; [`NoMemory`] where memory was not found for it.
+    /// An empty queue, with room for this many pairs; [`NoMemory`] where memory was not found for
+    /// it.
     pub fn with_room(alloc: Global, room: u32) -> Result<LateQueue, NoMemory>
         ensures { IfOk result (λ q. q ≡ queue [] room) }
     {

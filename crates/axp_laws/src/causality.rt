@@ -6,9 +6,9 @@ ghost use Rattle.axp_model.specs.Causality.{IsChain, IsSourceOf, MayGoInto, valu
 ghost use Rattle.axp_access.specs.Numbering.{NumberedAccess};
 
 /// In every run a memory write that gives a read or fetch a byte had its value before the read or
-/// fetch had its own; a read or fetch had its value before each memory write that its processor makes
-/// later; so no chain of accesses, each the source of the next or a read or fetch before the next,
-/// leads from an access back to itself.
+/// fetch had its own; a read or fetch had its value before each memory write that its processor
+/// makes later; so no chain of accesses, each the source of the next or a read or fetch before the
+/// next, leads from an access back to itself.
 pub fn no_causal_loop()
     ensures source { (h : List Record) → Run h → (u v : NumberedAccess)
         → IsSourceOf h u v → value_moment u < value_moment v }

@@ -8,7 +8,8 @@ ghost use Rattle.axp_base.specs.Lines.{in_bank};
 ghost use Rattle.axp_laws.specs.Counts.{last_other};
 ghost use Rattle.axp_model.specs.Entries.{buffer};
 ghost use Rattle.axp_model.specs.Late.{code_copies, code_held, copies, held, late};
-ghost use Rattle.axp_laws.specs.LateLaws.{AreTurns, HasJustFenced, IsCounted, IsReached, ListsExactly};
+ghost use Rattle.axp_laws.specs.LateLaws.{AreTurns, HasJustFenced, IsCounted, IsReached};
+ghost use Rattle.axp_laws.specs.LateLaws.{ListsExactly};
 ghost use Rattle.axp_model.specs.Turns.{stamp};
 
 /// The invalidations that are late for a processor and a data bank are the turns that other
@@ -39,12 +40,13 @@ pub fn held_copies()
 {}
 
 /// The copies of a data bank are listed exactly as the lines of the bank that the processor holds,
-/// in ascending order, each once; those of the code bank likewise. A bank never has more than it has
-/// room for.
+/// in ascending order, each once; those of the code bank likewise. A bank never has more than it
+/// has room for.
 pub fn copies_are_held_lines()
     ensures in_data { (p : ℕ) (b : Bank) (h : List Record)
         → ListsExactly (λ l. in_bank b l && held p l h) (copies p b h) }
-    ensures in_code { (p : ℕ) (h : List Record) → ListsExactly (λ l. code_held p l h) (code_copies p h) }
+    ensures in_code { (p : ℕ) (h : List Record)
+        → ListsExactly (λ l. code_held p l h) (code_copies p h) }
     ensures data_fits { (h : List Record) → Run h → (p : ℕ) (b : Bank)
         → length (copies p b h) ≤ BANK_COPIES }
     ensures code_fits { (h : List Record) → Run h → (p : ℕ)

@@ -1,5 +1,5 @@
-//! What the definitions of the memory model say in other words: laws of every run, each proved as the
-//! contract of a function that does nothing.
+//! What the definitions of the memory model say in other words: laws of every run, each proved as
+//! the contract of a function that does nothing.
 #![tactic(auto)]
 
 mod causality;

@@ -7,11 +7,12 @@ ghost use Rattle.axp_model.specs.Locks.{lock};
 ghost use Rattle.axp_laws.specs.LockLaws.{IsStillLocked};
 ghost use Rattle.axp_model.specs.Locking.{KeepsLocking};
 
-/// An STx_C of a processor may succeed at an address, as far as its lock register says, exactly where
-/// the processor's last LDx_L was of the same block of 16 bytes and since then it made no STx_C, of
-/// any outcome, and no other processor made a turn on the block's line.
+/// An STx_C of a processor may succeed at an address, as far as its lock register says, exactly
+/// where the processor's last LDx_L was of the same block of 16 bytes and since then it made no
+/// STx_C, of any outcome, and no other processor made a turn on the block's line.
 pub fn undisturbed_in_words()
-    ensures { (p address : ℕ) (h : List Record) → IsTrue (is_allowed address (lock p h)) ↔ IsStillLocked p address h }
+    ensures { (p address : ℕ) (h : List Record)
+        → IsTrue (is_allowed address (lock p h)) ↔ IsStillLocked p address h }
 {}
 
 /// Each STx_C that succeeds is paired with an LDx_L of its processor: that precedes it in issue

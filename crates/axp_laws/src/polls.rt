@@ -10,12 +10,13 @@ ghost use Rattle.axp_model.specs.Accesses.{accesses, times};
 ghost use Rattle.axp_model.specs.Polls.{IsAwaited, poll_item, polled};
 ghost use Rattle.axp_laws.specs.PollLaws.{is_signal_or_poll};
 
-/// A Poll of a run shows a signal exactly where one to its processor is BEFORE it and no Poll of the
-/// processor that entered stands between the two. It stays so whatever comes later, since later records
-/// leave the order of signals and Polls as it is. A Poll enters exactly where it shows a signal and the
-/// processor's interrupt level is low.
+/// A Poll of a run shows a signal exactly where one to its processor is BEFORE it and no Poll of
+/// the processor that entered stands between the two. It stays so whatever comes later, since later
+/// records leave the order of signals and Polls as it is. A Poll enters exactly where it shows a
+/// signal and the processor's interrupt level is low.
 pub fn poll_rule()
-    ensures pending { (later : List Record) (e : Event) (pending entered : Bool) (turn : ℕ) (h : List Record)
+    ensures pending { (later : List Record) (e : Event) (pending entered : Bool) (turn : ℕ)
+        (h : List Record)
         → Run (later ++ polled e pending entered turn ∷ h) → (pending ≡ true)
         ↔ IsAwaited (later ++ polled e pending entered turn ∷ h) (poll_item e pending turn h) }
     ensures access { (e : Event) (pending entered : Bool) (turn : ℕ) (h : List Record)

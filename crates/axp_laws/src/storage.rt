@@ -20,7 +20,8 @@ ghost use Rattle.axp_laws.specs.StorageLaws.{Makes, memory_after, reaches_bytes,
 /// Each read and fetch of a run has the bytes of its sources, now and after every later record.
 pub fn storage_is_kept()
     ensures value { (h : List Record) (run : Run h) → KeepsStorage run.image h }
-    ensures bytes { (h : List Record) (run : Run h) → HasBytes run.image → KeepsEachByte run.image h }
+    ensures bytes { (h : List Record) (run : Run h) → HasBytes run.image
+        → KeepsEachByte run.image h }
 {}
 
 /// What the source of a byte is. A plain read takes it from the last own earlier write of the byte
@@ -33,7 +34,8 @@ pub fn closed_form_of_sources()
         → source_in (more ++ r ∷ h) h at a
         ≡ option_or (newest_waiting (cpu_number a.cpu) at h)
         (memory_after h (read_place (cpu_number a.cpu) (line_of at) h) at) }
-    ensures of_a_load_locked { (more : List Record) (r : Record) (h : List Record) (a : Access) (at : ℕ)
+    ensures of_a_load_locked { (more : List Record) (r : Record) (h : List Record) (a : Access)
+        (at : ℕ)
         → Run (more ++ r ∷ h) → Makes r Locked a → has_byte at a ≡ true
         → source_in (more ++ r ∷ h) h at a ≡ memory_after h (turns h) at }
     ensures of_a_fetch { (more : List Record) (r : Record) (h : List Record) (a : Access) (at : ℕ)
@@ -48,16 +50,16 @@ pub fn memory_of_past_turns_stays()
         → memory_after (more ++ h) n at ≡ memory_after h n at }
 {}
 
-/// Of a line that a processor holds, memory has the same bytes after the line's stamp, when its copy
-/// was brought in or written, and where a plain read of the line stands.
+/// Of a line that a processor holds, memory has the same bytes after the line's stamp, when its
+/// copy was brought in or written, and where a plain read of the line stands.
 pub fn held_copies_are_memory()
     ensures { (h : List Record) (p at : ℕ) → Run h → held p (line_of at) h ≡ true
         → memory_after h (read_place p (line_of at) h) at
         ≡ memory_after h (stamp p (line_of at) h) at }
 {}
 
-/// A byte of an aligned quadword was written by a drain or a store-conditional that succeeded exactly
-/// where a memory write of the history that reached memory has a byte of it.
+/// A byte of an aligned quadword was written by a drain or a store-conditional that succeeded
+/// exactly where a memory write of the history that reached memory has a byte of it.
 pub fn written_quadwords()
     ensures { (h : List Record) (q : ℕ) → is_touched h q
         ≡ list_any (reaches_bytes h (q * QUADWORD_BYTES) QUADWORD_BYTES) (accesses h) }

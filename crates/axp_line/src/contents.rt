@@ -51,7 +51,8 @@ impl LineData {
     /// Takes the bytes of another line that the mask has; every other byte stays.
     #[tactic(auto, using(crate::proofs::MergeLemmas::merged_none, crate::proofs::MergeLemmas::merged_more))]
     pub fn merge(&mut self, mask: Mask, from: &LineData)
-        ensures { bytes_of_line self.new ≡ merged (mask_bits mask) (bytes_of_line from.now) (bytes_of_line self.old) }
+        ensures { bytes_of_line self.new
+            ≡ merged (mask_bits mask) (bytes_of_line from.now) (bytes_of_line self.old) }
     {
         for n in 0..LENGTH {
             if mask.has(n as u8) {

@@ -14,7 +14,9 @@ pub fn line_is_whole()
 /// byte and the length.
 pub fn merged_bytes()
     ensures each { (mask : ℕ) (from old : List ℕ) (n : ℕ) → LINE_BYTES ≤ length old → n < LINE_BYTES
-        → slice_index (merged mask from old) n ≡ (if has_bit mask n then slice_index from n else slice_index old n) }
-    ensures past { (mask : ℕ) (from old : List ℕ) (n : ℕ) → LINE_BYTES ≤ n → slice_index (merged mask from old) n ≡ slice_index old n }
+        → slice_index (merged mask from old) n
+        ≡ (if has_bit mask n then slice_index from n else slice_index old n) }
+    ensures past { (mask : ℕ) (from old : List ℕ) (n : ℕ) → LINE_BYTES ≤ n
+        → slice_index (merged mask from old) n ≡ slice_index old n }
     ensures as_long { (mask : ℕ) (from old : List ℕ) → length (merged mask from old) ≡ length old }
 {}

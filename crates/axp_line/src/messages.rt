@@ -134,8 +134,8 @@ pub enum Request {
     },
 }
 
-/// What the bus answers. A turn is the number of a write that reaches memory or of a signal, or, where
-/// nothing is written, the number of turns made before.
+/// What the bus answers. A turn is the number of a write that reaches memory or of a signal, or,
+/// where nothing is written, the number of turns made before.
 #[derive(Clone, Copy, Debug, PartialEq, Eq)]
 pub enum Reply {
     /// To a fill or a load-locked: the line.

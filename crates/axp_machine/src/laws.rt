@@ -9,19 +9,23 @@ ghost use Rattle.axp_machine.specs.Runs.{Seen, IsRun, events_of, processors_of, 
 ghost use Rattle.axp_world.specs.Worlds.{IsPlayed, image_bytes};
 
 /// A machine's records are the run of their own events: the same events, in the same order, bring a
-/// machine at the start to the same records. Every list of events makes such a run, and over a valid
-/// image each such run is one of the memory model.
+/// machine at the start to the same records. Every list of events makes such a run, and over a
+/// valid image each such run is one of the memory model.
 pub fn records_are_a_run()
-    ensures again { (m : Seen) → IsRun m → run (started m.image m.cpus m.budget) (events_of m.records) ≡ m }
-    ensures from_start { (image : Contents) (cpus budget : ℕ) (events : List Event) → IsRun (run (started image cpus budget) events) }
-    ensures model { (m : Seen) → IsValid m.image → IsRun m → model.IsRun (image_bytes m.image) (processors_of m) m.records }
+    ensures again { (m : Seen) → IsRun m
+        → run (started m.image m.cpus m.budget) (events_of m.records) ≡ m }
+    ensures from_start { (image : Contents) (cpus budget : ℕ) (events : List Event)
+        → IsRun (run (started image cpus budget) events) }
+    ensures model { (m : Seen) → IsValid m.image → IsRun m
+        → model.IsRun (image_bytes m.image) (processors_of m) m.records }
 {}
 
 /// Every run over a valid image keeps the constraints of Alpha's shared memory, in the order of the
 /// printed places: it is a run of the memory model, so its accesses satisfy the issue, location,
-/// visibility, storage and locking constraints and have no causal loop. A run after fewer of its events
-/// is a run, so the same holds at every prefix.
+/// visibility, storage and locking constraints and have no causal loop. A run after fewer of its
+/// events is a run, so the same holds at every prefix.
 pub fn runs_keep_the_constraints()
-    ensures prefix { (image : Contents) (cpus budget : ℕ) (more h : List Record) → IsPlayed image cpus budget (more ++ h) → IsPlayed image cpus budget h }
+    ensures prefix { (image : Contents) (cpus budget : ℕ) (more h : List Record)
+        → IsPlayed image cpus budget (more ++ h) → IsPlayed image cpus budget h }
     ensures constraints { (m : Seen) → IsValid m.image → IsRun m → KeepsConstraints m }
 {}

@@ -1,8 +1,8 @@
 //! The machine: processors over the bus, by the events that they are given.
 //!
-//! What an event gives after any records is `answer_of` (`specs/Runs.antt`): each processor goes by its
-//! own events and by the bus's answers (`axp_world`), and that is what the memory model says of the
-//! records.
+//! What an event gives after any records is `answer_of` (`specs/Runs.antt`): each processor goes by
+//! its own events and by the bus's answers (`axp_world`), and that is what the memory model says of
+//! the records.
 #![tactic(auto)]
 
 mod laws;

@@ -55,11 +55,13 @@ impl Machine {
     ghost use Rattle.axp_lsu.specs.Within.{IsAskWithin};
     ghost use Rattle.axp_machine.specs.Constraints.{KeepsConstraints};
     ghost use Rattle.axp_machine.specs.Playing.{actor_of, granted_in};
-    ghost use Rattle.axp_machine.specs.Runs.{started, answer_of, after_event, with_record, IsRun, is_complete, processors_of, seat_of, table_of, steps_of, quadword_of, touches};
+    ghost use Rattle.axp_machine.specs.Runs.{started, answer_of, after_event, with_record, IsRun};
+    ghost use Rattle.axp_machine.specs.Runs.{is_complete, processors_of, seat_of, table_of};
+    ghost use Rattle.axp_machine.specs.Runs.{steps_of, quadword_of, touches};
 
     /// A machine at the start: `cpus` processors, 2 to 8, each with a budget of steps, 1 to 32,768,
-    /// over the image's memory. All room that the records, the late invalidations and the console take
-    /// is taken here.
+    /// over the image's memory. All room that the records, the late invalidations and the console
+    /// take is taken here.
     pub fn load(alloc: Global, image: &Image, cpus: u8, budget: u32) -> Result<Machine, NoMemory>
         requires least_cpus { MIN_CPUS ≤ cpus }
         requires most_cpus { cpus ≤ MAX_CPUS }
@@ -112,8 +114,8 @@ impl Machine {
         self.records.len() as u32
     }
 
-    /// Whether every processor is finished (halted, or its budget of steps made) and no write waits in
-    /// a buffer.
+    /// Whether every processor is finished (halted, or its budget of steps made) and no write waits
+    /// in a buffer.
     pub fn complete(&self) -> bool
         ensures { result ≡ is_complete self.now }
     {
@@ -128,7 +130,8 @@ impl Machine {
     fn processor(&self, cpu: Cpu) -> &Processor
         requires { cpu_number cpu < self.now.cpus }
         ensures at { IsAt result.now (actor_of self.now (cpu_number cpu)) }
-        ensures seat { seat_of self.now (cpu_number cpu) ≡ (actor_of self.now (cpu_number cpu)).seat }
+        ensures seat { seat_of self.now (cpu_number cpu)
+            ≡ (actor_of self.now (cpu_number cpu)).seat }
     {
         &self.processors[usize::from(cpu.number())]
     }
@@ -182,17 +185,17 @@ impl Machine {
         self.bus.tail_memory(quadword * QUADWORD_BYTES)
     }
 
-    /// Does an event and tells its outcome, and keeps the record of both. [`Refusal::NotLegal`] exactly
-    /// where its processor is not one of the machine's, or the event is not legal after the records so
-    /// far; [`Refusal::NotBuilt`] exactly where it is legal and comes to what is not built. A refused
-    /// event leaves the machine as it was.
-    /// That an event is not legal is said once more in the memory model's words (`legal`). The records are
-    /// always a run, so they keep the constraints of shared memory, and one line of a trace spells each of
-    /// them.
+    /// Does an event and tells its outcome, and keeps the record of both. [`Refusal::NotLegal`]
+    /// exactly where its processor is not one of the machine's, or the event is not legal after the
+    /// records so far; [`Refusal::NotBuilt`] exactly where it is legal and comes to what is not
+    /// built. A refused event leaves the machine as it was. That an event is not legal is said once
+    /// more in the memory model's words (`legal`). The records are always a run, so they keep the
+    /// constraints of shared memory, and one line of a trace spells each of them.
     #[tactic(auto, unfolding(crate::specs::Runs::after_event), using(crate::proofs::RunLemmas::keeps_constraints))]
     pub fn event(&mut self, event: Event) -> Result<Outcome, Refusal>
         ensures answer { result ≡ answer_of self.old event }
-        ensures legal { is_not_legal result ≡ not (legal (processors_of self.old) self.old.records event) }
+        ensures legal { is_not_legal result
+            ≡ not (legal (processors_of self.old) self.old.records event) }
         ensures after { self.new ≡ after_event self.old event }
         ensures run { IsRun self.new }
         ensures constraints { KeepsConstraints self.new }
@@ -204,7 +207,8 @@ impl Machine {
         }
     }
 
-    /// What an event asks of the bus, or why it is refused: a take where nothing is late is not legal.
+    /// What an event asks of the bus, or why it is refused: a take where nothing is late is not
+    /// legal.
     fn grant(&self, event: Event) -> Result<Ask2, Refusal>
         ensures granted { result ≡ granted_in self.now event }
         ensures within { IfOk result (IsAskWithin self.now.image.size) }
@@ -232,7 +236,8 @@ impl Machine {
         requires granted { granted_in self.old event ≡ Ok ask }
         requires within { IsAskWithin self.old.image.size ask }
         ensures answer { answer_of self.old event ≡ Ok result }
-        ensures after { self.new ≡ with_record self.old (record { event = event; outcome = result }) }
+        ensures after { self.new ≡ with_record self.old
+            (record { event = event; outcome = result }) }
         ensures run { IsRun self.new }
         ensures valid { IsValid self.new.image }
         ensures spelled { Spells event result }
@@ -275,8 +280,10 @@ fn bank_taken(ask: &Ask2) -> Option<Bank>
 /// The bus's answer, where it is asked.
 fn answer(bus: &mut Bus, cpu: Cpu, ask: Ask2) -> Option<Reply>
     requires { MayAnswer bus.old cpu ask }
-    ensures reply { (image : ℕ → ℕ) (cs : List BusCall) → Stands bus.old image cs → result ≡ reply_for image cs (cpu_number cpu) (Ok ask) }
-    ensures stands { (image : ℕ → ℕ) (cs : List BusCall) → Stands bus.old image cs → Stands bus.new image (calls_for image cs cpu (Ok ask)) }
+    ensures reply { (image : ℕ → ℕ) (cs : List BusCall) → Stands bus.old image cs
+        → result ≡ reply_for image cs (cpu_number cpu) (Ok ask) }
+    ensures stands { (image : ℕ → ℕ) (cs : List BusCall) → Stands bus.old image cs
+        → Stands bus.new image (calls_for image cs cpu (Ok ask)) }
     ensures size { length bus.new.memory ≡ length bus.old.memory }
     ensures cpus { length bus.new.ports ≡ length bus.old.ports }
     ensures room { bus.new.room ≡ bus.old.room }

@@ -12,7 +12,8 @@ use axp_image::read_image;
 use std::alloc::Global;
 use std::test::Fail;
 
-/// Four pages of memory, with one segment at 0x2000, where every processor starts; its length follows.
+/// Four pages of memory, with one segment at 0x2000, where every processor starts; its length
+/// follows.
 const HEAD: [u8; 48] = [
     0x41, 0x58, 0x50, 0x49, 1, 0, 1, 0, // magic, version, count
     0, 0x80, 0, 0, 0, 0, 0, 0, // size
@@ -25,8 +26,8 @@ const HEAD: [u8; 48] = [
 /// LDA R1, 1(R31); STQ R1, 0(R30); LDQ R2, 0(R30); BIS R31, R2, R3; halt.
 const STORE_AND_LOAD: [u32; 5] = [0x203F_0001, 0xB43E_0000, 0xA45E_0000, 0x47E2_0403, 0];
 
-/// SLL R16, 5, R1; ADDQ R30, R1, R2; BIS R31, 1, R3; STQ R3, 0(R2); XOR R1, 32, R1;
-/// ADDQ R30, R1, R4; LDQ R5, 0(R4); halt: each processor stores 1 to its own line and loads the other's.
+/// SLL R16, 5, R1; ADDQ R30, R1, R2; BIS R31, 1, R3; STQ R3, 0(R2); XOR R1, 32, R1; ADDQ R30, R1,
+/// R4; LDQ R5, 0(R4); halt: each processor stores 1 to its own line and loads the other's.
 const STORE_BUFFERING: [u32; 8] = [
     0x4A00_B721,
     0x43C1_0402,

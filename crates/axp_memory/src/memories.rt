@@ -3,7 +3,8 @@ ghost use Rattle.axp_base.specs.Lines.{line_number};
 ghost use Rattle.axp_base.specs.Masks.{mask_bits};
 ghost use Rattle.axp_base.specs.declared.lines.TheConstants.{LINE_BYTES};
 ghost use Rattle.axp_line.specs.Lines.{bytes_of_line};
-ghost use Rattle.axp_memory.specs.Bytes.{AreLines, IsLoaded, PutsPiece, bytes_at, line_in, merged_at, written};
+ghost use Rattle.axp_memory.specs.Bytes.{AreLines, IsLoaded, PutsPiece, bytes_at, line_in};
+ghost use Rattle.axp_memory.specs.Bytes.{merged_at, written};
 
 use axp_base::{LINE_BYTES, Line, Mask, NoMemory};
 use axp_image::Image;
@@ -66,7 +67,8 @@ impl Ram {
     #[tactic(auto, using(crate::proofs::MergingLemmas::length_merged_at))]
     pub fn write(&mut self, line: Line, mask: Mask, bytes: &LineData)
         requires { line_number line * LINE_BYTES < length self.old }
-        ensures bytes { self.new ≡ written (line_number line) (mask_bits mask) (bytes_of_line bytes.now) self.old }
+        ensures bytes { self.new ≡ written (line_number line) (mask_bits mask)
+            (bytes_of_line bytes.now) self.old }
         ensures size { length self.new ≡ length self.old }
     {
         let at = line.address() as usize;

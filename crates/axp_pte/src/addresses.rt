@@ -41,8 +41,9 @@ fn split_parts(va: u64) -> Parts
     }
 }
 
-/// Where a virtual address leads in a mode. `Acv` where bits 63:43 do not all equal bit 42, and in user
-/// mode where the address is in KSEG, which is where bits 42:41 are 10; there is no other fault.
+/// Where a virtual address leads in a mode. `Acv` where bits 63:43 do not all equal bit 42, and in
+/// user mode where the address is in KSEG, which is where bits 42:41 are 10; there is no other
+/// fault.
 #[tactic(auto, unfolding(crate::specs::Addresses::split_of))]
 pub fn split(va: u64, mode: Mode) -> Result<Where, MmFault>
     ensures value { result ≡ split_of va mode }

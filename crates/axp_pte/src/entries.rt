@@ -1,5 +1,6 @@
 ghost use Rattle.std.specs.Prelude.{⊤, ◌≡◌, ◌==◌, ◌<◌, ◌^◌, ◌∷◌, [], ℕ, bit_and, codes};
-ghost use Rattle.axp_pte.specs.Entries.{has_asm, is_valid, named_bits, pfn_of, pte_of, pte_word, set_bits};
+ghost use Rattle.axp_pte.specs.Entries.{has_asm, is_valid, named_bits, pfn_of, pte_of, pte_word};
+ghost use Rattle.axp_pte.specs.Entries.{set_bits};
 
 use bitflags::{Flag, Flags, bitflag_items};
 
@@ -48,8 +49,9 @@ impl Flags for PteBits {
     }
 }
 
-/// A page table entry, one quadword of a page table: its named bits, and in bits 63:32 the page frame
-/// number (PFN) of the page or table that it leads to. The other bits are kept, and mean nothing here.
+/// A page table entry, one quadword of a page table: its named bits, and in bits 63:32 the page
+/// frame number (PFN) of the page or table that it leads to. The other bits are kept, and mean
+/// nothing here.
 #[derive(Clone, Copy, Debug, Default, PartialEq, Eq)]
 pub struct Pte(u64);
 
@@ -85,8 +87,8 @@ impl Pte {
         self.0 >> 32
     }
 
-    /// Whether the entry has ASM, the address space match bit: its page is the same for every address
-    /// space number.
+    /// Whether the entry has ASM, the address space match bit: its page is the same for every
+    /// address space number.
     #[tactic(auto, using(crate::proofs::BitLemmas::address_space_match_tested))]
     pub fn matches_every_asn(self) -> bool
         ensures { result ≡ has_asm (pte_word self) }
@@ -104,7 +106,8 @@ impl Pte {
 
     /// Whether the named bits of a set are all 1.
     pub(crate) fn has(self, flag: PteBits) -> bool
-        ensures { result ≡ (bit_and (bit_and (pte_word self) named_bits) (set_bits flag) == set_bits flag) }
+        ensures { result ≡ (bit_and (bit_and (pte_word self) named_bits) (set_bits flag) == set_bits
+            flag) }
     {
         self.bits().contains(flag)
     }

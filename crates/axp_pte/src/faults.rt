@@ -23,8 +23,8 @@ pub enum Way {
 pub enum MmFault {
     /// Translation not valid: an entry on the way has V = 0.
     Tnv,
-    /// Access control violation: the entry gives the mode no right to the access, or the mode cannot
-    /// reach the address at all.
+    /// Access control violation: the entry gives the mode no right to the access, or the mode
+    /// cannot reach the address at all.
     Acv,
     /// Fault on read: a load at an entry with FOR.
     For,

@@ -16,13 +16,15 @@ pub fn parts_make_the_address()
     ensures l2 { (va : ℕ) → (parts_of va).l2 < 2 ^ 10 }
     ensures l3 { (va : ℕ) → (parts_of va).l3 < 2 ^ 10 }
     ensures offset { (va : ℕ) → (parts_of va).offset < 2 ^ 13 }
-    ensures one_address { (a b : ℕ) → is_extended a ≡ true → is_extended b ≡ true → parts_of a ≡ parts_of b → a ≡ b }
+    ensures one_address { (a b : ℕ) → is_extended a ≡ true → is_extended b ≡ true
+        → parts_of a ≡ parts_of b → a ≡ b }
 {}
 
-/// An address is extended exactly where its bits 63:43 all equal bit 42, and in KSEG exactly where bit
-/// 42 is 1 and bit 41 is 0.
+/// An address is extended exactly where its bits 63:43 all equal bit 42, and in KSEG exactly where
+/// bit 42 is 1 and bit 41 is 0.
 pub fn extension_repeats_bit_42()
-    ensures repeats { (va : ℕ) → va < 2 ^ 64 → (is_extended va ≡ true) ↔ ((n : ℕ) → 43 ≤ n → n < 64 → has_bit va n ≡ has_bit va 42) }
+    ensures repeats { (va : ℕ) → va < 2 ^ 64
+        → (is_extended va ≡ true) ↔ ((n : ℕ) → 43 ≤ n → n < 64 → has_bit va n ≡ has_bit va 42) }
     ensures kseg { (va : ℕ) → is_kseg va ≡ (has_bit va 42 && not (has_bit va 41)) }
 {}
 

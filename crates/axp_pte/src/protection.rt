@@ -1,7 +1,9 @@
 ghost use Rattle.std.specs.Prelude.{◌≡◌, ◌<◌, ◌↔◌, ◌^◌, true, false, Err, Ok, IfOk};
 ghost use Rattle.axp_base.specs.Masks.{has_bit};
-ghost use Rattle.axp_pte.specs.Entries.{pfn_of, pte_word, set_bits, fault_on_execute_bit, fault_on_read_bit, fault_on_write_bit, is_valid};
-ghost use Rattle.axp_pte.specs.Protection.{allows, fault_bit, fault_of, right_bit, rights_of, upper_of};
+ghost use Rattle.axp_pte.specs.Entries.{pfn_of, pte_word, set_bits, fault_on_execute_bit};
+ghost use Rattle.axp_pte.specs.Entries.{fault_on_read_bit, fault_on_write_bit, is_valid};
+ghost use Rattle.axp_pte.specs.Protection.{allows, fault_bit, fault_of, right_bit, rights_of};
+ghost use Rattle.axp_pte.specs.Protection.{upper_of};
 ghost use Rattle.axp_pte.specs.declared.faults.MmFault.TheVariants.{Tnv, Acv, For, Foe, Fow};
 ghost use Rattle.axp_pte.specs.declared.faults.Way.TheVariants.{Fetch, Load, Store};
 
@@ -32,8 +34,8 @@ fn fault_on(way: Way) -> (PteBits, MmFault)
     }
 }
 
-/// The page frame number, below 2^32, of the next level's table, from an entry of the first two levels;
-/// `Tnv` where the entry has V = 0. No other bit matters at these levels.
+/// The page frame number, below 2^32, of the next level's table, from an entry of the first two
+/// levels; `Tnv` where the entry has V = 0. No other bit matters at these levels.
 #[tactic(auto, unfolding(crate::specs::Protection::upper_of))]
 pub fn upper(pte: Pte) -> Result<u64, MmFault>
     ensures value { result ≡ upper_of (pte_word pte) }
@@ -48,10 +50,10 @@ pub fn upper(pte: Pte) -> Result<u64, MmFault>
     }
 }
 
-/// The page frame number, below 2^32, of the page, from an entry of the third level, for an access. Of the faults
-/// the first that stands comes: `Acv` where the mode's right is missing, also at an entry that is not
-/// valid; `Tnv` where the entry has V = 0; then `Foe` for a fetch at FOE, `For` for a load at FOR, and
-/// `Fow` for a store at FOW.
+/// The page frame number, below 2^32, of the page, from an entry of the third level, for an access.
+/// Of the faults the first that stands comes: `Acv` where the mode's right is missing, also at an
+/// entry that is not valid; `Tnv` where the entry has V = 0; then `Foe` for a fetch at FOE, `For`
+/// for a load at FOR, and `Fow` for a store at FOW.
 #[tactic(auto, unfolding(crate::specs::Protection::rights_of), using(crate::proofs::BitLemmas::right_tested, crate::proofs::BitLemmas::fault_tested))]
 pub fn rights(pte: Pte, mode: Mode, way: Way) -> Result<u64, MmFault>
     ensures value { result ≡ rights_of (pte_word pte) mode way }

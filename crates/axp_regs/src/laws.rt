@@ -3,18 +3,27 @@
 ghost use Rattle.std.specs.Prelude.{ℕ, Bool, ◌≡◌, ◌≢◌, ◌<◌, length};
 ghost use Rattle.axp_regs.specs.declared.states.State.{State};
 ghost use Rattle.axp_regs.specs.declared.states.TheConstants.{ENTRIES, REGISTERS, ZERO_REGISTER};
-ghost use Rattle.axp_regs.specs.States.{register, with_register, entry_of, with_entry, number_of, first_state, pc_of, with_pc, ps_of, with_ps, ksp_of, with_ksp, usp_of, with_usp, kgp_of, with_kgp, ptbr_of, with_ptbr, pcbb_of, with_pcbb, asn_of, with_asn, offset_of, with_offset, unique_of, with_unique, fen_of, with_fen, sysvalue_of, with_sysvalue, vptptr_of, with_vptptr, locked_of, with_locked, fetched_of, with_fetched};
+ghost use Rattle.axp_regs.specs.States.{register, with_register, entry_of, with_entry, number_of};
+ghost use Rattle.axp_regs.specs.States.{first_state, pc_of, with_pc, ps_of, with_ps, ksp_of};
+ghost use Rattle.axp_regs.specs.States.{with_ksp, usp_of, with_usp, kgp_of, with_kgp, ptbr_of};
+ghost use Rattle.axp_regs.specs.States.{with_ptbr, pcbb_of, with_pcbb, asn_of, with_asn, offset_of};
+ghost use Rattle.axp_regs.specs.States.{with_offset, unique_of, with_unique, fen_of, with_fen};
+ghost use Rattle.axp_regs.specs.States.{sysvalue_of, with_sysvalue, vptptr_of, with_vptptr};
+ghost use Rattle.axp_regs.specs.States.{locked_of, with_locked, fetched_of, with_fetched};
 ghost use Rattle.axp_regs.specs.Keeps.{KeepsFields, KeepsRegisters, KeepsEntries};
 
-/// A register that is written is read back, but for R31, which reads as 0 in every state. Each other
-/// register stays, and so do the number of registers, the entries and all else.
+/// A register that is written is read back, but for R31, which reads as 0 in every state. Each
+/// other register stays, and so do the number of registers, the entries and all else.
 pub fn register_writes_are_read_back()
-    ensures same { (s : State) (n v : ℕ) → length s.registers ≡ REGISTERS → n < REGISTERS → n ≢ ZERO_REGISTER
+    ensures same { (s : State) (n v : ℕ) → length s.registers ≡ REGISTERS → n < REGISTERS
+        → n ≢ ZERO_REGISTER
         → register (with_register s n v) n ≡ v }
     ensures zero { (s : State) → register s ZERO_REGISTER ≡ 0 }
     ensures lost { (s : State) (v : ℕ) → with_register s ZERO_REGISTER v ≡ s }
-    ensures others { (s : State) (n v m : ℕ) → m ≢ n → register (with_register s n v) m ≡ register s m }
-    ensures as_long { (s : State) (n v : ℕ) → length (with_register s n v).registers ≡ length s.registers }
+    ensures others { (s : State) (n v m : ℕ) → m ≢ n
+        → register (with_register s n v) m ≡ register s m }
+    ensures as_long { (s : State) (n v : ℕ)
+        → length (with_register s n v).registers ≡ length s.registers }
     ensures entries { (s : State) (n v : ℕ) → KeepsEntries s (with_register s n v) }
     ensures fields { (s : State) (n v : ℕ) → KeepsFields s (with_register s n v) }
 {}
@@ -22,8 +31,10 @@ pub fn register_writes_are_read_back()
 /// An entry that is written is read back. Each other entry stays, and so do the number of entries,
 /// the registers and all else.
 pub fn entry_writes_are_read_back()
-    ensures same { (s : State) (n v : ℕ) → length s.entries ≡ ENTRIES → n < ENTRIES → entry_of (with_entry s n v) n ≡ v }
-    ensures others { (s : State) (n v m : ℕ) → m ≢ n → entry_of (with_entry s n v) m ≡ entry_of s m }
+    ensures same { (s : State) (n v : ℕ) → length s.entries ≡ ENTRIES → n < ENTRIES
+        → entry_of (with_entry s n v) n ≡ v }
+    ensures others { (s : State) (n v m : ℕ) → m ≢ n
+        → entry_of (with_entry s n v) m ≡ entry_of s m }
     ensures as_long { (s : State) (n v : ℕ) → length (with_entry s n v).entries ≡ length s.entries }
     ensures registers { (s : State) (n v : ℕ) → KeepsRegisters s (with_entry s n v) }
     ensures fields { (s : State) (n v : ℕ) → KeepsFields s (with_entry s n v) }
@@ -67,7 +78,8 @@ pub fn field_writes_keep_registers()
     ensures fetched { (s : State) (v : ℕ) → KeepsRegisters s (with_fetched s v) }
 {}
 
-/// At the start every register and every entry reads as 0, and there are as many as there should be.
+/// At the start every register and every entry reads as 0, and there are as many as there should
+/// be.
 pub fn first_state_is_empty()
     ensures registers { (number n : ℕ) → register (first_state number) n ≡ 0 }
     ensures register_count { (number : ℕ) → length (first_state number).registers ≡ REGISTERS }

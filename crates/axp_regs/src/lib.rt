@@ -1,5 +1,5 @@
-//! What one processor keeps beside its translation buffers: its registers, and an access as it asks for
-//! it.
+//! What one processor keeps beside its translation buffers: its registers, and an access as it asks
+//! for it.
 #![tactic(auto)]
 
 mod asks;

@@ -1,5 +1,11 @@
 ghost use Rattle.std.specs.Prelude.{◌≡◌, ◌<◌};
-ghost use Rattle.axp_regs.specs.States.{register, with_register, entry_of, with_entry, number_of, first_state, pc_of, with_pc, ps_of, with_ps, ksp_of, with_ksp, usp_of, with_usp, kgp_of, with_kgp, ptbr_of, with_ptbr, pcbb_of, with_pcbb, asn_of, with_asn, offset_of, with_offset, unique_of, with_unique, fen_of, with_fen, sysvalue_of, with_sysvalue, vptptr_of, with_vptptr, locked_of, with_locked, fetched_of, with_fetched};
+ghost use Rattle.axp_regs.specs.States.{register, with_register, entry_of, with_entry, number_of};
+ghost use Rattle.axp_regs.specs.States.{first_state, pc_of, with_pc, ps_of, with_ps, ksp_of};
+ghost use Rattle.axp_regs.specs.States.{with_ksp, usp_of, with_usp, kgp_of, with_kgp, ptbr_of};
+ghost use Rattle.axp_regs.specs.States.{with_ptbr, pcbb_of, with_pcbb, asn_of, with_asn, offset_of};
+ghost use Rattle.axp_regs.specs.States.{with_offset, unique_of, with_unique, fen_of, with_fen};
+ghost use Rattle.axp_regs.specs.States.{sysvalue_of, with_sysvalue, vptptr_of, with_vptptr};
+ghost use Rattle.axp_regs.specs.States.{locked_of, with_locked, fetched_of, with_fetched};
 
 /// How many integer registers a processor has.
 pub const REGISTERS: usize = 32;
@@ -13,8 +19,8 @@ pub const ENTRIES: usize = 6;
 /// The processor status at the start: kernel mode, interrupt level 7.
 pub const FIRST_PS: u64 = 7;
 
-/// The registers of one processor: the integer registers, the program counter, the processor status,
-/// the internal registers of PALcode, the lock flag and the count of fetched instructions.
+/// The registers of one processor: the integer registers, the program counter, the processor
+/// status, the internal registers of PALcode, the lock flag and the count of fetched instructions.
 #[derive(Clone, Copy, Debug)]
 pub struct State {
     registers: [u64; REGISTERS],
@@ -38,8 +44,8 @@ pub struct State {
 }
 
 impl State {
-    /// The state of a processor of this number at the start: the status is [`FIRST_PS`], all else is 0
-    /// or false.
+    /// The state of a processor of this number at the start: the status is [`FIRST_PS`], all else
+    /// is 0 or false.
     pub fn new(number: u8) -> State
         ensures { result ≡ first_state number }
     {

@@ -1,5 +1,5 @@
-//! The program `axp` once more, for its stored run alone: an event is not legal, so that the lines of
-//! the events before it are printed and the process ends with status 6.
+//! The program `axp` once more, for its stored run alone: an event is not legal, so that the lines
+//! of the events before it are printed and the process ends with status 6.
 #![tactic(auto)]
 
 use axp_program::run;

@@ -1,5 +1,6 @@
 ghost use Rattle.std.specs.Prelude.{◌≡◌, ◌↔◌, ◌≤◌, [], false, length, All, None, IsNone, IfSome};
-ghost use Rattle.axp_tb.specs.Buffers.{found, is_match, with_put, without_page, without_process, IsLastMatch};
+ghost use Rattle.axp_tb.specs.Buffers.{found, is_match, with_put, without_page, without_process};
+ghost use Rattle.axp_tb.specs.Buffers.{IsLastMatch};
 ghost use Rattle.axp_tb.specs.declared.buffers.TheConstants.{TB_ENTRIES};
 
 use crate::TbEntry;
@@ -35,9 +36,9 @@ impl Tb {
         }
     }
 
-    /// The page table entry of a page in an address space: of the entries of this page that were put
-    /// for this address space number or have ASM, the one that was put last. `None` where there is no
-    /// such entry.
+    /// The page table entry of a page in an address space: of the entries of this page that were
+    /// put for this address space number or have ASM, the one that was put last. `None` where there
+    /// is no such entry.
     pub fn find(&self, page: u64, asn: u32) -> Option<Pte>
         ensures value { result ≡ found self.now page asn }
         ensures none { IsNone result ↔ All (λ entry. is_match page asn entry ≡ false) self.now }
@@ -52,8 +53,8 @@ impl Tb {
         found
     }
 
-    /// Keeps the entry of a page that is not found yet in this address space, as the one put last. Where
-    /// [`TB_ENTRIES`] entries are kept already, they are all dropped first.
+    /// Keeps the entry of a page that is not found yet in this address space, as the one put last.
+    /// Where [`TB_ENTRIES`] entries are kept already, they are all dropped first.
     pub fn put(&mut self, page: u64, asn: u32, pte: Pte)
         requires { found self.old page asn ≡ None }
         ensures value { self.new ≡ with_put self.old page asn pte }
@@ -80,8 +81,8 @@ impl Tb {
         self.entries.retain(|entry| entry.pte.matches_every_asn());
     }
 
-    /// Drops the entries of a page that were put for this address space number or have ASM; the others
-    /// stay in their order.
+    /// Drops the entries of a page that were put for this address space number or have ASM; the
+    /// others stay in their order.
     #[tactic(auto, using(crate::proofs::DropLemmas::page_retained))]
     pub fn drop_page(&mut self, page: u64, asn: u32)
         ensures { self.new ≡ without_page self.old page asn }

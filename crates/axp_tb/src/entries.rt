@@ -15,8 +15,8 @@ pub struct TbEntry {
 }
 
 impl TbEntry {
-    /// Whether the entry is one of this page that serves this address space: it was put for it, or has
-    /// ASM.
+    /// Whether the entry is one of this page that serves this address space: it was put for it, or
+    /// has ASM.
     pub fn matches(self, page: u64, asn: u32) -> bool
         ensures { result ≡ is_match page asn self }
     {

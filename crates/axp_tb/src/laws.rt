@@ -1,8 +1,10 @@
 //! Laws of the translation buffer, each proved as the contract of a function that does nothing.
-ghost use Rattle.std.specs.Prelude.{ℕ, List, ◌≡◌, ◌≢◌, ◌↔◌, [], true, false, length, All, Contains, None, Some};
+ghost use Rattle.std.specs.Prelude.{ℕ, List, ◌≡◌, ◌≢◌, ◌↔◌, [], true, false, length, All, Contains};
+ghost use Rattle.std.specs.Prelude.{None, Some};
 ghost use Rattle.axp_pte.specs.Entries.{has_asm, pte_word};
 ghost use Rattle.axp_pte.specs.declared.entries.Pte.{Pte};
-ghost use Rattle.axp_tb.specs.Buffers.{found, is_match, with_put, without_page, without_process, IsLastMatch};
+ghost use Rattle.axp_tb.specs.Buffers.{found, is_match, with_put, without_page, without_process};
+ghost use Rattle.axp_tb.specs.Buffers.{IsLastMatch};
 ghost use Rattle.axp_tb.specs.declared.buffers.TheConstants.{TB_ENTRIES};
 ghost use Rattle.axp_tb.specs.declared.entries.TbEntry.{TbEntry};
 
@@ -15,9 +17,9 @@ pub fn finds_the_last()
     ensures empty { (page asn : ℕ) → found [] page asn ≡ None }
 {}
 
-/// An entry that was put is found, and with ASM in every address space. Every other page is found as
-/// before, and without ASM this page in every other address space, unless the buffer was full: then
-/// nothing else is found.
+/// An entry that was put is found, and with ASM in every address space. Every other page is found
+/// as before, and without ASM this page in every other address space, unless the buffer was full:
+/// then nothing else is found.
 pub fn finds_after_put()
     ensures same { (entries : List TbEntry) (page asn : ℕ) (pte : Pte)
         → found (with_put entries page asn pte) page asn ≡ Some pte }

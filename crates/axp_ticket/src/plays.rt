@@ -1,5 +1,6 @@
 //! What each step on the table tells.
-ghost use Rattle.axp_ticket.specs.Moves.{drawn, looked, passed, settled, left_of, right_of, both_of, nobody};
+ghost use Rattle.axp_ticket.specs.Moves.{drawn, looked, passed, settled, left_of, right_of};
+ghost use Rattle.axp_ticket.specs.Moves.{both_of, nobody};
 
 use crate::board::View;
 use crate::serving::Served;

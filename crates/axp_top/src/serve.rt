@@ -43,10 +43,10 @@ pub fn serve_plain<D: Desk, K: Sink>(
     ensures puts { let at = outside_at D.faults D.asks K.taken K.faults K.puts in
         IfSome (answer_of (order_of words.now) (D.told desk.old))
         (λ a. PutsEach (at desk.old sink.old) (at desk.new sink.new) a result) }
-    // Where the image told is of bytes, what is settled so is the whole text of a run of the machine
-    // over it by the events of the list: the records keep the constraints of shared memory in the
-    // order of the printed places, and the ending has its cause in the memory model. Or all is
-    // refused.
+    // Where the image told is of bytes, what is settled so is the whole text of a run of the
+    // machine over it by the events of the list: the records keep the constraints of shared memory
+    // in the order of the printed places, and the ending has its cause in the memory model. Or all
+    // is refused.
     ensures constraints { let at = outside_at D.faults D.asks K.taken K.faults K.puts in
         let image = image_told (order_of words.now) (D.told desk.old) in
         let trace = trace_told (order_of words.now) (D.told desk.old) in

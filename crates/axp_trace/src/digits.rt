@@ -1,6 +1,7 @@
 ghost use Rattle.std.specs.Prelude.{ℕ, ◌≡◌, ◌+◌, ◌*◌, ◌^◌, ◌≤◌, ◌<◌, ◌++◌, length, decimal, Some};
 ghost use Rattle.arrayvec.specs.ArrayVec.{array_vec_len};
-ghost use Rattle.axp_trace.specs.Digits.{hex, hex_digit, hex_digit_value, hex_value, number_of, hex_number_of};
+ghost use Rattle.axp_trace.specs.Digits.{hex, hex_digit, hex_digit_value, hex_value, number_of};
+ghost use Rattle.axp_trace.specs.Digits.{hex_number_of};
 ghost use Rattle.axp_trace.specs.declared.lines.TheConstants.{LINE_ROOM};
 ghost use Rattle.axp_trace.specs.declared.digits.TheConstants.{MOST_DIGITS, ADDRESS_DIGITS};
 

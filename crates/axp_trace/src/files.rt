@@ -1,7 +1,11 @@
-ghost use Rattle.std.specs.Prelude.{◌≡◌, ◌==◌, ◌<◌, ◌∷◌, ◌++◌, [], ℕ, List, None, Some, IsNone, IfSome, ◌↔◌, length, ◌^◌, Option, if◌then◌else◌};
+ghost use Rattle.std.specs.Prelude.{◌≡◌, ◌==◌, ◌<◌, ◌∷◌, ◌++◌, [], ℕ, List, None, Some, IsNone};
+ghost use Rattle.std.specs.Prelude.{IfSome, ◌↔◌, length, ◌^◌, Option, if◌then◌else◌};
 ghost use Rattle.axp_access.specs.declared.Event.{Event};
 ghost use Rattle.axp_access.specs.declared.Outcome.{Outcome};
-ghost use Rattle.axp_trace.specs.Lines.{event_text, line_text, events_header, trace_header, processor_line, register_line, memory_line, console_line, end_line, not_legal_line, not_built_line, incomplete_line, read_fault_line};
+ghost use Rattle.axp_trace.specs.Lines.{event_text, line_text, events_header, trace_header};
+ghost use Rattle.axp_trace.specs.Lines.{processor_line, register_line, memory_line, console_line};
+ghost use Rattle.axp_trace.specs.Lines.{end_line, not_legal_line, not_built_line, incomplete_line};
+ghost use Rattle.axp_trace.specs.Lines.{read_fault_line};
 ghost use Rattle.axp_trace.specs.declared.files.TheConstants.{LINE_FEED};
 ghost use Rattle.axp_trace.specs.Files.{lines_of, IsOneLine};
 
@@ -16,14 +20,16 @@ pub fn first_line(text: &[u8]) -> Option<(&[u8], &[u8])>
     ensures lines { IfSome result (λ p. lines_of text.now ≡ Some p.0.now ∷ lines_of p.1.now) }
     ensures parted { IfSome result (λ p. text.now ≡ p.0.now ++ LINE_FEED ∷ p.1.now) }
     ensures shorter { IfSome result (λ p. length p.1.now < length text.now) }
-    ensures last { IsNone result → lines_of text.now ≡ (if length text.now == 0 then [] else None ∷ []) }
+    ensures last { IsNone result → lines_of text.now
+        ≡ (if length text.now == 0 then [] else None ∷ []) }
 {
     cut(text, LINE_FEED)
 }
 
 /// A line and its line feed, put before a text, are its first line.
 pub fn lines_begin()
-    ensures { (line rest : List ℕ) → IsOneLine line → lines_of (line ++ LINE_FEED ∷ rest) ≡ Some line ∷ lines_of rest }
+    ensures { (line rest : List ℕ) → IsOneLine line
+        → lines_of (line ++ LINE_FEED ∷ rest) ≡ Some line ∷ lines_of rest }
 {}
 
 /// No line of an event list or a trace has a line feed in it.
@@ -32,7 +38,8 @@ pub fn lines_are_whole()
     ensures line { (e : Event) (o : Outcome) → IsOneLine (line_text e o) }
     ensures events_header { (cpus budget : ℕ) → IsOneLine (events_header cpus budget) }
     ensures trace_header { (cpus budget memory : ℕ) → IsOneLine (trace_header cpus budget memory) }
-    ensures processor { (cpu : ℕ) (halted : Option ℕ) (steps pc : ℕ) → IsOneLine (processor_line cpu halted steps pc) }
+    ensures processor { (cpu : ℕ) (halted : Option ℕ) (steps pc : ℕ)
+        → IsOneLine (processor_line cpu halted steps pc) }
     ensures register { (cpu n value : ℕ) → IsOneLine (register_line cpu n value) }
     ensures memory { (address value : ℕ) → IsOneLine (memory_line address value) }
     ensures console { IsOneLine console_line }

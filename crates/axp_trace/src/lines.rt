@@ -4,7 +4,12 @@ ghost use Rattle.axp_base.specs.Masks.{IsSize};
 ghost use Rattle.axp_base.specs.Cpus.{cpu_number};
 ghost use Rattle.axp_access.specs.declared.Act.TheVariants.{Step};
 ghost use Rattle.axp_access.specs.Spelling.{Spells, IsSpelled, IsTurn};
-ghost use Rattle.axp_trace.specs.Lines.{bank_text, bank_number_text, address_text, act_text, event_text, turn_text, entry_text, place_text, data_text, success_text, move_text, access_text, copy_text, bit_text, poll_text, outcome_text, line_text, trace_header, end_text, processor_line, register_line, memory_line, console_line, end_line};
+ghost use Rattle.axp_trace.specs.Lines.{bank_text, bank_number_text, address_text, act_text};
+ghost use Rattle.axp_trace.specs.Lines.{event_text, turn_text, entry_text, place_text, data_text};
+ghost use Rattle.axp_trace.specs.Lines.{success_text, move_text, access_text, copy_text, bit_text};
+ghost use Rattle.axp_trace.specs.Lines.{poll_text, outcome_text, line_text, trace_header, end_text};
+ghost use Rattle.axp_trace.specs.Lines.{processor_line, register_line, memory_line, console_line};
+ghost use Rattle.axp_trace.specs.Lines.{end_line};
 
 use crate::digits::{push_all, push_byte, push_decimal, push_hex};
 use arrayvec::ArrayVec;

@@ -4,7 +4,10 @@ ghost use Rattle.axp_access.specs.Spelling.{IsNamed};
 ghost use Rattle.axp_access.specs.declared.Event.{Event};
 ghost use Rattle.axp_trace.specs.Digits.{number_of, hex_number_of};
 ghost use Rattle.axp_trace.specs.Lines.{event_text, events_header};
-ghost use Rattle.axp_trace.specs.Reading.{words_of, cpu_in, line_in, bank_in, data_bank_in, bare_act_in, drain_in, take_in, numbered_act_in, drop_by, act_in, event_in, event_of, header_in, header_of, header_by, HasRange};
+ghost use Rattle.axp_trace.specs.Reading.{words_of, cpu_in, line_in, bank_in, data_bank_in};
+ghost use Rattle.axp_trace.specs.Reading.{bare_act_in, drain_in, take_in, numbered_act_in, drop_by};
+ghost use Rattle.axp_trace.specs.Reading.{act_in, event_in, event_of, header_in, header_of};
+ghost use Rattle.axp_trace.specs.Reading.{header_by, HasRange};
 
 use crate::LineText;
 use crate::cuts::cut;
@@ -256,13 +259,16 @@ pub fn read_header(line: &[u8]) -> Option<Header>
 /// A line is read as an event exactly where it is the event's text, the event's processor is below
 /// the count, and its act is one that is printed.
 pub fn events_are_their_texts()
-    ensures { (cpus : ℕ) (line : List ℕ) (e : Event) → (event_of cpus line ≡ Some e) ↔ ((line ≡ event_text e) × (cpu_number e.cpu < cpus) × IsNamed e.act) }
+    ensures { (cpus : ℕ) (line : List ℕ) (e : Event)
+        → (event_of cpus line ≡ Some e) ↔
+        ((line ≡ event_text e) × (cpu_number e.cpu < cpus) × IsNamed e.act) }
 {}
 
 /// A line is read as a header exactly where it is the header's text and the header's numbers are in
 /// range.
 pub fn headers_are_their_texts()
-    ensures { (line : List ℕ) (h : Header) → (header_of line ≡ Some h) ↔ ((line ≡ events_header h.cpus h.budget) × HasRange h) }
+    ensures { (line : List ℕ) (h : Header)
+        → (header_of line ≡ Some h) ↔ ((line ≡ events_header h.cpus h.budget) × HasRange h) }
 {}
 
 #[cfg(test)]

@@ -2,7 +2,8 @@
 ghost use Rattle.std.specs.Prelude.{◌≡◌, ◌≤◌, ◌<◌, ◌++◌, decimal, length};
 ghost use Rattle.arrayvec.specs.ArrayVec.{array_vec_len};
 ghost use Rattle.axp_trace.specs.declared.lines.TheConstants.{LINE_ROOM};
-ghost use Rattle.axp_trace.specs.Lines.{incomplete_line, not_built_line, not_legal_line, read_fault_line};
+ghost use Rattle.axp_trace.specs.Lines.{incomplete_line, not_built_line, not_legal_line};
+ghost use Rattle.axp_trace.specs.Lines.{read_fault_line};
 
 use crate::LineText;
 use crate::digits::{push_all, push_decimal};

@@ -18,7 +18,15 @@ fn accessed(access: Access) -> LineText
 
 // The line of a step that makes an access of data at address 0x4000.
 fn moved(cpu: Cpu, kind: Kind, size: u8, value: u64, yes: bool, place: Place) -> LineText
-    requires { IsSpelledAs kind (record { cpu = cpu; kind = kind; address = 16384; size = size; value = value; yes = yes; place = place }) }
+    requires { IsSpelledAs kind (record {
+      cpu = cpu;
+      kind = kind;
+      address = 16384;
+      size = size;
+      value = value;
+      yes = yes;
+      place = place;
+    }) }
 {
     accessed(Access {
         cpu,
@@ -33,7 +41,16 @@ fn moved(cpu: Cpu, kind: Kind, size: u8, value: u64, yes: bool, place: Place) ->
 
 // The line of a step that makes an access that names no memory.
 fn bare(cpu: Cpu, kind: Kind, value: u64, place: Place) -> LineText
-    requires { IsSpelledAs kind (record { cpu = cpu; kind = kind; address = 0; size = 0; value = value; yes = false; place = place }) }
+    requires { IsSpelledAs kind (record {
+      cpu = cpu;
+      kind = kind;
+      address = 0;
+      size = 0;
+      value =
+          value;
+      yes = false;
+      place = place;
+    }) }
 {
     accessed(Access {
         cpu,

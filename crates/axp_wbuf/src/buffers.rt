@@ -1,11 +1,13 @@
-ghost use Rattle.std.specs.Prelude.{◌≡◌, ◌+◌, ◌^◌, ◌/◌, ◌%◌, ◌<◌, ◌≤◌, ◌==◌, ◌↔◌, true, length, Some, slice_get, IfOk, IsOk, OnErr, OnOk};
+ghost use Rattle.std.specs.Prelude.{◌≡◌, ◌+◌, ◌^◌, ◌/◌, ◌%◌, ◌<◌, ◌≤◌, ◌==◌, ◌↔◌, true, length};
+ghost use Rattle.std.specs.Prelude.{Some, slice_get, IfOk, IsOk, OnErr, OnOk};
 ghost use Rattle.std.specs.List.{list_any};
 ghost use Rattle.axp_base.specs.Lines.{line_number};
 ghost use Rattle.axp_base.specs.Masks.{IsSize, mask_bits};
 ghost use Rattle.axp_base.specs.declared.lines.TheConstants.{LINE_BYTES};
 ghost use Rattle.axp_line.specs.Lines.{bytes_of_line};
 ghost use Rattle.axp_wbuf.specs.Drains.{oldest_group, told, without};
-ghost use Rattle.axp_wbuf.specs.Pending.{IsTidy, closed, is_before, is_of_line, no_entries, overlaid, store_number, stored, takes};
+ghost use Rattle.axp_wbuf.specs.Pending.{IsTidy, closed, is_before, is_of_line, no_entries};
+ghost use Rattle.axp_wbuf.specs.Pending.{overlaid, store_number, stored, takes};
 
 use crate::lists::{
     Entries, any_before, any_of_line, append, has_place, has_room, merge_into, newest_after,
@@ -20,8 +22,8 @@ use std::marker::Model;
 #[derive(Clone, Copy, Debug, PartialEq, Eq)]
 pub struct Full;
 
-/// A processor's write buffer: at most [`crate::WBUF_ENTRIES`] entries in groups. Stores merge into the
-/// entries of the newest group, and the entries of the oldest group may leave, in any order.
+/// A processor's write buffer: at most [`crate::WBUF_ENTRIES`] entries in groups. Stores merge into
+/// the entries of the newest group, and the entries of the oldest group may leave, in any order.
 #[derive(Debug, Drop)]
 pub struct Wbuf {
     entries: Entries,
@@ -90,7 +92,8 @@ impl Wbuf {
         }
     }
 
-    /// There is room for a store to this line: the newest group has an entry of it, or one more fits.
+    /// There is room for a store to this line: the newest group has an entry of it, or one more
+    /// fits.
     pub fn takes(&self, line: Line) -> bool
         ensures { result ≡ takes (line_number line) self.now }
     {
@@ -111,10 +114,18 @@ impl Wbuf {
         oldest_count(self.entries.as_slice()) as u8
     }
 
-    /// The number, line, mask and data of the entry `k` of the oldest group, in the order of numbers.
+    /// The number, line, mask and data of the entry `k` of the oldest group, in the order of
+    /// numbers.
     pub fn oldest(&self, k: u8) -> (u32, Line, Mask, LineData)
         requires { k < length (oldest_group self.now.kept) }
-        ensures { told (slice_get (oldest_group self.now.kept) k) ≡ Some (result.0, (line_number result.1, (mask_bits result.2, bytes_of_line result.3))) }
+        ensures { told (slice_get (oldest_group self.now.kept) k)
+            ≡ Some (
+              result.0,
+              (
+                line_number result.1,
+                (mask_bits result.2, bytes_of_line result.3),
+              ),
+            ) }
     {
         let entry = &self.entries[usize::from(k)];
         (entry.number, entry.line, entry.mask, entry.data)
@@ -130,7 +141,8 @@ impl Wbuf {
 
     /// Gives each byte of the line that an entry has from the newest entry that has it.
     pub fn overlay(&self, line: Line, onto: &mut LineData)
-        ensures { bytes_of_line onto.new ≡ overlaid (line_number line) self.now.kept (bytes_of_line onto.old) }
+        ensures { bytes_of_line onto.new
+            ≡ overlaid (line_number line) self.now.kept (bytes_of_line onto.old) }
     {
         overlay_each(self.entries.as_slice(), line, onto);
     }

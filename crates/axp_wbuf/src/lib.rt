@@ -1,5 +1,5 @@
-//! A processor's merging write buffer: stores wait in it for their turn in memory, those to one line
-//! in one entry, until a barrier closes the group that they may merge into.
+//! A processor's merging write buffer: stores wait in it for their turn in memory, those to one
+//! line in one entry, until a barrier closes the group that they may merge into.
 #![tactic(auto)]
 
 mod buffers;

@@ -1,12 +1,14 @@
 //! Lists of entries, oldest first: what is looked for in them, and how they change.
-ghost use Rattle.std.specs.Prelude.{◌+◌, ◌^◌, ◌++◌, ◌∷◌, [], true, nat_lt, if◌then◌else◌, ◌≡◌, ◌<◌, ◌≤◌, ◌/◌, ◌%◌, ℕ, length, is_some, IfNone, IfSome, OnSome};
+ghost use Rattle.std.specs.Prelude.{◌+◌, ◌^◌, ◌++◌, ◌∷◌, [], true, nat_lt, if◌then◌else◌, ◌≡◌, ◌<◌};
+ghost use Rattle.std.specs.Prelude.{◌≤◌, ◌/◌, ◌%◌, ℕ, length, is_some, IfNone, IfSome, OnSome};
 ghost use Rattle.std.specs.List.{list_any, position_from, remove};
 ghost use Rattle.arrayvec.specs.ArrayVec.{array_vec_len};
 ghost use Rattle.axp_base.specs.Lines.{line_number};
 ghost use Rattle.axp_base.specs.Masks.{IsSize};
 ghost use Rattle.axp_base.specs.declared.lines.TheConstants.{LINE_BYTES};
 ghost use Rattle.axp_line.specs.Lines.{bytes_of_line};
-ghost use Rattle.axp_wbuf.specs.Pending.{Pending, is_at, is_before, is_of_group, is_of_line, made_by, number_at_line, overlaid, put_into, with_store};
+ghost use Rattle.axp_wbuf.specs.Pending.{Pending, is_at, is_before, is_of_group, is_of_line};
+ghost use Rattle.axp_wbuf.specs.Pending.{made_by, number_at_line, overlaid, put_into, with_store};
 ghost use Rattle.axp_wbuf.specs.Drains.{in_front, oldest_group};
 ghost use Rattle.axp_wbuf.specs.Views.{all_pending};
 ghost use Rattle.axp_base.specs.declared.limits.TheConstants.{WBUF_ENTRIES};
@@ -21,7 +23,8 @@ pub(crate) type Entries = ArrayVec<Entry, WBUF_ENTRIES>;
 
 /// The place of the entry of this group and line.
 pub(crate) fn place_in(entries: &[Entry], group: u32, line: Line) -> Option<usize>
-    ensures place { result ≡ position_from (is_at group (line_number line)) 0 (all_pending entries.now) }
+    ensures place { result ≡ position_from (is_at group (line_number line)) 0
+        (all_pending entries.now) }
     ensures inside { IfSome result (λ n. n < length entries.now) }
 {
     for n in 0..entries.len() {
@@ -109,7 +112,8 @@ pub(crate) fn oldest_count(entries: &[Entry]) -> usize
 /// Puts the bytes of each entry of the line over those of the line, the oldest entry first.
 #[tactic(auto, unfolding(crate::specs::Pending::overlaid))]
 pub(crate) fn overlay_each(entries: &[Entry], line: Line, onto: &mut LineData)
-    ensures { bytes_of_line onto.new ≡ overlaid (line_number line) (all_pending entries.now) (bytes_of_line onto.old) }
+    ensures { bytes_of_line onto.new ≡ overlaid (line_number line) (all_pending entries.now)
+        (bytes_of_line onto.old) }
 {
     for n in 0..entries.len() {
         let entry = &entries[n];
@@ -130,9 +134,13 @@ pub(crate) fn merge_into(
 ) -> Option<u32>
     requires sized { IsSize size }
     requires aligned { address % size ≡ 0 }
-    ensures merges { is_some result ≡ list_any (is_at group (address / LINE_BYTES)) (all_pending entries.old) }
-    ensures number { IfSome result (λ n. (next : ℕ) → n ≡ number_at_line group (address / LINE_BYTES) next (all_pending entries.old)) }
-    ensures kept { OnSome result ((new : Pending) → all_pending entries.new ≡ put_into group (address / LINE_BYTES) (with_store address size value) new (all_pending entries.old)) }
+    ensures merges { is_some result ≡ list_any (is_at group (address / LINE_BYTES))
+        (all_pending entries.old) }
+    ensures number { IfSome result (λ n. (next : ℕ)
+        → n ≡ number_at_line group (address / LINE_BYTES) next (all_pending entries.old)) }
+    ensures kept { OnSome result ((new : Pending)
+        → all_pending entries.new ≡ put_into group (address / LINE_BYTES)
+        (with_store address size value) new (all_pending entries.old)) }
     ensures absent { IfNone result (entries.new ≡ entries.old) }
 {
     match place_in(entries, group, Line::of(address)) {
@@ -153,7 +161,8 @@ pub(crate) fn has_room(entries: &Entries) -> bool
     entries.len() < WBUF_ENTRIES
 }
 
-/// Keeps a new entry that has a store's bytes alone as the newest one, counts it, and gives its number.
+/// Keeps a new entry that has a store's bytes alone as the newest one, counts it, and gives its
+/// number.
 #[tactic(auto, using(crate::proofs::Stores::pushed_pending, crate::proofs::Stores::as_many_pending))]
 pub(crate) fn append(
     entries: &mut Entries,
@@ -169,7 +178,8 @@ pub(crate) fn append(
     requires room { length (all_pending entries.old.items) < WBUF_ENTRIES }
     ensures number { result ≡ made.old + 1 }
     ensures made { made.new ≡ made.old + 1 }
-    ensures kept { all_pending entries.new.items ≡ all_pending entries.old.items ++ made_by (made.old + 1) group address size value ∷ [] }
+    ensures kept { all_pending entries.new.items
+        ≡ all_pending entries.old.items ++ made_by (made.old + 1) group address size value ∷ [] }
 {
     *made += 1;
     let number = *made;
@@ -188,8 +198,10 @@ pub(crate) fn remove_at(entries: &mut Entries, k: u8)
 
 /// The newest group's number after this group is closed, where it has an entry.
 pub(crate) fn newest_after(entries: &[Entry], newest: u32) -> u32
-    requires { list_any (is_of_group newest) (all_pending entries.now) ≡ true → newest + 1 < 2 ^ 32 }
-    ensures { result ≡ (if list_any (is_of_group newest) (all_pending entries.now) then newest + 1 else newest) }
+    requires { list_any (is_of_group newest) (all_pending entries.now) ≡ true
+        → newest + 1 < 2 ^ 32 }
+    ensures { result ≡ (if list_any (is_of_group newest) (all_pending entries.now) then newest
+        + 1 else newest) }
 {
     if any_of_group(entries, newest) {
         newest + 1

@@ -16,13 +16,14 @@ ghost use Rattle.axp_model.specs.Memory.{final_byte, is_touched};
 ghost use Rattle.axp_model.specs.Outcomes.{IsRun};
 ghost use Rattle.axp_model.specs.Processors.{AreInLine};
 ghost use Rattle.axp_model.specs.Turns.{turns};
-ghost use Rattle.axp_world.specs.RunLaws.{IsBuilt, Played, bytes_in, intent_in, is_legal_in, is_not_legal, is_progress, processors_in, world_in};
+ghost use Rattle.axp_world.specs.RunLaws.{IsBuilt, Played, bytes_in, intent_in, is_legal_in};
+ghost use Rattle.axp_world.specs.RunLaws.{is_not_legal, is_progress, processors_in, world_in};
 ghost use Rattle.axp_world.specs.Worlds.{IsPlayed, answer_of, image_bytes};
 
-/// Every history that processors play over the bus is a run of the memory model: each event was legal
-/// after the records before it, and has the outcome that the model says. What processors want lies
-/// within a quadword each, so all laws of the model hold of it. Its turns, its memory and the quadwords
-/// that were written are the bus's, and each processor stands where its records say.
+/// Every history that processors play over the bus is a run of the memory model: each event was
+/// legal after the records before it, and has the outcome that the model says. What processors want
+/// lies within a quadword each, so all laws of the model hold of it. Its turns, its memory and the
+/// quadwords that were written are the bus's, and each processor stands where its records say.
 pub fn played_histories_are_runs()
     ensures in_line { (image : Contents) (cpus budget : ℕ) → IsValid image
         → AreInLine (processors image cpus budget) }
@@ -36,8 +37,8 @@ pub fn played_histories_are_runs()
         → seat_in g.image g.cpus g.budget p g.history ≡ ((world_in g).actors p).seat }
 {}
 
-/// After a played history an event is refused as not legal exactly where the memory model says that it
-/// is not: so it is with every event of a processor that there is not.
+/// After a played history an event is refused as not legal exactly where the memory model says that
+/// it is not: so it is with every event of a processor that there is not.
 pub fn refused_where_not_legal()
     ensures { (g : Played) (e : Event)
         → is_not_legal (answer_of g.image g.cpus (world_in g) e) ≡ not (is_legal_in g e) }
@@ -50,13 +51,15 @@ pub fn runs_are_played()
         → IsBuilt image cpus budget h → IsPlayed image cpus budget h }
 {}
 
-/// No processor is stuck after a played history: one that is not finished has a legal Step, Fill, Drain
-/// or Drop, and one that is finished with a write that waits may drain. Legal is the memory model's
-/// word: a legal Step that comes to what is not built is refused all the same.
+/// No processor is stuck after a played history: one that is not finished has a legal Step, Fill,
+/// Drain or Drop, and one that is finished with a write that waits may drain. Legal is the memory
+/// model's word: a legal Step that comes to what is not built is refused all the same.
 pub fn processors_are_never_stuck()
     ensures acts { (g : Played) (c : Cpu) → cpu_number c < g.cpus → (intent_in g c).finished ≡ false
-        → (a : Act) × (is_progress a ≡ true) × (is_legal_in g (record { cpu = c; act = a }) ≡ true) }
-    ensures drains { (g : Played) (c : Cpu) → cpu_number c < g.cpus → (intent_in g c).finished ≡ true
+        → (a : Act) × (is_progress a ≡ true)
+        × (is_legal_in g (record { cpu = c; act = a }) ≡ true) }
+    ensures drains { (g : Played) (c : Cpu) → cpu_number c < g.cpus
+        → (intent_in g c).finished ≡ true
         → is_empty (buffer (cpu_number c) g.history).waiting ≡ false
         → is_legal_in g (record { cpu = c; act = act.Drain 0 }) ≡ true }
 {}

@@ -8,12 +8,12 @@ ghost use Rattle.axp_world.specs.Lengths.{events_per_step, steps_in, steps_of};
 ghost use Rattle.axp_world.specs.Worlds.{IsPlayed, world};
 ghost use Rattle.axp_world.specs.declared.lengths.TheConstants.{EVENTS_PER_STEP};
 
-/// The most events of a history for each step that one of its processors may make: one Step, one Fill,
-/// three Drops, one Poll, one Tick, one Drain and seven Takes.
+/// The most events of a history for each step that one of its processors may make: one Step, one
+/// Fill, three Drops, one Poll, one Tick, one Drain and seven Takes.
 pub const EVENTS_PER_STEP: u32 = 15;
 
-/// Each processor makes as many Steps as its budget has at most, turns are no more than Steps, and the
-/// events of the whole history are at most [`EVENTS_PER_STEP`] for each step of the budgets.
+/// Each processor makes as many Steps as its budget has at most, turns are no more than Steps, and
+/// the events of the whole history are at most [`EVENTS_PER_STEP`] for each step of the budgets.
 pub fn length_of_a_history()
     ensures constant { EVENTS_PER_STEP ≡ events_per_step MAX_CPUS }
     ensures steps { (image : Contents) (cpus budget : ℕ) (h : List Record)

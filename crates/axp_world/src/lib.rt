@@ -1,5 +1,5 @@
-//! Processors over the bus, by the calls that they make: the definition of a run, and laws that it is the
-//! memory model's. No code that runs.
+//! Processors over the bus, by the calls that they make: the definition of a run, and laws that it
+//! is the memory model's. No code that runs.
 #![tactic(auto)]
 
 mod laws;

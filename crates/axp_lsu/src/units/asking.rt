@@ -1,4 +1,5 @@
-ghost use Rattle.std.specs.Prelude.{ℕ, ◌≡◌, ◌+◌, ◌≤◌, ◌++◌, if◌then◌else◌, length, IfSome, Some, None};
+ghost use Rattle.std.specs.Prelude.{ℕ, ◌≡◌, ◌+◌, ◌≤◌, ◌++◌, if◌then◌else◌, length, IfSome, Some};
+ghost use Rattle.std.specs.Prelude.{None};
 ghost use Rattle.axp_lsu.specs.declared.asks.Ask2.TheVariants.{Private};
 ghost use Rattle.std.specs.List.{AllByRecursion};
 ghost use Rattle.axp_base.specs.Cpus.{cpu_of};
@@ -6,7 +7,8 @@ ghost use Rattle.axp_base.specs.Lines.{line_number};
 ghost use Rattle.axp_line.specs.declared.messages.TheConstants.{MAX_HELD};
 ghost use Rattle.axp_model.specs.Legal.{is_timely};
 ghost use Rattle.axp_base.specs.Lines.{line_at};
-ghost use Rattle.axp_lsu.specs.Asking.{access_ask, act_ask, ask_of, drain_ask, fill_ask, fill_for, is_ready, signal_to, step_ask, take_ask};
+ghost use Rattle.axp_lsu.specs.Asking.{access_ask, act_ask, ask_of, drain_ask, fill_ask, fill_for};
+ghost use Rattle.axp_lsu.specs.Asking.{is_ready, signal_to, step_ask, take_ask};
 ghost use Rattle.axp_lsu.specs.Fitting.{IsWithinSome};
 ghost use Rattle.axp_lsu.specs.Keeping.{addressed, entry_at, has_dropped, held_pairs};
 ghost use Rattle.axp_lsu.specs.Within.{IsAskWithin, IsKeptWithin, IsSmall, IsWantedWithin};
@@ -56,12 +58,16 @@ impl Lsu {
             }
             Act::Poll => {
                 if intent.boundary && !self.since.polled {
-                    Some(Ask2::Bus(Request::Poll { below: intent.takes_interrupts }))
+                    Some(Ask2::Bus(Request::Poll {
+                        below: intent.takes_interrupts,
+                    }))
                 } else {
                     None
                 }
             }
-            Act::Tick => private_if(intent.boundary && (intent.takes_interrupts && !self.since.ticked)),
+            Act::Tick => private_if(
+                intent.boundary && (intent.takes_interrupts && !self.since.ticked),
+            ),
         }
     }
 

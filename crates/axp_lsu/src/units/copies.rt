@@ -42,7 +42,8 @@ impl Lsu {
 
     fn refresh(&mut self, line: Line, turn: u64, bytes: LineData)
         ensures { self.new ≡ with_data_copies (line_number line)
-            (refreshed (copy_of line turn bytes) (data_copies (line_number line) self.old)) self.old }
+            (refreshed (copy_of line turn bytes) (data_copies (line_number line) self.old))
+            self.old }
     {
         if in_even(line) {
             self.even.refresh(line, turn, bytes);
@@ -70,7 +71,8 @@ impl Lsu {
         ensures gone { result
             ≡ has_older (line_number line) turn (data_copies (line_number line) self.old) }
         ensures kept { self.new ≡ with_data_copies (line_number line)
-            (invalidated (line_number line) turn (data_copies (line_number line) self.old)) self.old }
+            (invalidated (line_number line) turn (data_copies (line_number line) self.old))
+            self.old }
     {
         if in_even(line) {
             self.even.invalidate(line, turn)

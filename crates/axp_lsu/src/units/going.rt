@@ -9,7 +9,10 @@ ghost use Rattle.axp_base.specs.Lines.{line_of, line_at};
 ghost use Rattle.axp_wbuf.specs.Pending.{store_number, takes};
 ghost use Rattle.axp_lsu.specs.Asking.{act_ask, ask_of, is_ready};
 ghost use Rattle.axp_lsu.specs.Fitting.{IsWantedInSome, ReplyFits, ShowsFitting, WantsFitting};
-ghost use Rattle.axp_lsu.specs.Going.{after_access, advanced, after_late, drain_outcome, after_drain, fill_outcome, after_fill, outcome_of, place_by, poll_outcome, read_place, step_outcome, after_step, success_by, take_outcome, turn_in, with_stored};
+ghost use Rattle.axp_lsu.specs.Going.{after_access, advanced, after_late, drain_outcome};
+ghost use Rattle.axp_lsu.specs.Going.{after_drain, fill_outcome, after_fill, outcome_of, place_by};
+ghost use Rattle.axp_lsu.specs.Going.{poll_outcome, read_place, step_outcome, after_step};
+ghost use Rattle.axp_lsu.specs.Going.{success_by, take_outcome, turn_in, with_stored};
 ghost use Rattle.axp_lsu.specs.Keeping.{entry_at, nothing, with_fill};
 ghost use Rattle.axp_lsu.specs.Within.{IsKeptWithin, IsWantedWithin};
 
@@ -178,7 +181,8 @@ impl Lsu {
     fn fill(&mut self, intent: &Intent, reply: Option<Reply>) -> Outcome
         ensures outcome { result ≡ fill_outcome intent.now.wanted reply }
         ensures kept { self.new
-            ≡ record (after_fill intent.now.wanted reply self.old) { since = with_fill self.old.since } }
+            ≡ record (after_fill intent.now.wanted reply self.old)
+            { since = with_fill self.old.since } }
     {
         self.since.filled = true;
         match &intent.wanted {

@@ -4,7 +4,8 @@ ghost use Rattle.axp_base.specs.Parts.{part};
 ghost use Rattle.axp_base.specs.declared.lines.TheConstants.{LINE_BYTES};
 ghost use Rattle.axp_line.specs.Lines.{bytes_of_line};
 ghost use Rattle.axp_lsu.specs.Fitting.{FitsSize, IsWantedInSome};
-ghost use Rattle.axp_lsu.specs.Going.{fetched_value, found_by, is_stored, locked_value, read_value, shown_by, value_of};
+ghost use Rattle.axp_lsu.specs.Going.{fetched_value, found_by, is_stored, locked_value, read_value};
+ghost use Rattle.axp_lsu.specs.Going.{shown_by, value_of};
 
 use super::Lsu;
 use axp_access::Wanted;

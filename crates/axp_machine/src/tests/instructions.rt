@@ -66,8 +66,8 @@ fn any_byte_names_its_quadword(rt: HostRuntime) -> Result<(), Fail> {
     Ok(())
 }
 
-/// LDBU, LDWU, LDL, LDQ and LDQ_U of R31, -1(R31); halt: none makes an access, although the address is
-/// not a multiple of any size and lies outside of memory.
+/// LDBU, LDWU, LDL, LDQ and LDQ_U of R31, -1(R31); halt: none makes an access, although the address
+/// is not a multiple of any size and lies outside of memory.
 #[test]
 fn loads_into_r31_do_nothing(rt: HostRuntime) -> Result<(), Fail> {
     let (a, _) = both()?;

@@ -60,8 +60,8 @@ fn conditional_to_another_block_fails(rt: HostRuntime) -> Result<(), Fail> {
     Ok(())
 }
 
-/// LDQ_L R1, 0(R30); STQ R1, 8(R30); STQ_C R1, 0(R30); halt. The own store must reach memory before the
-/// store-conditional is made, and leaves the lock.
+/// LDQ_L R1, 0(R30); STQ R1, 8(R30); STQ_C R1, 0(R30); halt. The own store must reach memory before
+/// the store-conditional is made, and leaves the lock.
 #[test]
 fn own_store_waits_and_leaves_the_lock(rt: HostRuntime) -> Result<(), Fail> {
     let (a, _) = both()?;
@@ -82,8 +82,8 @@ fn own_store_waits_and_leaves_the_lock(rt: HostRuntime) -> Result<(), Fail> {
     Ok(())
 }
 
-/// LDQ_L R2, 0(R30); LDA R1, 7(R31); STQ_C R1, 8(R30); LDQ R3, 8(R30); halt. The load finds what was
-/// stored in the copy that the load-locked brought.
+/// LDQ_L R2, 0(R30); LDA R1, 7(R31); STQ_C R1, 8(R30); LDQ R3, 8(R30); halt. The load finds what
+/// was stored in the copy that the load-locked brought.
 #[test]
 fn conditional_to_the_locked_block_stores(rt: HostRuntime) -> Result<(), Fail> {
     let (a, _) = both()?;
@@ -144,7 +144,8 @@ fn last_load_locked_counts(rt: HostRuntime) -> Result<(), Fail> {
     Ok(())
 }
 
-/// LDL_L R1, -8192(R30), which reads the program's first word; LDL_L R31, 0(R30); STL_C R1, 4(R30); halt.
+/// LDL_L R1, -8192(R30), which reads the program's first word; LDL_L R31, 0(R30); STL_C R1, 4(R30);
+/// halt.
 #[test]
 fn longwords_are_locked_and_stored(rt: HostRuntime) -> Result<(), Fail> {
     let (a, _) = both()?;

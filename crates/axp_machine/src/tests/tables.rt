@@ -10,8 +10,8 @@ pub(super) enum Gives {
     Word(u64, u32),
     /// A load-locked's bytes at an address, before any turn.
     Locked(u64, u8, u64),
-    /// A store-conditional of these bytes at an address: whether it stored, and its turn, or the turns
-    /// that were made.
+    /// A store-conditional of these bytes at an address: whether it stored, and its turn, or the
+    /// turns that were made.
     Tried(u64, u8, u64, bool, u64),
     /// A read of a quadword, after the first turn.
     Read(u64, u64),

@@ -1,8 +1,15 @@
 //! What a lock and its seats do.
-ghost use Rattle.std.specs.Prelude.{◌≡◌, ◌≢◌, ◌+◌, ◌*◌, ◌<◌, ◌≤◌, ◌^◌, [], ◌∷◌, ◌++◌, length, IfOk, IfSome, IfNone, Some, None};
+ghost use Rattle.std.specs.Prelude.{◌≡◌, ◌≢◌, ◌+◌, ◌*◌, ◌<◌, ◌≤◌, ◌^◌, [], ◌∷◌, ◌++◌, length, IfOk};
+ghost use Rattle.std.specs.Prelude.{IfSome, IfNone, Some, None};
 ghost use Rattle.axp_ticket.specs.History.{AllBefore, IsOneLonger};
-ghost use Rattle.axp_ticket.specs.Moves.{IsIdle, IsWaiting, IsTurning, IsSame, IsTaken, HasTurned, HasValue, HasCalled, waiting, turning, own_of, pass_calls};
-ghost use Rattle.axp_ticket.specs.Seats.{lock_seats, lock_allowance, lock_value, IsLockOf, IsSeatsOf, IsSeatOf, IsNewSeatOf, IsPassIn, AreAllThere, AllHome, seats_given, seats_kept, seat_number, seat_calls, seat_own, HasOneCallMore, LaterThan, IsRightInTurn, KeepsHistory, KeepsHistoryOf, KeepsOneHistory, KeepsOneHistoryOf};
+ghost use Rattle.axp_ticket.specs.Moves.{IsIdle, IsWaiting, IsTurning, IsSame, IsTaken, HasTurned};
+ghost use Rattle.axp_ticket.specs.Moves.{HasValue, HasCalled, waiting, turning, own_of, pass_calls};
+ghost use Rattle.axp_ticket.specs.Seats.{lock_seats, lock_allowance, lock_value, IsLockOf};
+ghost use Rattle.axp_ticket.specs.Seats.{IsSeatsOf, IsSeatOf, IsNewSeatOf, IsPassIn, AreAllThere};
+ghost use Rattle.axp_ticket.specs.Seats.{AllHome, seats_given, seats_kept, seat_number, seat_calls};
+ghost use Rattle.axp_ticket.specs.Seats.{seat_own, HasOneCallMore, LaterThan, IsRightInTurn};
+ghost use Rattle.axp_ticket.specs.Seats.{KeepsHistory, KeepsHistoryOf, KeepsOneHistory};
+ghost use Rattle.axp_ticket.specs.Seats.{KeepsOneHistoryOf};
 
 use super::{TicketLock, TicketSeat, TicketSeats};
 use crate::board::{Opening, View};
