@@ -1,4 +1,5 @@
 pub mod CpuLemmas
+pub mod LineLemmas
 pub mod MaskLemmas
 pub mod NumberLemmas
 pub mod PartLemmas

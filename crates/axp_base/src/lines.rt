@@ -1,4 +1,4 @@
-ghost use Rattle.std.specs.Prelude.{◌≡◌, ◌*◌, ◌^◌, ◌<◌, ◌/◌, ◌%◌, nat_lt, true};
+ghost use Rattle.std.specs.Prelude.{◌≡◌, ◌*◌, ◌^◌, ◌/◌, nat_lt, true};
 ghost use Rattle.axp_base.specs.declared.lines.TheConstants.{LINE_BYTES};
 
 /// The bytes of a line, the unit in which memory is shared.
@@ -26,11 +26,13 @@ pub enum Bank {
 }
 
 impl Line {
-    ghost use Rattle.axp_base.specs.Lines.{line_number, data_bank};
+    ghost use Rattle.axp_base.specs.Lines.{line_number, line_at, data_bank};
 
     /// The line of the byte at this address.
+    #[tactic(auto, using(crate::proofs::LineLemmas::line_is))]
     pub fn of(address: u64) -> Line
-        ensures { line_number result ≡ address / LINE_BYTES }
+        ensures line { result ≡ line_at address }
+        ensures number { line_number result ≡ address / LINE_BYTES }
     {
         Line {
             number: address / LINE_BYTES,

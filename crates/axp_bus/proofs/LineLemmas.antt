@@ -2,7 +2,7 @@
 use Rattle.std.proofs.Common.{◌≡◌, ℕ, zero, suc, ◌+◌, ◌*◌, ◌/◌, ◌%◌, ◌^◌, ◌<◌, ◌≤◌, Bool, true, false, cond, List, [], ◌∷◌, length, drop, get_or, slice_index, Some, arith, refl, sym, ap, ap₂, ◌∙◌, ⊎_elim, eqb}
 use Rattle.std.proofs.Math.Nat.{ℕ_set}
 use Rattle.std.proofs.lemmas.Bool.{cases_eq, eqb-true, eq-eqb, ne_eqb, eqb-false}
-use Rattle.std.proofs.lemmas.List.{get_or-drop, get_or-take, length-drop, length-take}
+use Rattle.std.proofs.lemmas.List.{length-drop, length-take}
 use Rattle.axp_base.specs.Lines.{line_number, line_of}
 use Rattle.axp_base.specs.Masks.{has_bit, mask_bits}
 use Rattle.axp_base.specs.Parts.{number_at, part}
@@ -18,6 +18,7 @@ use Rattle.axp_line.specs.BusReply.{bytes_from, line_of_memory}
 use Rattle.axp_bus.specs.Buses.{Agrees}
 use Rattle.axp_bus.specs.Writes.{written_of}
 use Rattle.axp_bus.specs.declared.writes.Write.{Write}
+use Rattle.axp_memory.proofs.MergingLemmas.{byte_at}
 
 -- data are known by their bytes
 abbrev line_made : (bytes : List ℕ) → length bytes ≡ LINE_BYTES → LineData
@@ -50,10 +51,6 @@ line_is d memory at each = data_known d ∙ ap data_of (bytes_same d.bytes memor
 length-bytes_at : (at : ℕ) (xs : List ℕ) → length (bytes_at at xs) ≡ LINE_BYTES → at + LINE_BYTES ≤ length xs
 unfolding bytes_at
 length-bytes_at at xs whole = omega (arith, whole, length-take LINE_BYTES (drop at xs), length-drop at xs)
-
-byte_at : (at : ℕ) (xs : List ℕ) (k : ℕ) → k < LINE_BYTES → get_or (bytes_at at xs) k 0 ≡ get_or xs (at + k) 0
-unfolding bytes_at
-byte_at at xs k below = get_or-take LINE_BYTES (drop at xs) k 0 below ∙ get_or-drop at xs k 0
 
 pub line_read : (d : LineData) (xs : List ℕ) (memory : ℕ → ℕ) (n : ℕ) → bytes_of_line d ≡ line_in n xs → Agrees xs memory → d ≡ data_of (bytes_from memory (n * LINE_BYTES) LINE_BYTES)
 line_read d xs memory n read agrees =

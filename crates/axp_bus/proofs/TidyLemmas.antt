@@ -15,6 +15,7 @@ use Rattle.axp_line.specs.BusCalls.{is_turn, late_by_own, line_written, printed_
 use Rattle.axp_bus.specs.Ports.{HasRoom, late_after}
 use Rattle.axp_bus.specs.Buses.{NotedAll, HaveRoom, IsTidyQueue, AreTidy}
 use Rattle.axp_bus.specs.declared.ports.Port.{Port}
+use Rattle.axp_base.proofs.LatePairLemmas.{length-others}
 
 -- the number of turns after a call
 abbrev after : ℕ → Reply → ℕ
@@ -32,10 +33,6 @@ before_others t (p ∷ pairs) before = before.1
 before_joined : (t : ℕ) (pairs : List (Line × ℕ)) (p : Line × ℕ) → p.1 < t → AreBefore t pairs → AreBefore t (pairs ++ p ∷ [])
 before_joined t [] p less before = (less, tt)
 before_joined t (x ∷ pairs) p less before = (before.0, before_joined t pairs p less before.1)
-
-length-others : (pairs : List (Line × ℕ)) → length (others pairs) ≤ length pairs
-length-others [] = omega arith
-length-others (p ∷ pairs) = omega arith
 
 -- a queue that stays, that loses its oldest pair, all, or that gets one more
 tidy_more : (t t' room : ℕ) (pairs : List (Line × ℕ)) (most : ℕ) → t ≤ t' → IsTidyQueue t room (queue pairs most) → IsTidyQueue t' room (queue pairs most)

@@ -1,6 +1,6 @@
 //! The marks of the aligned quadwords of memory that were written, one for each quadword.
-ghost use Rattle.std.specs.Prelude.{◌≡◌, ◌+◌, ◌*◌, ◌/◌, ◌%◌, ◌^◌, ◌<◌, ◌≤◌, ◌⊎◌, ℕ, Some, List};
-ghost use Rattle.std.specs.Prelude.{length, not, ◌||◌};
+ghost use Rattle.std.specs.Prelude.{◌≡◌, ◌+◌, ◌*◌, ◌/◌, ◌%◌, ◌<◌, ℕ, Some, List};
+ghost use Rattle.std.specs.Prelude.{length};
 ghost use Rattle.axp_base.specs.Lines.{line_number};
 ghost use Rattle.axp_base.specs.Masks.{mask_bits};
 ghost use Rattle.axp_base.specs.declared.lines.TheConstants.{LINE_BYTES};
@@ -9,7 +9,6 @@ ghost use Rattle.axp_line.specs.BusCalls.{write_made};
 ghost use Rattle.axp_bus.specs.Buses.{MayAsk};
 ghost use Rattle.axp_bus.specs.Marks.{LINE_QUADWORDS, Marked, has_part};
 
-use crate::writes::line_at;
 use axp_base::{LINE_BYTES, Line, Mask, QUADWORD_BYTES, span};
 use axp_line::{Reply, Request};
 
@@ -54,7 +53,7 @@ pub(crate) fn mark_down(marks: &mut [bool], request: &Request, reply: Reply)
     match request {
         Request::Drain { line, mask, .. } => mark_line(marks, *line, *mask),
         Request::Conditional { address, size, .. } => {
-            mark_line(marks, line_at(*address), span(*address, *size));
+            mark_line(marks, Line::of(*address), span(*address, *size));
         }
         _ => (),
     }

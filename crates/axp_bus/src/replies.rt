@@ -1,20 +1,19 @@
 //! What the bus answers, by its parts.
-ghost use Rattle.std.specs.Prelude.{◌≡◌, ◌+◌, ◌*◌, ◌^◌, ◌<◌, ◌≤◌, ◌↔◌, ◌&&◌, ℕ, Some, IsTrue, not};
+ghost use Rattle.std.specs.Prelude.{◌≡◌, ◌+◌, ◌*◌, ◌^◌, ◌<◌, ◌&&◌, ℕ, Some};
 ghost use Rattle.std.specs.Prelude.{length};
 ghost use Rattle.axp_base.specs.Lines.{line_number};
 ghost use Rattle.axp_base.specs.declared.lines.TheConstants.{LINE_BYTES};
 ghost use Rattle.axp_base.specs.Blocks.{is_allowed};
 ghost use Rattle.axp_lockreg.specs.Blocks.{locked_block};
 ghost use Rattle.axp_line.specs.BusCalls.{overwritten};
-ghost use Rattle.axp_line.specs.BusReply.{PortState, first_late, gone, is_late, late_in};
+ghost use Rattle.axp_line.specs.BusReply.{first_late, gone, is_late, late_in};
 ghost use Rattle.axp_line.specs.BusReply.{line_of_memory, line_reply, reply_by, stored_reply};
 ghost use Rattle.axp_line.specs.BusReply.{conditional_reply};
-ghost use Rattle.axp_base.specs.Lists.{is_empty};
 ghost use Rattle.axp_bus.specs.Buses.{Agrees, MayAsk, port_state_of};
 ghost use Rattle.axp_bus.specs.Writes.{written_of};
 
 use crate::ports::Port;
-use crate::writes::{Write, conditional_write, line_at};
+use crate::writes::{Write, conditional_write};
 use axp_base::{Bank, Line};
 use axp_inval::LateQueue;
 use axp_line::{Held, LineData, Reply, Request};
@@ -150,7 +149,7 @@ pub(crate) fn reply_at(memory: &Ram, turns: u64, port: &Port, request: &Request)
             };
             stored_reply(memory, turns, &write)
         }
-        Request::Locked { address } => line_reply(memory, turns, line_at(*address)),
+        Request::Locked { address } => line_reply(memory, turns, Line::of(*address)),
         Request::Conditional {
             address,
             size,

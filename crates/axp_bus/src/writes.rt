@@ -1,5 +1,5 @@
 //! What a call writes to memory.
-ghost use Rattle.std.specs.Prelude.{◌≡◌, ◌+◌, ◌*◌, ◌/◌, ◌%◌, ◌≤◌, ◌<◌, ◌⊎◌};
+ghost use Rattle.std.specs.Prelude.{◌≡◌, ◌*◌, ◌/◌, ◌%◌, ◌<◌, ◌⊎◌};
 ghost use Rattle.axp_base.specs.Lines.{line_number};
 ghost use Rattle.axp_base.specs.Masks.{span_of};
 ghost use Rattle.axp_base.specs.declared.lines.TheConstants.{LINE_BYTES};
@@ -18,14 +18,6 @@ pub(crate) struct Write {
     pub(crate) bytes: LineData,
 }
 
-/// The line of an address.
-pub(crate) fn line_at(address: u64) -> Line
-    ensures value { result ≡ line_at address }
-    ensures number { line_number result ≡ address / LINE_BYTES }
-{
-    Line::of(address)
-}
-
 /// What a store-conditional writes where it succeeds.
 pub(crate) fn conditional_write(address: u64, size: u8, value: u64) -> Write
     requires sized { (size ≡ 4) ⊎ (size ≡ 8) }
@@ -42,7 +34,7 @@ pub(crate) fn conditional_write(address: u64, size: u8, value: u64) -> Write
     let mut bytes = LineData::zero();
     bytes.set((address % LINE_BYTES) as u8, size, value);
     Write {
-        line: line_at(address),
+        line: Line::of(address),
         mask: span(address, size),
         bytes,
     }
@@ -57,7 +49,7 @@ pub(crate) fn line_written(request: &Request, reply: Reply) -> Option<Line>
     };
     match request {
         Request::Drain { line, .. } => Some(*line),
-        Request::Conditional { address, .. } => Some(line_at(*address)),
+        Request::Conditional { address, .. } => Some(Line::of(*address)),
         _ => None,
     }
 }

@@ -48,25 +48,12 @@ fn access(size: u64, table: &CpuState, op: MemOp, a: u8, base: u64, disp: u16) -
     ensures fits { PhaseFits result }
 {
     let address = displaced(base, disp);
+    let loaded = Continuation::Load { a };
     match op {
         MemOp::LDA => write(table, a, address),
         MemOp::LDAH => write(table, a, displaced_high(base, disp)),
-        MemOp::LDBU => load(
-            size,
-            table,
-            Size::Byte,
-            a,
-            address,
-            Continuation::Load { a },
-        ),
-        MemOp::LDWU => load(
-            size,
-            table,
-            Size::Word,
-            a,
-            address,
-            Continuation::Load { a },
-        ),
+        MemOp::LDBU => load(size, table, Size::Byte, a, address, loaded),
+        MemOp::LDWU => load(size, table, Size::Word, a, address, loaded),
         MemOp::LDL => load(
             size,
             table,
@@ -75,22 +62,8 @@ fn access(size: u64, table: &CpuState, op: MemOp, a: u8, base: u64, disp: u16) -
             address,
             Continuation::LoadLong { a },
         ),
-        MemOp::LDQ => load(
-            size,
-            table,
-            Size::Quad,
-            a,
-            address,
-            Continuation::Load { a },
-        ),
-        MemOp::LDQ_U => load(
-            size,
-            table,
-            Size::Quad,
-            a,
-            quadword(address),
-            Continuation::Load { a },
-        ),
+        MemOp::LDQ => load(size, table, Size::Quad, a, address, loaded),
+        MemOp::LDQ_U => load(size, table, Size::Quad, a, quadword(address), loaded),
         MemOp::STB => store(size, table, Size::Byte, a, address),
         MemOp::STW => store(size, table, Size::Word, a, address),
         MemOp::STL => store(size, table, Size::Long, a, address),

@@ -29,8 +29,7 @@ use Rattle.axp_model.specs.Outcomes.{outcome_of, step_outcome_by, outcome_by, dr
 use Rattle.axp_model.specs.Processors.{Processors, WantsInLine, AreInLine}
 use Rattle.axp_laws.specs.LateLaws.{is_among, IsAscending, ListsExactly}
 use Rattle.axp_laws.proofs.CopyNumbers.{among_insert, ascending_insert, length_insert, length_sub, lists_filter}
-use Rattle.axp_laws.proofs.RunRecords.{legal_parts, line_at-number}
-use Rattle.axp_laws.proofs.LateReached.{bank_of_line}
+use Rattle.axp_laws.proofs.RunRecords.{legal_parts, line_at-number, bank_of_line}
 
 -- lines that were ever brought in
 ascending_inserted : (o : Option ℕ) (ks : List ℕ) → IsAscending ks → IsAscending (inserted o ks)

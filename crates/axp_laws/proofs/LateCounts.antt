@@ -16,7 +16,7 @@ use Rattle.axp_model.specs.Late.{late, takes_from}
 use Rattle.axp_laws.specs.Counts.{others_since, takes_since}
 use Rattle.axp_laws.specs.LateLaws.{IsCounted}
 use Rattle.axp_laws.proofs.RunFacts.{FitsOutcome, Fitting}
-use Rattle.axp_laws.proofs.LateReached.{bank_of_line}
+use Rattle.axp_laws.proofs.RunRecords.{bank_of_line}
 
 -- what a Take takes is there
 taken_is_late : (p : ℕ) (b : Bank) (o : Outcome) (h : List Record) → FitsOutcome p o h → takes_from b o ≡ true → 0 < length (late p b h)

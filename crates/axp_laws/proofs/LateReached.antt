@@ -1,10 +1,9 @@
 -- A held copy that is older than a turn of another processor on its line has something late.
-use Rattle.std.proofs.Common.{true, false, ℕ, ◌+◌, ◌%◌, ◌<◌, ◌≤◌, ◌≡◌, ◌⊎◌, ⊎_elim, eqb, Bool, not, ◌&&◌, ◌||◌, List, [], ◌∷◌, ◌++◌, Option, Some, None, refl, sym, ap, ◌∙◌, subst, arith}
+use Rattle.std.proofs.Common.{true, false, ℕ, ◌+◌, ◌<◌, ◌≤◌, ◌≡◌, ◌⊎◌, ⊎_elim, eqb, Bool, not, ◌&&◌, ◌||◌, List, [], ◌∷◌, ◌++◌, Option, Some, None, refl, sym, ap, ◌∙◌, subst, arith}
 use Rattle.std.proofs.lemmas.Bool.{cond_both, cases_Bool, cases_lt, and_parts, or_parts, or_cases, or_left, or_right, not-true, lt-ltb, eqb-true, eq-eqb, false≢true}
 use Rattle.axp_base.specs.Cpus.{cpu_number}
 use Rattle.axp_base.specs.Lines.{line_number, data_bank, line_of, line_at, in_bank}
 use Rattle.axp_base.specs.declared.lines.Bank.{Bank}
-use Rattle.axp_base.specs.declared.lines.Bank.TheVariants.{Even, Odd, Code}
 use Rattle.axp_base.specs.declared.lines.Line.{Line}
 use Rattle.axp_base.specs.LatePairs.{is_later, has_later, late_by_other}
 use Rattle.axp_regs.specs.declared.asks.Kind.{Kind}
@@ -22,7 +21,7 @@ use Rattle.axp_model.specs.Late.{late, late_by_own, takes_away, loses_copy, held
 use Rattle.axp_laws.specs.Counts.{last_other}
 use Rattle.axp_laws.specs.LateLaws.{IsReached, HasJustFenced}
 use Rattle.axp_laws.proofs.RunFacts.{Fits, FitsOutcome, Fitting}
-use Rattle.axp_laws.proofs.RunRecords.{line_at-number, bank_own}
+use Rattle.axp_laws.proofs.RunRecords.{line_at-number, bank_own, bank_of_line}
 use Rattle.axp_laws.proofs.OrderCounts.{turns_grow, stamp_most}
 use Rattle.axp_laws.proofs.RunKnown.{IsAddressed}
 
@@ -37,11 +36,6 @@ fits_addressed p outcome.Done h fit = tt
 fits_addressed p (outcome.Polled x y z) h fit = tt
 
 -- a data bank that has a line is the line's
-pub bank_of_line : (b : Bank) (l : ℕ) → in_bank b l ≡ true → data_bank l ≡ b
-bank_of_line Even l e = rw e refl
-bank_of_line Odd l e = rw (not-true (eqb (l % 2) 0) e) refl
-bank_of_line Code l e = cc
-
 -- the line of a turn
 abbrev pub Turning : ℕ → Outcome → Type 0
 Turning l o = (line : Line) × (line_of_turn o ≡ Some line) × (line_number line ≡ l)
@@ -57,7 +51,7 @@ turned_line l (outcome.Taken k t g) low e = cc
 turned_line l outcome.Done low e = cc
 turned_line l (outcome.Polled x y z) low e = cc
 
-turns_on_turn : (l : ℕ) (o : Outcome) → turns_on l o ≡ true → is_turn o ≡ true
+pub turns_on_turn : (l : ℕ) (o : Outcome) → turns_on l o ≡ true → is_turn o ≡ true
 turns_on_turn l (outcome.Access a) e = or_left (is_success a) (is_signal a.kind) (and_parts (is_success a) (eqb (line_of a.address) l) e).0
 turns_on_turn l outcome.NoAccess e = cc
 turns_on_turn l (outcome.Filled b k t) e = cc

@@ -130,7 +130,7 @@ locked_reads : (k : Kind) (a : Access) → a.kind ≡ k → is_locked k ≡ true
 locked_reads kind.Locked a is e = rw is refl
 locked_reads _ a is e = cc
 
-spot_placed : (o : Option ℕ) → (spot_at o).placed ≡ true
+pub spot_placed : (o : Option ℕ) → (spot_at o).placed ≡ true
 spot_placed None = refl
 spot_placed (Some t) = refl
 

@@ -97,7 +97,7 @@ is_loose kind.Write = true
 is_loose kind.WriteBarrier = true
 is_loose _ = false
 
-at_most_up : (m n : ℕ) (at : Place) → m ≤ n → AtMost m at → AtMost n at
+pub at_most_up : (m n : ℕ) (at : Place) → m ≤ n → AtMost m at → AtMost n at
 at_most_up m n (At t) less most = omega arith
 at_most_up m n (Entry e) less most = most
 at_most_up m n Absent less most = most

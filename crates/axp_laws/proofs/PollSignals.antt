@@ -16,7 +16,7 @@ use Rattle.axp_access.specs.declared.Event.{Event}
 use Rattle.axp_access.specs.declared.Outcome.{Outcome}
 use Rattle.axp_access.specs.declared.Outcome.TheVariants as outcome
 use Rattle.axp_access.specs.declared.Place.{Place}
-use Rattle.axp_access.specs.declared.Place.TheVariants.{At, Entry, Absent}
+use Rattle.axp_access.specs.declared.Place.TheVariants.{At}
 use Rattle.axp_access.specs.declared.Record.{Record}
 use Rattle.axp_access.specs.declared.Wanted.{Wanted}
 use Rattle.axp_model.specs.Records.{is_of, signals, enters, access_in}
@@ -35,12 +35,13 @@ use Rattle.axp_model.specs.Processors.{Processors, AreInLine}
 use Rattle.axp_model.specs.Issue.{AllPairs}
 use Rattle.axp_laws.specs.PollLaws.{is_signal_or_poll}
 use Rattle.axp_model.specs.Polls.{polled, poll_item, with_shown, entered_polls, signals_to, IsAwaited}
-use Rattle.axp_laws.proofs.RunFacts.{Fits, FitsOutcome, Fitting, AtMost, Known, KnownItem, PairOk, RunFacts}
+use Rattle.axp_laws.proofs.RunFacts.{Fits, FitsOutcome, Fitting, Known, KnownItem, PairOk, RunFacts}
 use Rattle.axp_laws.proofs.RunRecords.{run_fits}
 use Rattle.axp_laws.proofs.OrderKeys.{at_key, at_less, at_upto, before_asymmetric}
 use Rattle.axp_laws.proofs.OrderCases.{mark}
 use Rattle.axp_laws.proofs.RunSteps.{kept, poll_access}
 use Rattle.axp_laws.proofs.CauseMoments.{Among, among_of, among_all, among_pair, pairs_both}
+use Rattle.axp_laws.proofs.SourceValues.{at_of}
 
 -- the kinds that the tests name
 signal_kind : (k : Kind) → is_signal k ≡ true → k ≡ kind.Signal
@@ -57,11 +58,6 @@ never_both _ s p = absurd (false≢true s)
 
 nat_cmp_refl : (n : ℕ) → nat_cmp n n ≡ Equal
 nat_cmp_refl n = grind arith
-
-at_of : (n : ℕ) (at : Place) → AtMost n at → (s : ℕ) × (at ≡ At s) × (s ≤ n)
-at_of n (At s) most = (s, refl, most)
-at_of n (Entry m) most = absurd most
-at_of n Absent most = absurd most
 
 -- a write at a place is before what is no write there, whoever made it
 write_first : (t s c d n m : ℕ) → t ≤ s → key_before (at_key t false c n) (at_key s true d m) ≡ true

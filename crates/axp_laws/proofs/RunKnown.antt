@@ -19,13 +19,8 @@ use Rattle.axp_model.specs.Turns.{turns, stamp, barrier, code_barrier, code_stam
 use Rattle.axp_model.specs.Entries.{Waiting, Buffer, buffer, buffer_after, entry_joined, entries_after_write, without_entry, has_number, entry_or, one_if_none}
 use Rattle.axp_laws.proofs.RunFacts.{Fits, AtMost, waits, Goes, Known, SoundBuffer}
 use Rattle.axp_laws.proofs.RunRecords.{line_at-number}
-use Rattle.axp_laws.proofs.OrderCases.{acc}
+use Rattle.axp_laws.proofs.OrderCases.{acc, at_most_up}
 use Rattle.axp_laws.proofs.OrderCounts.{turns_grow, stamp_grows, barrier_grows, code_barrier_grows, code_stamp_grows, read_place_grows}
-
-at_most_up : (m n : ℕ) (at : Place) → m ≤ n → AtMost m at → AtMost n at
-at_most_up m n (At t) less most = omega arith
-at_most_up m n (Entry e) less most = most
-at_most_up m n Absent less most = most
 
 abbrev is_it : ℕ → ℕ → ℕ → Waiting → Bool
 is_it n l g x = eqb x.number n && (eqb x.line.number l && eqb x.age g)

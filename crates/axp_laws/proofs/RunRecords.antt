@@ -3,7 +3,8 @@ use Rattle.std.proofs.Common.{true, false, ℕ, ◌+◌, ◌%◌, ◌*◌, ◌^�
 use Rattle.std.specs.List.{AllByRecursion}
 use Rattle.std.proofs.lemmas.Bool.{cond_both, and_parts, not-true, lt-ltb}
 use Rattle.axp_base.specs.Cpus.{cpu_number}
-use Rattle.axp_base.specs.Lines.{line_number, data_bank, line_of, line_by, line_at, in_bank}
+use Rattle.axp_base.proofs.LineLemmas.{line_by-number}
+use Rattle.axp_base.specs.Lines.{line_number, data_bank, line_of, line_at, in_bank}
 use Rattle.axp_base.specs.declared.lines.Bank.{Bank}
 use Rattle.axp_base.specs.declared.lines.Bank.TheVariants.{Even, Odd, Code}
 use Rattle.axp_base.specs.declared.lines.Line.{Line}
@@ -33,10 +34,6 @@ use Rattle.axp_model.specs.Processors.{Processors, IsInLine, WantsInLine, AreInL
 use Rattle.axp_laws.proofs.RunFacts.{FitsOutcome, Fitting}
 
 -- the line of an address that has one
-line_by-number : (n : ℕ) (b : Bool) (h : ltb (n * LINE_BYTES) (2 ^ 64) ≡ b) → b ≡ true → line_number (line_by n b h) ≡ n
-line_by-number n true h e = refl
-line_by-number n false h e = cc
-
 pub line_at-number : (a : ℕ) → a < 2 ^ 64 → line_number (line_at a) ≡ line_of a
 line_at-number a less = line_by-number (line_of a) (ltb (line_of a * LINE_BYTES) (2 ^ 64)) refl (lt-ltb (line_of a * LINE_BYTES) (2 ^ 64) (omega arith))
 
@@ -47,10 +44,10 @@ bank_own l = bank_own_by l (eqb (l % 2) 0) refl where
   bank_own_by l true e = e
   bank_own_by l false e = rw e refl
 
-pub bank_is : (b : Bank) (l : ℕ) → in_bank b l ≡ true → data_bank l ≡ b
-bank_is Even l e = rw e refl
-bank_is Odd l e = rw (not-true (eqb (l % 2) 0) e) refl
-bank_is Code l e = cc
+pub bank_of_line : (b : Bank) (l : ℕ) → in_bank b l ≡ true → data_bank l ≡ b
+bank_of_line Even l e = rw e refl
+bank_of_line Odd l e = rw (not-true (eqb (l % 2) 0) e) refl
+bank_of_line Code l e = cc
 
 -- late pairs of a bank are of its lines
 abbrev pub InBank : Bank → Line × ℕ → Type 0
@@ -110,7 +107,7 @@ drain_fits k p h (Some w) e = (refl, (k, w, e, refl, refl))
 
 take_fits : (p : ℕ) (b : Bank) (h : List Record) (q : List (Line × ℕ)) → late p b h ≡ q → AllByRecursion (InBank b) q → FitsOutcome p (take_outcome p q h) h
 take_fits p b h [] is e = tt
-take_fits p b h ((line, turn) ∷ q) is e = (q, rw (bank_is b (line_number line) e.0) is)
+take_fits p b h ((line, turn) ∷ q) is e = (q, rw (bank_of_line b (line_number line) e.0) is)
 
 fill_fits : (p : ℕ) (o : Option Wanted) (h : List Record) → FitsOutcome p (fill_outcome o h) h
 fill_fits p None h = tt

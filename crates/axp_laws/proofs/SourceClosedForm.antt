@@ -9,12 +9,10 @@ use Rattle.std.specs.Ordering.{ordering_then, nat_cmp, bool_cmp, is_lt}
 use Rattle.std.proofs.lemmas.Bool.{cases_Bool, and_parts, cases_lt, lt-ltb, le-ltb, le-leb, lt-leb, leb-true, ltb-true, eq-eqb, eqb-true, false≢true}
 use Rattle.axp_regs.specs.declared.asks.Kind.TheVariants as kind
 use Rattle.axp_access.specs.declared.Access.{Access}
-use Rattle.axp_access.specs.declared.Outcome.{Outcome}
-use Rattle.axp_access.specs.declared.Outcome.TheVariants as outcome
 use Rattle.axp_access.specs.declared.Place.TheVariants.{At}
 use Rattle.axp_access.specs.declared.Record.{Record}
-use Rattle.axp_model.specs.Records.{fills, locks, access_in, is_turn, turns_on}
-use Rattle.axp_access.specs.Kinds.{is_fetch, is_memory_write, is_write, is_conditional, is_signal, has_byte}
+use Rattle.axp_model.specs.Records.{fills, locks, access_in}
+use Rattle.axp_access.specs.Kinds.{is_fetch, is_memory_write, is_write, is_signal, has_byte}
 use Rattle.axp_base.specs.Lines.{line_of}
 use Rattle.axp_model.specs.Turns.{turns, stamp}
 use Rattle.axp_model.specs.Accesses.{accesses, with_access, times}
@@ -32,6 +30,7 @@ use Rattle.axp_laws.proofs.SourceStays.{latest_now, each_all}
 use Rattle.axp_laws.proofs.SourceValues.{source_stays}
 use Rattle.axp_laws.proofs.SourceForwarded.{own_is_source, mem_placed}
 use Rattle.axp_laws.proofs.SourceTurns.{Settles, OnPlace, Settled, settled}
+use Rattle.axp_laws.proofs.LateReached.{turns_on_turn}
 
 -- a write is BEFORE a read exactly where it has a number that is not above the read's
 lt_by : (s n : ℕ) (rest : Ordering) → rest ≡ Less → is_lt (ordering_then (nat_cmp s n) rest) ≡ leb s n
@@ -130,15 +129,6 @@ source_stays_along b s v (r ∷ more) h fit vat less first =
     ∙ source_stays_along b s v more h fit.1 vat less first
 
 -- own turns on a line are not above its stamp
-on_line_turns : (l : ℕ) (o : Outcome) → turns_on l o ≡ true → is_turn o ≡ true
-on_line_turns l (outcome.Access a) e = let both = and_parts (is_conditional a.kind && a.yes) (eqb (line_of a.address) l) e in rw both.0 refl
-on_line_turns l outcome.NoAccess e = cc
-on_line_turns l (outcome.Filled b k t) e = cc
-on_line_turns l (outcome.Drained n k t) e = refl
-on_line_turns l (outcome.Taken k t g) e = cc
-on_line_turns l outcome.Done e = cc
-on_line_turns l (outcome.Polled x y z) e = cc
-
 or_true : (a b : Bool) → (a || (b || true)) ≡ true
 or_true true b = refl
 or_true false true = refl
@@ -149,7 +139,7 @@ stamp_settles q l = record {
   stays = λ t r h less. omega (arith, less, stamp_grows q l r h);
   comes = λ r h own on.
       let here : stamp q l (r ∷ h) ≡ turns (r ∷ h) = rw own (rw on (rw (or_true (fills l r.outcome) (locks l r.outcome)) refl)) in
-      let one : turns (r ∷ h) ≡ turns h + 1 = rw (on_line_turns l r.outcome on) refl in
+      let one : turns (r ∷ h) ≡ turns h + 1 = rw (turns_on_turn l r.outcome on) refl in
       omega (arith, here, one);
 }
 

@@ -1,5 +1,5 @@
 -- An own write that waits is the source of a new read.
-use Rattle.std.proofs.Common.{true, false, ℕ, ◌<◌, ◌≡◌, ◌⊎◌, inl, inr, ⊎_elim, eqb, ltb, cond, Bool, not, ◌&&◌, ◌||◌, List, [], ◌∷◌, length, Option, Some, None, refl, sym, ap, ◌∙◌, subst, arith}
+use Rattle.std.proofs.Common.{true, false, ℕ, ◌<◌, ◌≡◌, ◌⊎◌, inr, ⊎_elim, eqb, ltb, cond, Bool, not, ◌&&◌, ◌||◌, List, [], ◌∷◌, length, Option, Some, None, refl, sym, ap, ◌∙◌, subst, arith}
 use Rattle.std.proofs.lemmas.Bool.{cases_Bool, and_parts, and_from, or_cases, or_right, lt-ltb, eqb-true, eq-eqb, false≢true}
 use Rattle.axp_regs.specs.declared.asks.Kind.{Kind}
 use Rattle.axp_regs.specs.declared.asks.Kind.TheVariants as kind
@@ -21,7 +21,8 @@ use Rattle.axp_laws.proofs.OrderKeys.{last_key, before_asymmetric, last_last}
 use Rattle.axp_laws.proofs.OrderCases.{mark}
 use Rattle.axp_laws.proofs.OrderDrains.{entry_write}
 use Rattle.axp_laws.proofs.RunSteps.{pairs_map}
-use Rattle.axp_laws.proofs.SourceStays.{hidden, u_before_last}
+use Rattle.axp_laws.proofs.SourceStays.{hidden, u_before_last, newer_cases}
+use Rattle.axp_laws.proofs.LockGuards.{spot_placed}
 
 pub newer_left : (turn : Times) (u : NumberedAccess) (o : Option NumberedAccess) → ((y : NumberedAccess) → o ≡ Some y → (y ≡ u) ⊎ (before turn y u ≡ true)) → later_of turn u o ≡ Some u
 newer_left turn u None h = refl
@@ -29,10 +30,6 @@ newer_left turn u (Some y) h = ⊎_elim (λ same. elim (before turn y u) as (λ 
 
 newer_right : (turn : Times) (x u : NumberedAccess) → before turn x u ≡ true → later_of turn x (Some u) ≡ Some u
 newer_right turn x u less = rw (before_asymmetric (key turn x) (key turn u) less) refl
-
-newer_either : (turn : Times) (x y : NumberedAccess) (o : Option NumberedAccess) → later_of turn x o ≡ Some y → (x ≡ y) ⊎ (o ≡ Some y)
-newer_either turn x y None e = inl (cc)
-newer_either turn x y (Some z) e = ⊎_elim (λ (t : before turn z x ≡ true). let s : Some x ≡ Some y = rw t at e in inl (cc)) (λ (f : before turn z x ≡ false). inr (rw f at e)) (cases_Bool (before turn z x))
 
 -- each that passes is before u
 abbrev pub Below : Times → (NumberedAccess → Bool) → NumberedAccess → NumberedAccess → Type 0
@@ -42,7 +39,7 @@ pub latest_below : (turn : Times) (t : NumberedAccess → Bool) (u : NumberedAcc
 latest_below turn t u [] each y e = cc
 latest_below turn t u (x ∷ xs) each y e =
     ⊎_elim
-    (λ (p : t x ≡ true). ⊎_elim (λ same. subst (λ z. before turn z u ≡ true) same (each.0 p)) (λ rest. latest_below turn t u xs each.1 y rest) (newer_either turn x y (latest turn t xs) (rw p at e)))
+    (λ (p : t x ≡ true). ⊎_elim (λ same. subst (λ z. before turn z u ≡ true) same (each.0 p)) (λ rest. latest_below turn t u xs each.1 y rest) (newer_cases turn x y (latest turn t xs) (rw p at e)))
     (λ (f : t x ≡ false). latest_below turn t u xs each.1 y (rw f at e))
     (cases_Bool (t x))
 
@@ -96,16 +93,12 @@ gives_own h b s v x vat g no_ last =
     false≢true (sym no_ ∙ it))
     (or_cases (before (times h) x v) (not (is_fetch v.access.kind) && precedes x v) q.1)
 
-either_placed : (o : Option ℕ) → (spot_at o).placed ≡ true
-either_placed None = refl
-either_placed (Some t) = refl
-
 or_right_true : (a : Bool) → (a || true) ≡ true
 or_right_true true = refl
 or_right_true false = refl
 
 pub mem_placed : (k : Kind) (p l g : ℕ) (y : Bool) (at : Place) (h : List Record) → (is_plain_write k || (is_conditional k && y)) ≡ true → Known k p l g at h → (spot (times h) p at).placed ≡ true
-mem_placed kind.Write p l g y (Entry m) h e known = either_placed (drained h p m)
+mem_placed kind.Write p l g y (Entry m) h e known = spot_placed (drained h p m)
 mem_placed kind.Write p l g y (At t) h e known = absurd known
 mem_placed kind.Write p l g y Absent h e known = absurd known
 mem_placed kind.Conditional p l g y (At t) h e known = refl

@@ -19,7 +19,7 @@ use Rattle.axp_laws.proofs.OrderKeys.{at_key, last_key, at_last, at_less, before
 use Rattle.axp_laws.proofs.OrderCases.{mark}
 use Rattle.axp_laws.proofs.OrderDrains.{Naming, named_or, u_before, first_placed, IsNamed, IsOther}
 
-newer_cases : (turn : Times) (x y : NumberedAccess) (o : Option NumberedAccess) → later_of turn x o ≡ Some y → (x ≡ y) ⊎ (o ≡ Some y)
+pub newer_cases : (turn : Times) (x y : NumberedAccess) (o : Option NumberedAccess) → later_of turn x o ≡ Some y → (x ≡ y) ⊎ (o ≡ Some y)
 newer_cases turn x y None e = inl (cc)
 newer_cases turn x y (Some z) e = ⊎_elim (λ (t : before turn z x ≡ true). let s : Some x ≡ Some y = rw t at e in inl (cc)) (λ (f : before turn z x ≡ false). inr (rw f at e)) (cases_Bool (before turn z x))
 

@@ -90,7 +90,7 @@ unfolding number_at
 number_same f g a zero same = refl
 number_same f g a (suc n) same = rw (same (a + n), number_same f g a n same) refl
 
-at_of : (n : ℕ) (at : Place) → AtMost n at → (s : ℕ) × (at ≡ At s) × (s ≤ n)
+pub at_of : (n : ℕ) (at : Place) → AtMost n at → (s : ℕ) × (at ≡ At s) × (s ≤ n)
 at_of n (At s) most = (s, refl, most)
 at_of n (Entry m) most = absurd most
 at_of n Absent most = absurd most

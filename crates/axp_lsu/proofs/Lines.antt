@@ -1,26 +1,13 @@
--- A line is known by its number, and a line's data by their bytes.
-use Rattle.std.proofs.Common.{◌≡◌, ℕ, ◌/◌, ◌*◌, ◌^◌, ◌<◌, ◌==◌, Bool, true, false, nat_lt, List, length, refl, sym, ap, ◌∙◌, arith}
+-- A line's data are known by their bytes.
+use Rattle.std.proofs.Common.{◌≡◌, ℕ, ◌*◌, ◌^◌, ◌<◌, ◌==◌, Bool, true, false, nat_lt, List, length, refl, ap, ◌∙◌, arith}
 use Rattle.std.proofs.Math.Nat.{ℕ_set}
-use Rattle.std.proofs.lemmas.Bool.{true≢false, eqb-true, eqb-false}
+use Rattle.std.proofs.lemmas.Bool.{eqb-true, eqb-false}
 use mathlib.Core.Bool.{Bool-set}
-use Rattle.axp_base.specs.Lines.{line_number, line_at, line_by, line_numbered}
-use Rattle.axp_base.specs.declared.lines.Line.{Line}
+use Rattle.axp_base.specs.Lines.{line_by, line_numbered}
 use Rattle.axp_base.specs.declared.lines.TheConstants.{LINE_BYTES}
 use Rattle.axp_line.specs.Lines.{bytes_of_line, data_by, data_of}
 use Rattle.axp_line.specs.declared.contents.LineData.{LineData}
 use Rattle.axp_lsu.specs.Within.{IsLineWithin}
-
-line_made : (l : Line) (b : Bool) (h : nat_lt (line_number l * LINE_BYTES) (2 ^ 64) ≡ b) → l ≡ line_by (line_number l) b h
-line_made l true h =
-    ap (λ (p : nat_lt (line_number l * LINE_BYTES) (2 ^ 64) ≡ true). let m : Line = record { number = line_number l; addressed = p } in m)
-    (Bool-set (nat_lt (line_number l * LINE_BYTES) (2 ^ 64)) true l.addressed h)
-line_made l false h = absurd (true≢false (sym l.addressed ∙ h))
-
-pub line_of_number : (l : Line) (n : ℕ) → line_number l ≡ n → l ≡ line_numbered n
-line_of_number l n e = line_made l (nat_lt (line_number l * LINE_BYTES) (2 ^ 64)) refl ∙ ap line_numbered e
-
-pub line_is : (l : Line) (address : ℕ) → line_number l ≡ address / LINE_BYTES → l ≡ line_at address
-line_is l address e = line_of_number l (address / LINE_BYTES) e
 
 data_made : (d : LineData) (b : Bool) (h : (length (bytes_of_line d) == LINE_BYTES) ≡ b) → d ≡ data_by (bytes_of_line d) b h
 data_made d true h =

@@ -1,9 +1,7 @@
-ghost use Rattle.std.specs.Prelude.{◌≡◌, ◌==◌, length, ◌/◌, if◌then◌else◌};
+ghost use Rattle.std.specs.Prelude.{◌≡◌, ◌==◌, length, if◌then◌else◌};
 ghost use Rattle.axp_base.specs.Lines.{line_number, data_bank};
 ghost use Rattle.axp_base.specs.declared.lines.Bank.TheVariants.{Even, Odd};
-ghost use Rattle.axp_base.specs.declared.lines.TheConstants.{LINE_BYTES};
 ghost use Rattle.axp_bank.specs.Copies.{is_held};
-ghost use Rattle.axp_base.specs.Lines.{line_at};
 ghost use Rattle.axp_lsu.specs.Keeping.{empty_memory, copies_of, data_copies};
 
 mod asking;
@@ -79,15 +77,6 @@ impl Lsu {
             Bank::Code => self.code.holds(line),
         }
     }
-}
-
-/// The line that an address is in.
-#[tactic(auto, using(crate::proofs::Lines::line_is))]
-fn line_at(address: u64) -> Line
-    ensures is { result ≡ line_at address }
-    ensures number { line_number result ≡ address / LINE_BYTES }
-{
-    Line::of(address)
 }
 
 /// The line belongs to bank `d0`.

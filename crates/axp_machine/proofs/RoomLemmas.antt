@@ -15,8 +15,6 @@ use Rattle.axp_cpu.specs.Seats.{Seat, seat_at_plan}
 use Rattle.axp_cpu.specs.declared.refusals.Refusal.{Refusal}
 use Rattle.axp_image.specs.Contents.{Contents}
 use Rattle.axp_line.specs.declared.messages.Reply.{Reply}
-use Rattle.axp_line.specs.declared.messages.Request.{Request}
-use Rattle.axp_line.specs.declared.messages.Request.TheVariants as request
 use Rattle.axp_lsu.specs.Going.{value_of}
 use Rattle.axp_lsu.specs.declared.asks.Ask2.{Ask2}
 use Rattle.axp_lsu.specs.declared.asks.Ask2.TheVariants as ask
@@ -25,6 +23,7 @@ use Rattle.axp_access.specs.Acts.{is_step}
 use Rattle.axp_world.specs.Lengths.{steps_in}
 use Rattle.axp_world.specs.Worlds.{World, after_event, asked, calls_for, image_bytes, reply_at, world}
 use Rattle.axp_world.proofs.PlayedRecords.{actor_other, actor_own}
+use Rattle.axp_bus.proofs.TidyLemmas.{printed_few}
 
 -- a processor's memory has the image's size
 size-moved : (s : Seat) (vs : List ℕ) (p : Plan) → (seat_at_plan s vs p).size ≡ s.size
@@ -68,14 +67,10 @@ steps_few [] = omega arith
 steps_few (r ∷ h) = let one = step_one (is_step r.event.act) (steps_in h) (length h) (steps_few h) in omega (arith, one)
 
 -- no more bytes on the console than records
-printed_one : (q : Request) → length (printed_by q) ≤ 1
-printed_one (request.Console byte) = omega arith
-printed_one _ = omega arith
-
 console_by : (image : ℕ → ℕ) (cs : List BusCall) (cpu : Cpu) (a : Result Ask2 Refusal) (n : ℕ) → length (console cs) ≤ n → length (console (calls_for image cs cpu a)) ≤ n + 1
 console_by image cs cpu (Err refusal) n few = omega (arith, few)
 console_by image cs cpu (Ok ask.Private) n few = omega (arith, few)
-console_by image cs cpu (Ok (ask.Bus q)) n few = let sum = length-append (console cs) (printed_by q) in let one = printed_one q in omega (arith, sum, one, few)
+console_by image cs cpu (Ok (ask.Bus q)) n few = let sum = length-append (console cs) (printed_by q) in let one = printed_few q in omega (arith, sum, one, few)
 
 pub console_few : (image : Contents) (cpus budget : ℕ) (h : List Record) → length (console (world image cpus budget h).calls) ≤ length h
 unfolding after_event

@@ -1,5 +1,5 @@
 -- When the bus answers that there is nothing.
-use Rattle.std.proofs.Common.{◌≡◌, ℕ, ◌<◌, ◌&&◌, Bool, true, false, not, List, [], ◌∷◌, length, Option, Some, None, refl, sym, ap, ◌∙◌}
+use Rattle.std.proofs.Common.{◌≡◌, ℕ, ◌<◌, ◌&&◌, Bool, true, false, not, List, [], ◌∷◌, length, Some, None, refl, sym, ap, ◌∙◌}
 use Rattle.std.specs.Prelude.{Ok}
 use Rattle.axp_base.specs.Cpus.{cpu_number}
 use Rattle.axp_base.specs.declared.lines.Bank.{Bank}
@@ -14,16 +14,13 @@ use Rattle.axp_base.specs.Blocks.{is_allowed}
 use Rattle.axp_lsu.specs.declared.asks.Ask2.{Ask2}
 use Rattle.axp_lsu.specs.declared.asks.Ask2.TheVariants as ask
 use Rattle.axp_line.specs.BusCalls as calls
-use Rattle.axp_line.specs.BusCalls.{BusCall, Written}
-use Rattle.axp_line.specs.BusReply.{PortState, first_late, reply_by, conditional_reply}
+use Rattle.axp_line.specs.BusCalls.{BusCall}
+use Rattle.axp_line.specs.BusReply.{first_late, reply_by}
 use Rattle.axp_base.specs.Lists.{is_empty}
 use Rattle.axp_base.specs.Lines.{line_at}
 use Rattle.axp_world.specs.Worlds.{reply_for}
 use Rattle.axp_machine.specs.Playing.{IsTakenInVain, bank_taken, is_nothing}
-
-tried_something : (success : Bool) (f : PortState) (w : Option Written) (line : Line) → is_nothing (Some (conditional_reply success f w line)) ≡ false
-tried_something true f w line = refl
-tried_something false f w line = refl
+use Rattle.axp_world.proofs.RunRefusals.{tried_something}
 
 told : (q : Ask2) (image : ℕ → ℕ) (cs : List BusCall) (p : ℕ) → bank_taken q ≡ None → is_nothing (reply_for image cs p (Ok q)) ≡ false
 unfolding reply_by

@@ -52,7 +52,7 @@ length_bytes_at : (at : ℕ) (xs : List ℕ) → at + LINE_BYTES ≤ length xs �
 unfolding bytes_at
 length_bytes_at at xs within = let rest = length-drop at xs in length-take-le LINE_BYTES (drop at xs) (omega arith)
 
-byte_at : (at : ℕ) (xs : List ℕ) (k : ℕ) → k < LINE_BYTES → get_or (bytes_at at xs) k 0 ≡ get_or xs (at + k) 0
+pub byte_at : (at : ℕ) (xs : List ℕ) (k : ℕ) → k < LINE_BYTES → get_or (bytes_at at xs) k 0 ≡ get_or xs (at + k) 0
 unfolding bytes_at
 byte_at at xs k below = get_or-take LINE_BYTES (drop at xs) k 0 below ∙ get_or-drop at xs k 0
 

@@ -92,7 +92,7 @@ few_by false n most room few = let less = ltb-true n most room in omega (arith, 
 pub few_put : (group line : ℕ) (change : Pending → Pending) (new : Pending) (es : List Pending) (most : ℕ) → (list_any (is_at group line) es || nat_lt (length es) most) ≡ true → length es ≤ most → length (put_into group line change new es) ≤ most
 few_put group line change new es most room few = rw length-put_into (few_by (list_any (is_at group line) es) (length es) most room few)
 
-next_more : (any : Bool) (n : ℕ) → n ≤ cond any n (n + 1)
+pub next_more : (any : Bool) (n : ℕ) → n ≤ cond any n (n + 1)
 next_more true n = omega arith
 next_more false n = omega arith
 

@@ -6,7 +6,7 @@ use Rattle.axp_base.specs.declared.lines.TheConstants.{LINE_BYTES}
 use Rattle.axp_wbuf.specs.Drains.{first_group, oldest_group}
 use Rattle.axp_wbuf.specs.Pending.{AreInOrder, IsTidy, Pending, PrecedesAll, has_byte, is_at, made_by, merges, put_into, stored, takes, with_store}
 use Rattle.axp_wbuf.specs.Runs.{Leaves, Stores, Closes, Run, Step, after_step, left_by, run}
-use Rattle.axp_wbuf.proofs.Orders.{tidy_closed, tidy_none, tidy_stored, tidy_without}
+use Rattle.axp_wbuf.proofs.Orders.{tidy_closed, tidy_none, tidy_stored, tidy_without, next_more}
 use Rattle.axp_wbuf.proofs.Pairs.{first_oldest, line_of, made_at, no_entry, oldest_entry, precedes_at, same_entry}
 
 -- an entry that left was made before this one, if both are of one line
@@ -78,15 +78,11 @@ record Holds (r : Run) : Type 0 where
   tidy : IsTidy r.buffer
   gone : AreGone r.buffer.made r.buffer.kept r.gone
 
-more_made : (any : Bool) (n : ℕ) → n ≤ cond any n (n + 1)
-more_made true n = omega arith
-more_made false n = omega arith
-
 holds_stored : (address size value : ℕ) (r : Run) (b : Bool) → takes (address / LINE_BYTES) r.buffer ≡ b → Holds r → Holds (cond b (record { buffer = stored address size value r.buffer; gone = r.gone }) r)
 holds_stored address size value r true is h =
     record {
       tidy = tidy_stored address size value r.buffer is h.tidy;
-      gone = gone_put r.buffer.made _ r.buffer.newest (address / LINE_BYTES) address size value (made_by (r.buffer.made + 1) r.buffer.newest address size value) r.buffer.kept r.gone (more_made (merges (address / LINE_BYTES) r.buffer) r.buffer.made) (omega arith) h.gone;
+      gone = gone_put r.buffer.made _ r.buffer.newest (address / LINE_BYTES) address size value (made_by (r.buffer.made + 1) r.buffer.newest address size value) r.buffer.kept r.gone (next_more (merges (address / LINE_BYTES) r.buffer) r.buffer.made) (omega arith) h.gone;
     }
 holds_stored address size value r false is h = h
 

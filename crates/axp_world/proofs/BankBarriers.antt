@@ -18,7 +18,7 @@ use Rattle.axp_line.specs.BusCalls.{BusCall}
 use Rattle.axp_line.specs.BusReply.{PortState, port_state, gone}
 use Rattle.axp_model.specs.Late.{code_held, held, late}
 use Rattle.axp_model.specs.Turns.{barrier, code_stamp, stamp, turns}
-use Rattle.axp_laws.proofs.LateReached.{bank_of_line}
+use Rattle.axp_laws.proofs.RunRecords.{bank_of_line}
 use Rattle.axp_laws.proofs.LateTurns.{late_turns}
 use Rattle.axp_world.proofs.Agreement.{BusAgrees}
 use Rattle.axp_world.proofs.BankShows.{BanksShow, CopiesShow, KeptShows, Shows}

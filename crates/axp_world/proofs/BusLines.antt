@@ -13,7 +13,7 @@ use Rattle.axp_line.specs.BusReply.{bytes_from, line_of_memory}
 use Rattle.axp_model.specs.Turns.{turns}
 use Rattle.axp_world.proofs.Agreement.{BusAgrees, HasMemory}
 
-length_from : (memory : ℕ → ℕ) (at n : ℕ) → length (bytes_from memory at n) ≡ n
+pub length_from : (memory : ℕ → ℕ) (at n : ℕ) → length (bytes_from memory at n) ≡ n
 unfolding bytes_from
 length_from memory at zero = refl
 length_from memory at (suc n) = ap suc (length_from memory (at + 1) n)
@@ -24,7 +24,7 @@ byte_from memory at zero k less = absurd (omega (arith, less))
 byte_from memory at (suc n) zero less = let same : at ≡ at + 0 = omega arith in ap memory same
 byte_from memory at (suc n) (suc k) less = let same : at + 1 + k ≡ at + suc k = omega arith in byte_from memory (at + 1) n k (omega (arith, less)) ∙ ap memory same
 
-data_bytes : (bytes : List ℕ) (b : Bool) (h : eqb (length bytes) LINE_BYTES ≡ b) → b ≡ true → bytes_of_line (data_by bytes b h) ≡ bytes
+pub data_bytes : (bytes : List ℕ) (b : Bool) (h : eqb (length bytes) LINE_BYTES ≡ b) → b ≡ true → bytes_of_line (data_by bytes b h) ≡ bytes
 data_bytes bytes true h e = refl
 data_bytes bytes false h e = cc
 

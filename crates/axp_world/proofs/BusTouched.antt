@@ -5,7 +5,6 @@ use Rattle.std.specs.Prelude.{◌==◌}
 use Rattle.std.proofs.lemmas.Bool.{cases_Bool, eq-eqb}
 use Rattle.axp_access.specs.Numbering.{NumberedAccess}
 use Rattle.axp_access.specs.declared.Record.{Record}
-use Rattle.axp_base.specs.declared.lines.TheConstants.{LINE_BYTES}
 use Rattle.axp_base.specs.declared.parts.TheConstants.{QUADWORD_BYTES}
 use Rattle.axp_line.specs.BusCalls as calls
 use Rattle.axp_line.specs.BusCalls.{BusCall, Written, writes_byte, writes_bytes}
@@ -15,6 +14,7 @@ use Rattle.axp_model.specs.Memory.{is_touched, is_written, memory_byte, memory_s
 use Rattle.axp_model.specs.Sources.{byte_of_source}
 use Rattle.axp_model.specs.Turns.{turns}
 use Rattle.axp_world.proofs.Agreement.{BusAgrees}
+use Rattle.axp_laws.proofs.SourceWritten.{or_swap}
 
 -- memory of zeros, and of ones
 abbrev zeros : ℕ → ℕ
@@ -31,13 +31,6 @@ byte_written at (c ∷ cs) = writes_byte at (calls.write_made c.ask c.answer) ||
 abbrev bytes_written : ℕ → ℕ → List BusCall → Bool
 bytes_written at zero cs = false
 bytes_written at (suc n) cs = bytes_written at n cs || byte_written (at + n) cs
-
-or_swap : (a b c d : Bool) → ((a || b) || (c || d)) ≡ ((a || c) || (b || d))
-or_swap true b c d = refl
-or_swap false true true d = refl
-or_swap false true false d = refl
-or_swap false false true d = refl
-or_swap false false false d = refl
 
 none_first : (at n : ℕ) → bytes_written at n [] ≡ false
 none_first at zero = refl

@@ -1,10 +1,10 @@
 -- The bytes that a call writes are those of the writes that its record puts into memory.
-use Rattle.std.proofs.Common.{true, false, ℕ, zero, suc, ◌+◌, ◌-◌, ◌*◌, ◌%◌, ◌^◌, ◌<◌, ◌≤◌, ◌≡◌, ⊎_elim, eqb, ltb, leb, cond, Bool, ◌&&◌, List, [], ◌∷◌, length, replicate, get_or, slice_get, slice_index, Option, Some, None, is_some, refl, sym, ap, ◌∙◌, subst, arith}
+use Rattle.std.proofs.Common.{true, false, ℕ, zero, suc, ◌+◌, ◌-◌, ◌*◌, ◌%◌, ◌^◌, ◌<◌, ◌≤◌, ◌≡◌, ⊎_elim, eqb, ltb, leb, cond, ◌&&◌, List, [], ◌∷◌, length, replicate, get_or, slice_get, slice_index, Option, Some, None, is_some, refl, sym, ap, ◌∙◌, subst, arith}
 use Rattle.std.specs.Option.{option_or}
 use Rattle.std.proofs.lemmas.Bool.{cases_Bool, and_parts, cases_lt, lt-ltb, le-ltb, le-leb, lt-leb, leb-true, ltb-true, eqb-true, eq-eqb, false≢true}
 use Rattle.std.proofs.lemmas.List.{length-replicate}
 use Rattle.axp_base.specs.Cpus.{cpu_number}
-use Rattle.axp_base.specs.Lines.{line_number, line_of, line_at, line_by, line_numbered}
+use Rattle.axp_base.specs.Lines.{line_number, line_of, line_at, line_numbered}
 use Rattle.axp_base.specs.Masks.{has_bit, span_of}
 use Rattle.axp_base.specs.Parts.{byte, with_part}
 use Rattle.axp_base.specs.declared.lines.Line.{Line}
@@ -16,7 +16,7 @@ use Rattle.axp_access.specs.declared.Event.{Event}
 use Rattle.axp_access.specs.declared.Outcome.TheVariants as outcome
 use Rattle.axp_access.specs.declared.Place.TheVariants.{At, Entry}
 use Rattle.axp_access.specs.declared.Record.{Record}
-use Rattle.axp_line.specs.Lines.{bytes_of_line, data_by, data_of}
+use Rattle.axp_line.specs.Lines.{bytes_of_line, data_of}
 use Rattle.axp_line.specs.BusCalls.{Written, overwritten, stored_bytes}
 use Rattle.axp_model.specs.Entries.{Waiting, buffer}
 use Rattle.axp_model.specs.Memory.{memory_source, memory_byte}
@@ -28,6 +28,7 @@ use Rattle.axp_model.specs.Sources.{byte_of_source}
 use Rattle.axp_model.specs.Turns.{turns}
 use Rattle.axp_laws.proofs.SourceClosedForm.{byte_line, find_some}
 use Rattle.axp_laws.proofs.OrderDrains.{entry_write}
+use Rattle.axp_base.proofs.LineLemmas.{line_by-number}
 use Rattle.axp_laws.proofs.RunRecords.{line_at-number}
 use Rattle.axp_laws.proofs.RunFacts.{Fitting, Goes, KnownItem, RunFacts, Named}
 use Rattle.axp_laws.proofs.SourceTurns.{named_line}
@@ -35,6 +36,7 @@ use Rattle.axp_laws.proofs.RunSteps.{kept}
 use Rattle.axp_wbuf.specs.Pending.{Pending}
 use Rattle.axp_world.proofs.Agreement.{AreEntriesOf, HasBytesOf, IsEntryOf, byte_or, newest_in, went_into}
 use Rattle.axp_world.proofs.BusMemory.{memory_stored, memory_drained, went_parts}
+use Rattle.axp_world.proofs.BusLines.{data_bytes}
 
 -- the bits of an access's span are those of its bytes
 pub span_byte : (address size at : ℕ) (a : Access) → a.address ≡ address → a.size ≡ size → IsInLine address size → line_of at ≡ line_of address → has_bit (span_of address size) (at % LINE_BYTES) ≡ has_byte at a
@@ -107,20 +109,12 @@ entry_waits (x ∷ es) [] k e are is = absurd are
 entry_waits (x ∷ es) (w ∷ ws) zero e are is = let same : x ≡ e = cc in (w, refl, subst (λ y. IsEntryOf y w) same are.0)
 entry_waits (x ∷ es) (w ∷ ws) (suc k) e are is = entry_waits es ws k e are.1 is
 
-line_by-of : (n : ℕ) (b : Bool) (h : ltb (n * LINE_BYTES) (2 ^ 64) ≡ b) → b ≡ true → line_number (line_by n b h) ≡ n
-line_by-of n true h is = refl
-line_by-of n false h is = cc
-
 -- an entry's line has addresses
 pub entry_line : (e : Pending) (w : Waiting) → IsEntryOf e w → line_number (line_numbered e.line) ≡ e.line
-entry_line e w is = line_by-of e.line (ltb (e.line * LINE_BYTES) (2 ^ 64)) refl (ap (λ n. ltb (n * LINE_BYTES) (2 ^ 64)) is.line ∙ w.line.addressed)
-
-data_by-bytes : (bytes : List ℕ) (b : Bool) (h : eqb (length bytes) LINE_BYTES ≡ b) → b ≡ true → bytes_of_line (data_by bytes b h) ≡ bytes
-data_by-bytes bytes true h is = refl
-data_by-bytes bytes false h is = cc
+entry_line e w is = line_by-number e.line (ltb (e.line * LINE_BYTES) (2 ^ 64)) refl (ap (λ n. ltb (n * LINE_BYTES) (2 ^ 64)) is.line ∙ w.line.addressed)
 
 pub data_of-bytes : (bytes : List ℕ) → length bytes ≡ LINE_BYTES → bytes_of_line (data_of bytes) ≡ bytes
-data_of-bytes bytes whole = data_by-bytes bytes (eqb (length bytes) LINE_BYTES) refl (eq-eqb (length bytes) LINE_BYTES whole)
+data_of-bytes bytes whole = data_bytes bytes (eqb (length bytes) LINE_BYTES) refl (eq-eqb (length bytes) LINE_BYTES whole)
 
 -- what a drain writes
 abbrev pub drain_of : Pending → Written

@@ -23,7 +23,8 @@ use Rattle.axp_cpu.specs.Seats.{Seat, seat_at_plan}
 use Rattle.axp_world.specs.Worlds.{reply_for}
 use Rattle.axp_world.proofs.AskedActs.{IsAllowed, allowed, is_asked}
 use Rattle.axp_world.proofs.CountCalls.{turned, turned_most}
-use Rattle.axp_world.proofs.CountKept.{copies_same, delivered_same, drained_one, filled_same, since_after, since_is, stepped_one}
+use Rattle.axp_lsu.proofs.Makes.{filled-buffer}
+use Rattle.axp_world.proofs.CountKept.{copies_same, delivered_same, drained_one, since_after, since_is, stepped_one}
 use Rattle.axp_world.proofs.AskedQuiet.{IsQuiet, aside_quiet, is_aside}
 use Rattle.axp_world.proofs.CountTallies.{Tally, counted, counts_steps, total, with_dropped}
 
@@ -110,7 +111,7 @@ pub record AreDrained (t : Tally) (own entries : ℕ) : Type 0 where
 
 aside_buffer : (e : Act) (i : Intent) (r : Option Reply) (u : LocalMemory) → is_aside e ≡ true → length (after_act e i r u).buffer.kept ≡ length u.buffer.kept
 aside_buffer act.Step i r u aside = cc
-aside_buffer act.Fill i r u aside = ap (λ b. length b.kept) (filled_same i.wanted r u)
+aside_buffer act.Fill i r u aside = ap (λ b. length b.kept) (filled-buffer i.wanted r u)
 aside_buffer (act.Drain k) i r u aside = cc
 aside_buffer (act.Take b) i r u aside = ap (λ b. length b.kept) (delivered_same r u).buffer
 aside_buffer (act.Drop b line) i r u aside = ap (λ b. length b.kept) (copies_same b _ u).buffer

@@ -37,7 +37,7 @@ abbrev pub own_turns : ℕ → List BusCall → ℕ
 own_turns p [] = 0
 own_turns p (c ∷ cs) = cond (eqb (cpu_number c.cpu) p) (own_turns p cs + turned (Some c.answer)) (own_turns p cs)
 
-one_more : (b : Bool) (n : ℕ) → cond b (n + 1) n ≡ n + cond b 1 0
+pub one_more : (b : Bool) (n : ℕ) → cond b (n + 1) n ≡ n + cond b 1 0
 one_more true n = refl
 one_more false n = omega arith
 

@@ -1,5 +1,5 @@
 -- A played history is counted: its events, Steps and turns, by processors.
-use Rattle.std.proofs.Common.{◌≡◌, ℕ, zero, suc, ◌+◌, ◌*◌, ◌<◌, ◌≤◌, Bool, true, false, ltb, cond, List, [], ◌∷◌, length, Some, refl, sym, ap, ◌∙◌, subst, ⊎_elim, arith}
+use Rattle.std.proofs.Common.{◌≡◌, ℕ, zero, suc, ◌+◌, ◌*◌, ◌<◌, ◌≤◌, true, false, ltb, cond, List, [], ◌∷◌, length, Some, refl, sym, ap, ◌∙◌, subst, ⊎_elim, arith}
 use Rattle.std.specs.Prelude.{Ok}
 use Rattle.std.proofs.Math.Nat.{add-mul, mul-add, mul_assoc, mul_left_comm, suc-mul}
 use Rattle.std.proofs.lemmas.Bool.{cases_Bool, eq-eqb, eqb-true, ltb-true}
@@ -29,7 +29,7 @@ use Rattle.axp_world.specs.Worlds.{IsPlayed, World, after_event, answer_of, call
 use Rattle.axp_world.specs.declared.lengths.TheConstants.{EVENTS_PER_STEP}
 use Rattle.axp_world.proofs.AskedActs.{is_asked}
 use Rattle.axp_world.proofs.CountBounds.{IsBounded, acts_bounded, bounded_after, steps_bounded, turns_bounded}
-use Rattle.axp_world.proofs.CountCalls.{other_after, own_after, own_turns, pairs, pairs_other, pairs_own, turned, turns_after}
+use Rattle.axp_world.proofs.CountCalls.{other_after, own_after, own_turns, pairs, pairs_other, pairs_own, turned, turns_after, one_more}
 use Rattle.axp_world.proofs.PlayedRecords.{Shown, actor_other, actor_own, calls_after, shown}
 use Rattle.axp_world.proofs.AskedQuiet.{pairs_taken}
 use Rattle.axp_world.proofs.CountSums.{sum_below, sum_both, sum_most, sum_none, sum_raised, sum_under}
@@ -128,10 +128,6 @@ taken_other image w r h p s other was =
     rw (tally_other p r h other)
     (omega (arith, was, other_after bytes w.calls r.event.cpu p s.ask other, pairs_other bytes w.calls r.event.cpu p s.ask other, turns_after bytes w.calls r.event.cpu s.ask))
 
-more_if : (b : Bool) (n : ℕ) → cond b (n + 1) n ≡ n + cond b 1 0
-more_if true n = refl
-more_if false n = omega arith
-
 counted_after : (image : Contents) (cpus budget : ℕ) (w : World) (r : Record) (h : List Record) → cpu_number r.event.cpu < cpus → Shown image w r.event r.outcome → IsCounted cpus budget w.actors w.calls h
     → IsCounted cpus budget (after_event image w r.event).actors (after_event image w r.event).calls (r ∷ h)
 counted_after image cpus budget w r h below s was =
@@ -150,7 +146,7 @@ counted_after image cpus budget w r h below s was =
           (λ (other : is_of p r ≡ false). taken_other image w r h p s other (was.taken p))
           (cases_Bool (is_of p r));
       events = omega (arith, was.events, sum_raised (λ p. total (tally p h)) (λ p. total (tally p (r ∷ h))) cpu 1 cpus below (ap total its ∙ counts_once r.event.act (tally cpu h)) (λ p other. ap total (tally_other p r h other)));
-      steps = omega (arith, was.steps, more_if (is_step r.event.act) (steps_in h), sum_raised (λ p. (tally p h).steps) (λ p. (tally p (r ∷ h)).steps) cpu (cond (is_step r.event.act) 1 0) cpus below (ap (λ t. t.steps) its ∙ counts_steps r.event.act (tally cpu h)) (λ p other. ap (λ t. t.steps) (tally_other p r h other)));
+      steps = omega (arith, was.steps, one_more (is_step r.event.act) (steps_in h), sum_raised (λ p. (tally p h).steps) (λ p. (tally p (r ∷ h)).steps) cpu (cond (is_step r.event.act) 1 0) cpus below (ap (λ t. t.steps) its ∙ counts_steps r.event.act (tally cpu h)) (λ p other. ap (λ t. t.steps) (tally_other p r h other)));
       turned = omega (arith, was.turned, turns_after bytes w.calls r.event.cpu s.ask, sum_raised (λ p. own_turns p w.calls) (λ p. own_turns p (calls_for bytes w.calls r.event.cpu (Ok s.ask))) cpu (turned (reply_for bytes w.calls cpu (Ok s.ask))) cpus below (own_after bytes w.calls r.event.cpu cpu s.ask own) (λ p other. other_after bytes w.calls r.event.cpu p s.ask other));
     })
 

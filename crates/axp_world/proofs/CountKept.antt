@@ -19,7 +19,7 @@ use Rattle.axp_wbuf.specs.Drains.{oldest_group, without}
 use Rattle.axp_wbuf.specs.Pending.{Buffer, Pending, is_at, put_into}
 use Rattle.axp_wbuf.proofs.Fronts.{oldest_inside}
 use Rattle.axp_lsu.specs.Asking.{access_ask, drain_ask, step_ask}
-use Rattle.axp_lsu.specs.Going.{after_access, after_line, after_late, after_drain, after_barrier, after_fill, after_act, after_stored, after_step}
+use Rattle.axp_lsu.specs.Going.{after_access, after_line, after_late, after_drain, after_barrier, after_act, after_stored, after_step}
 use Rattle.axp_lsu.specs.Keeping.{LocalMemory, nothing, with_copies, with_drop}
 use Rattle.axp_lsu.specs.declared.asks.Ask2.{Ask2}
 use Rattle.axp_lsu.specs.declared.asks.Ask2.TheVariants as ask
@@ -52,10 +52,6 @@ fenced_same _ u = record { buffer = refl; since = refl }
 pub delivered_same : (r : Option Reply) (u : LocalMemory) → IsSameBut u (after_late r u)
 delivered_same (Some (reply.Late line turn)) u = copies_same (data_bank (line_number line)) _ u
 delivered_same _ u = record { buffer = refl; since = refl }
-
-pub filled_same : (o : Option Wanted) (r : Option Reply) (u : LocalMemory) → (after_fill o r u).buffer ≡ u.buffer
-filled_same None r u = refl
-filled_same (Some w) r u = (brought_same _ _ r u).buffer
 
 -- a write makes one entry at most
 put_length : (b : Bool) (e f : Pending) (es fs : List Pending) → length fs ≤ length es + 1 → length (cond b (f ∷ es) (e ∷ fs)) ≤ length es + 2
@@ -114,7 +110,7 @@ since_after (act.Drop b line) s = with_drop b s
 since_after act.Poll s = record s { polled = true }
 since_after act.Tick s = record s { ticked = true }
 
-drained_since : (k : ℕ) (o : Option Pending) (r : Option Reply) (u : LocalMemory) → (after_drain k o r u).since ≡ u.since
+pub drained_since : (k : ℕ) (o : Option Pending) (r : Option Reply) (u : LocalMemory) → (after_drain k o r u).since ≡ u.since
 drained_since k None r u = refl
 drained_since k (Some e) r u = (rewritten_same _ r (record u { buffer = without k u.buffer })).since
 

@@ -58,7 +58,7 @@ is_take (ask.Bus (request.Take b)) = true
 is_take _ = false
 
 -- only a Take is answered so
-tried_something : (success : Bool) (f : PortState) (w : Option Written) (line : Line) → is_nothing (Some (conditional_reply success f w line)) ≡ false
+pub tried_something : (success : Bool) (f : PortState) (w : Option Written) (line : Line) → is_nothing (Some (conditional_reply success f w line)) ≡ false
 tried_something true f w line = refl
 tried_something false f w line = refl
 

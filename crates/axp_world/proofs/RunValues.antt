@@ -37,6 +37,7 @@ use Rattle.axp_regs.specs.declared.asks.Kind.TheVariants as kind
 use Rattle.axp_wbuf.specs.Pending.{overlaid}
 use Rattle.axp_world.proofs.Agreement.{BanksAgree, BufferAgrees, HasMemory, byte_or}
 use Rattle.axp_world.proofs.BusWrites.{data_of-bytes}
+use Rattle.axp_world.proofs.BusLines.{length_from}
 
 -- numbers of the same bytes at two places
 number_at_moved : (f g : ℕ → ℕ) (a b n : ℕ) → ((k : ℕ) → k < n → f (a + k) ≡ g (b + k)) → number_at f a n ≡ number_at g b n
@@ -123,11 +124,6 @@ read_agrees image c w h u fit buffers banks inside holds =
     ∙ read_byte image c w.address w.size at h fit line holds)
 
 -- a load-locked
-length-bytes_from : (memory : ℕ → ℕ) (at n : ℕ) → length (bytes_from memory at n) ≡ n
-unfolding bytes_from
-length-bytes_from memory at zero = refl
-length-bytes_from memory at (suc n) = ap suc (length-bytes_from memory (at + 1) n)
-
 bytes_from-at : (memory : ℕ → ℕ) (at n k : ℕ) → k < n → get_or (bytes_from memory at n) k 0 ≡ memory (at + k)
 unfolding bytes_from
 bytes_from-at memory at zero k less = absurd (omega (arith, less))
@@ -136,7 +132,7 @@ bytes_from-at memory at (suc n) (suc k) less = bytes_from-at memory (at + 1) n k
 
 memory_line_byte : (memory : ℕ → ℕ) (a at : ℕ) → a < 2 ^ 64 → line_of at ≡ line_of a → slice_index (bytes_of_line (line_of_memory memory (line_at a))) (at % LINE_BYTES) ≡ memory at
 memory_line_byte memory a at small line =
-    ap (λ bytes. get_or bytes (at % LINE_BYTES) 0) (data_of-bytes (bytes_from memory (line_number (line_at a) * LINE_BYTES) LINE_BYTES) (length-bytes_from memory (line_number (line_at a) * LINE_BYTES) LINE_BYTES))
+    ap (λ bytes. get_or bytes (at % LINE_BYTES) 0) (data_of-bytes (bytes_from memory (line_number (line_at a) * LINE_BYTES) LINE_BYTES) (length_from memory (line_number (line_at a) * LINE_BYTES) LINE_BYTES))
     ∙ bytes_from-at memory (line_number (line_at a) * LINE_BYTES) LINE_BYTES (at % LINE_BYTES) (omega arith)
     ∙ ap memory (omega (arith, line_at-number a small, line))
 

@@ -1,5 +1,5 @@
 -- What a processor did since its last Step is what the history shows of it.
-use Rattle.std.proofs.Common.{◌≡◌, ℕ, Bool, true, false, List, [], ◌∷◌, slice_get, Option, Some, None, refl, sym, ap, ◌∙◌, ⊎_elim}
+use Rattle.std.proofs.Common.{◌≡◌, ℕ, Bool, true, false, List, [], ◌∷◌, slice_get, Option, Some, refl, sym, ap, ◌∙◌, ⊎_elim}
 use Rattle.std.proofs.lemmas.Bool.{cases_Bool}
 use Rattle.axp_access.specs.declared.Act.{Act}
 use Rattle.axp_access.specs.declared.Act.TheVariants as act
@@ -14,17 +14,17 @@ use Rattle.axp_image.specs.Contents.{Contents}
 use Rattle.axp_line.specs.declared.messages.Reply.{Reply}
 use Rattle.axp_line.specs.declared.messages.Reply.TheVariants as reply
 use Rattle.axp_lsu.specs.Going as going
-use Rattle.axp_lsu.specs.Going.{after_late, after_drain, after_fill, after_act, after_stored}
+use Rattle.axp_lsu.specs.Going.{after_late, after_act, after_stored}
 use Rattle.axp_lsu.specs.Keeping.{LocalMemory, with_copies}
 use Rattle.axp_lsu.specs.declared.since.Since.{Since}
 use Rattle.axp_wbuf.specs.Drains.{oldest_group}
-use Rattle.axp_wbuf.specs.Pending.{Pending}
 use Rattle.axp_model.specs.Legal.{since_step}
 use Rattle.axp_access.specs.Acts.{is_drop_of, is_fill, is_poll_act, is_step, is_tick}
 use Rattle.axp_model.specs.Records.{is_of}
 use Rattle.axp_world.specs.Worlds.{World, reply_at, world}
 use Rattle.axp_world.proofs.Agreement.{SinceAgrees}
 use Rattle.axp_world.proofs.PlayedRecords.{actor_other, actor_own}
+use Rattle.axp_world.proofs.CountKept.{drained_since}
 
 -- a change of copies leaves what was done
 with_copies_since : (b : Bank) (cs : List LineCopy) (u : LocalMemory) → (with_copies b cs u).since ≡ u.since
@@ -35,10 +35,6 @@ with_copies_since Code cs u = refl
 rewritten_since : (line : Line) (r : Option Reply) (u : LocalMemory) → (after_stored line r u).since ≡ u.since
 rewritten_since line (Some (reply.Stored turn bytes)) u = with_copies_since _ _ u
 rewritten_since line _ u = refl
-
-drained_since : (k : ℕ) (o : Option Pending) (r : Option Reply) (u : LocalMemory) → (after_drain k o r u).since ≡ u.since
-drained_since k None r u = refl
-drained_since k (Some e) r u = rewritten_since _ r _
 
 delivered_since : (r : Option Reply) (u : LocalMemory) → (after_late r u).since ≡ u.since
 delivered_since (Some (reply.Late line turn)) u = with_copies_since _ _ u

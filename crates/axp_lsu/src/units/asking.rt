@@ -6,14 +6,13 @@ ghost use Rattle.axp_base.specs.Cpus.{cpu_of};
 ghost use Rattle.axp_base.specs.Lines.{line_number};
 ghost use Rattle.axp_line.specs.declared.messages.TheConstants.{MAX_HELD};
 ghost use Rattle.axp_model.specs.Legal.{is_timely};
-ghost use Rattle.axp_base.specs.Lines.{line_at};
 ghost use Rattle.axp_lsu.specs.Asking.{access_ask, act_ask, ask_of, drain_ask, fill_ask, fill_for};
 ghost use Rattle.axp_lsu.specs.Asking.{is_ready, signal_to, step_ask, take_ask};
 ghost use Rattle.axp_lsu.specs.Fitting.{IsWithinSome};
 ghost use Rattle.axp_lsu.specs.Keeping.{addressed, entry_at, has_dropped, held_pairs};
 ghost use Rattle.axp_lsu.specs.Within.{IsAskWithin, IsKeptWithin, IsSmall, IsWantedWithin};
 
-use super::{Lsu, line_at};
+use super::Lsu;
 use crate::Ask2;
 use axp_access::{Act, Intent, Wanted};
 use axp_base::{Bank, Cpu, Line, MAX_CPUS};
@@ -159,7 +158,7 @@ impl Lsu {
     fn fill_for(&self, wanted: &Wanted) -> Option<Ask2>
         ensures { result ≡ fill_for wanted.now.kind wanted.now self.now }
     {
-        let line = line_at(wanted.address);
+        let line = Line::of(wanted.address);
         match wanted.kind {
             Kind::Fetch => {
                 if !self.code.holds(line) && self.code.has_room(line) {

@@ -5,7 +5,7 @@ ghost use Rattle.axp_access.specs.declared.Act.TheVariants.{Step};
 ghost use Rattle.axp_access.specs.declared.Place.TheVariants.{Entry};
 ghost use Rattle.axp_wbuf.specs.Drains.{oldest_group};
 ghost use Rattle.axp_model.specs.Outcomes.{bank_for};
-ghost use Rattle.axp_base.specs.Lines.{line_of, line_at};
+ghost use Rattle.axp_base.specs.Lines.{line_of};
 ghost use Rattle.axp_wbuf.specs.Pending.{store_number, takes};
 ghost use Rattle.axp_lsu.specs.Asking.{act_ask, ask_of, is_ready};
 ghost use Rattle.axp_lsu.specs.Fitting.{IsWantedInSome, ReplyFits, ShowsFitting, WantsFitting};
@@ -17,7 +17,7 @@ ghost use Rattle.axp_lsu.specs.Keeping.{entry_at, nothing, with_fill};
 ghost use Rattle.axp_lsu.specs.Within.{IsKeptWithin, IsWantedWithin};
 
 use super::values::is_stored;
-use super::{Lsu, in_even, line_at};
+use super::{Lsu, in_even};
 use crate::Since;
 use axp_access::{Access, Act, Intent, Outcome, Place, Wanted};
 use axp_base::{Bank, Cpu, Line};
@@ -119,7 +119,7 @@ impl Lsu {
             ≡ place_by wanted.now.kind (line_of wanted.now.address) self.old reply }
         ensures kept { self.new ≡ after_access wanted.now.kind wanted.now reply self.old }
     {
-        let line = line_at(wanted.address);
+        let line = Line::of(wanted.address);
         match wanted.kind {
             Kind::Fetch => Place::At(self.code.stamp(line).unwrap_or(0)),
             Kind::Read => Place::At(self.read_place(line)),
@@ -188,7 +188,7 @@ impl Lsu {
         match &intent.wanted {
             None => Outcome::NoAccess,
             Some(wanted) => {
-                let line = line_at(wanted.address);
+                let line = Line::of(wanted.address);
                 let bank = bank_for(wanted.kind, line);
                 self.bring(bank, line, reply);
                 Outcome::Filled {

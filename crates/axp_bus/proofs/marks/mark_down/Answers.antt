@@ -12,5 +12,5 @@ returns-in-Conditional c =
     let bytes = stored_bytes c.in-Conditional.address c.in-Conditional.size c.in-Conditional.value in
     let marked = c.mark_line-in-Conditional.ensures bytes in
     rw (c.in-Stored.is, c.in-Conditional.is)
-    (subst (λ l. Marked (Some (record { line = l; bits = Rattle.axp_base.specs.Masks.span_of c.in-Conditional.address c.in-Conditional.size; bytes = bytes })) c.args.marks.now c.mark_line-in-Conditional.new.marks) c.line_at.ensures.value
-    (subst (λ bits. Marked (Some (record { line = c.line_at.result; bits = bits; bytes = bytes })) c.args.marks.now c.mark_line-in-Conditional.new.marks) c.span.ensures marked))
+    (subst (λ l. Marked (Some (record { line = l; bits = Rattle.axp_base.specs.Masks.span_of c.in-Conditional.address c.in-Conditional.size; bytes = bytes })) c.args.marks.now c.mark_line-in-Conditional.new.marks) c.of.ensures.line
+    (subst (λ bits. Marked (Some (record { line = c.of.result; bits = bits; bytes = bytes })) c.args.marks.now c.mark_line-in-Conditional.new.marks) c.span.ensures marked))

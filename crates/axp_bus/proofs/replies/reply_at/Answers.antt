@@ -18,7 +18,7 @@ returns-in-Drain c = λ m agrees. rw c.in-Drain.is (c.stored_reply.ensures m c.a
 pub returns-in-Locked : goal.returns-in-Locked
 unfolding reply_by
 returns-in-Locked c = λ m agrees.
-    c.line_reply-in-Locked.ensures m c.args.port.now agrees ∙ rw (c.in-Locked.is, c.line_at.ensures.value) refl
+    c.line_reply-in-Locked.ensures m c.args.port.now agrees ∙ rw (c.in-Locked.is, c.of.ensures.line) refl
 
 pub returns-in-Conditional : goal.returns-in-Conditional
 unfolding reply_by

@@ -7,4 +7,4 @@ use Rattle.axp_trace.proofs.reading.guess_line.Goals as goal
 pub returns-then-address : goal.returns-then-address
 returns-then-address c =
     let number : hex_number_of c.args.word.now ≡ Some c.in_ok-address.address = cc (c.in_ok-address.was, c.read_hex.ensures) in
-    line_in_at c.of.result c.in_ok-address.address c.of.ensures (omega arith) ∙ sym (ap line_in number)
+    line_in_at c.of.result c.in_ok-address.address c.of.ensures.number (omega arith) ∙ sym (ap line_in number)

@@ -10,6 +10,6 @@ use Rattle.axp_bus.proofs.buses.Bus.tail_memory.Goals as goal
 pub returns : goal.returns
 returns c =
     let line = bytes_of_line c.line-line.result in
-    let read = c.line-line.ensures ∙ ap (λ n. line_in n c.self.inside.memory) c.of.ensures in
+    let read = c.line-line.ensures ∙ ap (λ n. line_in n c.self.inside.memory) c.of.ensures.number in
     subst (λ (s : State). c.get.result ≡ part s.memory c.args.address QUADWORD_BYTES) c.self.view_is
     (c.get.ensures.value ∙ line_part line c.self.inside.memory c.args.address QUADWORD_BYTES read c.line-line.result.whole (omega (arith, c.requires.aligned)))
