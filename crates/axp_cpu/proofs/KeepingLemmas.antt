@@ -30,7 +30,8 @@ use Rattle.axp_regs.specs.declared.asks.Kind.TheVariants.{Conditional, Fetch, Lo
 use Rattle.axp_regs.specs.declared.states.State.{State}
 use Rattle.axp_regs.specs.declared.states.TheConstants.{ZERO_REGISTER}
 use Rattle.axp_cpu.specs.declared.cpu_states.CpuState.{CpuState}
-use Rattle.axp_cpu.specs.Addresses.{aligned_plan, first_entry, in_kseg, is_canonical, look_up_plan, physical, memory_plan}
+use Rattle.axp_pte.specs.Addresses.{in_kseg, is_extended, physical}
+use Rattle.axp_cpu.specs.Addresses.{aligned_plan, first_entry, look_up_plan, memory_plan}
 use Rattle.axp_cpu.specs.Plans.{Plan, End, Want, Unbuilt, along, given}
 use Rattle.axp_cpu.specs.Rows.{address_of, as_longword, as_read, branch_row, cycle_counter, next_plan, plan_of_word, group, high_address_of, load_plan, memory_row, misc_row, operand, operate_row, pal_row, quadword_at, row, register_plan}
 use Rattle.axp_cpu.specs.Soundness.{EndsGroup}
@@ -133,7 +134,7 @@ row_keeps size t (instr.Reserved word) n has = tt
 
 looked_up_keeps : (size table address n : ℕ) → Keeps n (look_up_plan size table address)
 looked_up_keeps size table address n =
-    reached_keeps (is_canonical address && ltb (first_entry table address) size) n (record { kind = Read; address = first_entry table address; size = 8; value = 0 }) (λ v. Unbuilt) tt (λ v. tt)
+    reached_keeps (is_extended address && ltb (first_entry table address) size) n (record { kind = Read; address = first_entry table address; size = 8; value = 0 }) (λ v. Unbuilt) tt (λ v. tt)
 
 pub group_keeps : (size : ℕ) (t : CpuState) (n : ℕ) → Has n t.state → Keeps n (group size t)
 unfolding group

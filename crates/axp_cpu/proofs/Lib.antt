@@ -4,6 +4,7 @@ pub mod SeatLemmas
 pub mod RefusalLemmas
 pub mod AnswerLemmas
 pub mod ActorLemmas
+pub mod AddressLemmas
 pub mod ShowingLemmas
 pub mod FollowingLemmas
 pub mod RegisterLemmas

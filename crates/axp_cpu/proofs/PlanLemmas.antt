@@ -31,7 +31,8 @@ use Rattle.axp_regs.specs.declared.asks.Kind.{Kind}
 use Rattle.axp_regs.specs.declared.asks.Kind.TheVariants.{Fetch, Read, Write, Locked, Conditional, Barrier, WriteBarrier, CodeBarrier}
 use Rattle.axp_regs.specs.declared.states.TheConstants.{ZERO_REGISTER}
 use Rattle.axp_cpu.specs.declared.cpu_states.CpuState.{CpuState}
-use Rattle.axp_cpu.specs.Addresses.{in_kseg, physical, memory_plan, aligned_plan, is_canonical, first_entry, look_up_plan}
+use Rattle.axp_pte.specs.Addresses.{in_kseg, physical, is_extended}
+use Rattle.axp_cpu.specs.Addresses.{memory_plan, aligned_plan, first_entry, look_up_plan}
 use Rattle.axp_cpu.specs.Plans.{Plan, End, Want, Unbuilt, given, along}
 use Rattle.axp_cpu.specs.Rows.{group, plan_of_word, barrier_plan, row, memory_row, branch_row, branch_goal, operate_row, misc_row, pal_row, next_plan, register_plan, load_locked_plan, load_plan, store_conditional_plan, store_plan, as_read, as_longword, address_of, quadword_at, operand}
 use Rattle.axp_cpu.specs.Soundness.{IsSound, IsSoundAs}
@@ -235,11 +236,11 @@ row_sound size t (instr.Reserved word) pages h = tt
 looked_up_sound : (size table a : ℕ) → size % PAGE_BYTES ≡ 0 → IsSound size (look_up_plan size table a)
 looked_up_sound size table a pages =
     let w : Wanted = record { kind = Read; address = first_entry table a; size = 8; value = 0 } in
-    reached_by (is_canonical a && ltb (first_entry table a) size) size w (λ v. Unbuilt)
+    reached_by (is_extended a && ltb (first_entry table a) size) size w (λ v. Unbuilt)
     (λ passed. record {
       sized = inr (inr (inr refl));
       aligned = entry_aligned (table * PAGE_BYTES + 8 * (a / 2 ^ 33 % 2 ^ 10)) (whole table (a / 2 ^ 33 % 2 ^ 10));
-      within = part_within 8 (first_entry table a) size (inr (inr (inr refl))) (entry_aligned (table * PAGE_BYTES + 8 * (a / 2 ^ 33 % 2 ^ 10)) (whole table (a / 2 ^ 33 % 2 ^ 10))) (ltb-true (first_entry table a) size (both-true (is_canonical a) (ltb (first_entry table a) size) passed)) pages;
+      within = part_within 8 (first_entry table a) size (inr (inr (inr refl))) (entry_aligned (table * PAGE_BYTES + 8 * (a / 2 ^ 33 % 2 ^ 10)) (whole table (a / 2 ^ 33 % 2 ^ 10))) (ltb-true (first_entry table a) size (both-true (is_extended a) (ltb (first_entry table a) size) passed)) pages;
     })
     (λ v. tt) where
       whole : (m n : ℕ) → (m * PAGE_BYTES + 8 * n) % 8 ≡ 0

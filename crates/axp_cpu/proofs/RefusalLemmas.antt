@@ -22,7 +22,8 @@ use Rattle.axp_regs.specs.declared.asks.Kind.{Kind}
 use Rattle.axp_regs.specs.declared.asks.Kind.TheVariants.{Fetch, Read, Write, Locked, Conditional}
 use Rattle.axp_regs.specs.declared.states.TheConstants.{ZERO_REGISTER}
 use Rattle.axp_cpu.specs.declared.cpu_states.CpuState.{CpuState}
-use Rattle.axp_cpu.specs.Addresses.{aligned_plan, first_entry, in_kseg, is_canonical, look_up_plan, memory_plan}
+use Rattle.axp_pte.specs.Addresses.{in_kseg, is_extended}
+use Rattle.axp_cpu.specs.Addresses.{aligned_plan, first_entry, look_up_plan, memory_plan}
 use Rattle.axp_cpu.specs.Plans.{Plan, Want, Unbuilt, given, is_built}
 use Rattle.axp_cpu.specs.CpuStates.{with_lock_flag}
 use Rattle.axp_cpu.specs.Refusals.{is_reached, is_accessible, load_refused, store_refused, memory_refused, pal_refused, is_refused, is_begun}
@@ -116,11 +117,11 @@ row_built size t (instr.Pal op) = pal_built t op
 row_built size t (instr.Floating word) = refl
 row_built size t (instr.Reserved word) = refl
 
-looked_up_built : (size table a : ℕ) → is_built (look_up_plan size table a) ≡ (is_canonical a && ltb (first_entry table a) size)
-looked_up_built size table a = wants_if (is_canonical a && ltb (first_entry table a) size) (record { kind = Read; address = first_entry table a; size = 8; value = 0 }) (λ v. Unbuilt)
+looked_up_built : (size table a : ℕ) → is_built (look_up_plan size table a) ≡ (is_extended a && ltb (first_entry table a) size)
+looked_up_built size table a = wants_if (is_extended a && ltb (first_entry table a) size) (record { kind = Read; address = first_entry table a; size = 8; value = 0 }) (λ v. Unbuilt)
 
 pub looked_up_leads : (size v table a : ℕ) → is_built (given v (look_up_plan size table a)) ≡ false
-looked_up_leads size v table a = leads_if (is_canonical a && ltb (first_entry table a) size) where
+looked_up_leads size v table a = leads_if (is_extended a && ltb (first_entry table a) size) where
   leads_if : (tested : Bool) → is_built (given v (cond tested (Want (record { kind = Read; address = first_entry table a; size = 8; value = 0 }) (λ x. Unbuilt)) Unbuilt)) ≡ false
   leads_if true = refl
   leads_if false = refl

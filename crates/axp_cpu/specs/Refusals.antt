@@ -13,7 +13,8 @@ use Rattle.axp_integer.specs.Rows.{overflow_of}
 use Rattle.axp_regs.specs.States.{register, pc_of, ptbr_of}
 use Rattle.axp_regs.specs.declared.states.TheConstants.{ZERO_REGISTER}
 use Rattle.axp_cpu.specs.declared.cpu_states.CpuState.{CpuState}
-use Rattle.axp_cpu.specs.Addresses.{first_entry, in_kseg, is_canonical, physical}
+use Rattle.axp_pte.specs.Addresses.{in_kseg, is_extended, physical}
+use Rattle.axp_cpu.specs.Addresses.{first_entry}
 use Rattle.axp_cpu.specs.Rows.{address_of, operand, quadword_at}
 
 -- the address lies in the kernel segment and in memory
@@ -69,7 +70,7 @@ is_refused size t (Reserved word) = true
 
 -- the page of an instruction's address is looked up
 abbrev pub is_looked_up : ℕ → CpuState → Bool
-is_looked_up size t = is_canonical (pc_of t.state) && nat_lt (first_entry (ptbr_of t.state) (pc_of t.state)) size
+is_looked_up size t = is_extended (pc_of t.state) && nat_lt (first_entry (ptbr_of t.state) (pc_of t.state)) size
 
 -- the group wants an access: a fetch in the kernel segment and in memory, or outside of it the look-up
 abbrev pub is_begun : ℕ → CpuState → Bool

@@ -31,7 +31,8 @@ use Rattle.axp_regs.specs.declared.asks.Kind.{Kind}
 use Rattle.axp_regs.specs.declared.asks.Kind.TheVariants.{Fetch, Read, Write, Locked, Conditional, Barrier, WriteBarrier, CodeBarrier}
 use Rattle.axp_regs.specs.declared.states.TheConstants.{ZERO_REGISTER}
 use Rattle.axp_cpu.specs.declared.cpu_states.CpuState.{CpuState}
-use Rattle.axp_cpu.specs.Addresses.{aligned_plan, in_kseg, look_up_plan, memory_plan}
+use Rattle.axp_pte.specs.Addresses.{in_kseg}
+use Rattle.axp_cpu.specs.Addresses.{aligned_plan, look_up_plan, memory_plan}
 use Rattle.axp_cpu.specs.Plans.{Plan, End, Want, Unbuilt}
 use Rattle.axp_cpu.specs.CpuStates.{next_pc, at_pc, with_value, with_lock_flag, with_fetch_counted}
 

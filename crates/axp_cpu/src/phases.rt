@@ -1,12 +1,13 @@
 //! How far a group of accesses has come.
-ghost use Rattle.std.specs.Prelude.{◌≡◌, ◌<◌, ℕ};
+ghost use Rattle.std.specs.Prelude.{◌≡◌, ◌<◌, ℕ, false};
 ghost use Rattle.axp_cpu.specs.declared.cpu_states.CpuState.{CpuState};
-ghost use Rattle.axp_cpu.specs.Addresses.{aligned_plan, first_entry, in_kseg, look_up_plan};
-ghost use Rattle.axp_cpu.specs.Addresses.{memory_plan};
+ghost use Rattle.axp_cpu.specs.Addresses.{aligned_plan, direct_address, entry_of, look_up_plan};
+ghost use Rattle.axp_cpu.specs.Addresses.{mapped_parts, memory_plan};
 ghost use Rattle.axp_cpu.specs.Phases.{after, plan_of, table_after, Fits, FollowFits, PhaseFits};
 ghost use Rattle.axp_cpu.specs.Plans.{End};
 ghost use Rattle.axp_cpu.specs.Rows.{next_plan, group, halt_plan, register_plan, register_plan_at};
 ghost use Rattle.axp_cpu.specs.CpuStates.{at_pc};
+ghost use Rattle.axp_pte.specs.Addresses.{in_kseg};
 ghost use Rattle.axp_regs.specs.States.{ptbr_of};
 ghost use Rattle.axp_regs.specs.declared.states.TheConstants.{REGISTERS};
 
@@ -15,12 +16,9 @@ use crate::rows::instruct;
 use axp_access::Wanted;
 use axp_base::{QUADWORD_BYTES, sext};
 use axp_decode::decode;
-use axp_image::{INSTRUCTION_BYTES, KSEG, PAGE_BYTES};
+use axp_image::{INSTRUCTION_BYTES, PAGE_BYTES};
+use axp_pte::{Mode, Parts, Where, split};
 use axp_regs::Kind;
-
-/// The bytes of the kernel segment, whose virtual addresses have their physical address in the low
-/// bits.
-const KSEG_BYTES: u64 = 1 << 41;
 
 /// What a group does with the value that its access gives.
 #[derive(Clone, Copy, Debug, PartialEq, Eq)]
@@ -61,7 +59,7 @@ pub fn begin(size: u64, table: &CpuState) -> Phase
     ensures fits { PhaseFits result }
 {
     let pc = table.state.pc();
-    if !in_kseg(pc) {
+    if direct(pc).is_none() {
         return look_up(size, table, pc);
     }
     let fetch = Wanted {
@@ -73,21 +71,42 @@ pub fn begin(size: u64, table: &CpuState) -> Phase
     reach(size, table, fetch, Continuation::Instruct)
 }
 
-/// Whether a virtual address lies in the kernel segment.
-fn in_kseg(address: u64) -> bool
-    ensures { result ≡ in_kseg address }
+/// The physical address of an address in the kernel segment, `None` elsewhere.
+#[tactic(auto, unfolding(axp_pte::specs::Addresses::split_of))]
+fn direct(address: u64) -> Option<u64>
+    ensures { result ≡ direct_address address }
 {
-    address / KSEG_BYTES == KSEG / KSEG_BYTES
+    match split(address, Mode::Kernel) {
+        Ok(Where::Direct(physical)) => Some(physical),
+        Ok(Where::Mapped(_)) | Err(_) => None,
+    }
+}
+
+/// The parts of an address that is translated, `None` in the kernel segment and where the address
+/// is not canonical.
+#[tactic(auto, unfolding(axp_pte::specs::Addresses::split_of))]
+fn mapped(address: u64) -> Option<Parts>
+    ensures { result ≡ mapped_parts address }
+{
+    match split(address, Mode::Kernel) {
+        Ok(Where::Mapped(parts)) => Some(parts),
+        Ok(Where::Direct(_)) | Err(_) => None,
+    }
 }
 
 /// The look-up of an instruction's address outside of the kernel segment: the read of its
 /// page-table entry of level 1.
+#[tactic(auto, using(crate::proofs::AddressLemmas::mapped_outside))]
 fn look_up(size: u64, table: &CpuState, pc: u64) -> Phase
+    requires { in_kseg pc ≡ false }
     ensures plan { plan_of size table.now result ≡ look_up_plan size (ptbr_of table.now.state) pc }
     ensures fits { PhaseFits result }
 {
-    let address = first_entry(table.state.ptbr(), pc);
-    if sext(pc, 43) == pc && address < size {
+    let Some(parts) = mapped(pc) else {
+        return Phase::NotBuilt;
+    };
+    let address = first_entry(table.state.ptbr(), parts);
+    if address < size {
         let entry = Wanted {
             kind: Kind::Read,
             address,
@@ -100,12 +119,14 @@ fn look_up(size: u64, table: &CpuState, pc: u64) -> Phase
     }
 }
 
-/// Where the page-table entry of level 1 lies for an address, in the table of this page.
-fn first_entry(table: u64, address: u64) -> u64
-    ensures { result ≡ first_entry table address }
+/// Where the page-table entry of level 1 lies for the parts of an address, in the table of this
+/// page.
+fn first_entry(table: u64, parts: Parts) -> u64
+    ensures { result ≡ entry_of table parts }
 {
-    let index = (address >> 33) & 0x3FF;
-    table.wrapping_mul(PAGE_BYTES).wrapping_add(8 * index)
+    table
+        .wrapping_mul(PAGE_BYTES)
+        .wrapping_add(8 * u64::from(parts.l1))
 }
 
 /// What is left of a group once its wanted access gave this value. A fetch is counted in the table
@@ -157,11 +178,9 @@ fn reach(size: u64, table: &CpuState, far: Wanted, then: Continuation) -> Phase
         ≡ memory_plan size far.kind far.address far.size far.value (after size table.now then) }
     ensures fits { PhaseFits result }
 {
-    let address = far.address % KSEG_BYTES;
-    if in_kseg(far.address) && address < size {
-        Phase::Wants(Wanted { address, ..far }, then)
-    } else {
-        Phase::NotBuilt
+    match direct(far.address) {
+        Some(address) if address < size => Phase::Wants(Wanted { address, ..far }, then),
+        _ => Phase::NotBuilt,
     }
 }
 

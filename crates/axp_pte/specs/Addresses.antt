@@ -1,5 +1,5 @@
 -- The parts of a virtual address, and where it leads.
-use Rattle.std.specs.Prelude.{ℕ, ◌+◌, ◌-◌, ◌*◌, ◌/◌, ◌%◌, ◌^◌, Bool, not, if◌then◌else◌, ◌==◌, ◌||◌, Result, Ok, Err}
+use Rattle.std.specs.Prelude.{ℕ, ◌+◌, ◌-◌, ◌*◌, ◌/◌, ◌%◌, ◌^◌, Bool, not, if◌then◌else◌, ◌==◌, ◌||◌, ◌&&◌, Result, Ok, Err}
 use Rattle.axp_pte.specs.declared.addresses.Parts.{Parts}
 use Rattle.axp_pte.specs.declared.addresses.Where.{Where}
 use Rattle.axp_pte.specs.declared.addresses.Where.TheVariants.{Direct, Mapped}
@@ -16,6 +16,13 @@ is_extended va = (va / 2 ^ 42 == 0) || (va / 2 ^ 42 == 2 ^ 22 - 1)
 abbrev pub is_kseg : ℕ → Bool
 is_kseg va = va / 2 ^ 41 % 4 == 2
 
+-- the kernel segment, whose physical addresses are the low bits
+abbrev pub in_kseg : ℕ → Bool
+in_kseg va = is_extended va && is_kseg va
+
+abbrev pub physical : ℕ → ℕ
+physical va = va % 2 ^ 41
+
 -- bits 42:33, 32:23, 22:13 and 12:0
 abbrev pub parts_of : ℕ → Parts
 parts_of va = record { l1 = va / 2 ^ 33 % 2 ^ 10; l2 = va / 2 ^ 23 % 2 ^ 10; l3 = va / 2 ^ 13 % 2 ^ 10; offset = va % 2 ^ 13 }
@@ -24,10 +31,10 @@ parts_of va = record { l1 = va / 2 ^ 33 % 2 ^ 10; l2 = va / 2 ^ 23 % 2 ^ 10; l3 
 abbrev pub address_of : Parts → ℕ
 address_of p = p.l1 * 2 ^ 33 + p.l2 * 2 ^ 23 + p.l3 * 2 ^ 13 + p.offset
 
--- an address of KSEG leads, in kernel mode, to the physical address in bits 40:0
+-- an address of KSEG leads, in kernel mode, to its physical address
 abbrev pub direct_of : Mode → ℕ → Result Where MmFault
 direct_of User va = Err Acv
-direct_of Kernel va = Ok (Direct (va % 2 ^ 41))
+direct_of Kernel va = Ok (Direct (physical va))
 
 unfoldable pub split_of : ℕ → Mode → Result Where MmFault
 split_of va mode =
