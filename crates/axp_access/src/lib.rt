@@ -4,13 +4,14 @@
 mod event_lists;
 mod tail_items;
 
+use axp_base::WBUF_ENTRIES;
 pub use axp_base::{Bank, Bytes, Cpu, Line};
 pub use axp_regs::{Ask, Kind};
 pub use event_lists::EventList;
 pub use tail_items::TailItem;
 
 /// How many entries of a write buffer may be drained next, at most: as many as it holds.
-pub const MAX_DRAINS: u8 = 8;
+pub const MAX_DRAINS: u8 = WBUF_ENTRIES as u8;
 
 /// What a processor does in one event, or what the memory system does for it.
 #[derive(Clone, Copy, Debug, PartialEq, Eq)]

@@ -60,7 +60,7 @@ impl CopyBank {
         }
     }
 
-    /// The line is held.
+    /// Whether the line is held.
     pub fn holds(&self, line: Line) -> bool
         ensures { result ≡ is_held (line_number line) self.now }
     {
@@ -78,7 +78,7 @@ impl CopyBank {
         self.copies.len()
     }
 
-    /// A copy of the line fits: the line is held, or there is room for one line more.
+    /// Whether a copy of the line fits: the line is held, or there is room for one line more.
     pub fn has_room(&self, line: Line) -> bool
         ensures { result ≡ has_room (line_number line) self.now }
     {

@@ -87,8 +87,8 @@ pub fn lines_are_the_held_ones()
     ensures stamps { (n : ℕ) (cs : List LineCopy) → stamp_beside n (held_lines cs) ≡ stamp_of n cs }
     ensures ascending { (cs : List LineCopy) (i j : ℕ) (d : Line × ℕ) → Whole cs → i < j
         → j < length (held_lines cs)
-        → line_number (slice_index_or (held_lines cs) i d).0
-        < line_number (slice_index_or (held_lines cs) j d).0 }
+        → line_number (slice_index_or (held_lines cs) i d).0 < line_number
+        (slice_index_or (held_lines cs) j d).0 }
 {}
 
 /// Two banks that give the same for every line have the same copies, in the same order.

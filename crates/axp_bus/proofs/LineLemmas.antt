@@ -12,6 +12,7 @@ use Rattle.axp_line.specs.Lines.{bytes_of_line, data_by, data_of, merged}
 use Rattle.axp_line.specs.declared.contents.LineData.{LineData}
 use Rattle.axp_line.proofs.MergeLemmas.{merged_each}
 use Rattle.axp_memory.specs.Bytes.{bytes_at, line_in, written}
+use Rattle.axp_memory.proofs.MergingLemmas.{byte_at}
 use Rattle.axp_memory.proofs.WriteLemmas.{changes_one_line}
 use Rattle.axp_line.specs.BusCalls.{Written, overwritten}
 use Rattle.axp_line.specs.BusReply.{bytes_from, line_of_memory}

@@ -85,8 +85,8 @@ impl Bus {
             → result ≡ bus_reply image calls (cpu_number cpu) request.now }
         ensures stands { (image : ℕ → ℕ) (calls : List BusCall) → Stands self.old image calls
             → Stands self.new image (call_of cpu request.now result ∷ calls) }
-        ensures turns { self.new.turns ≡ (if is_turn result then self.old.turns
-            + 1 else self.old.turns) }
+        ensures turns { self.new.turns
+            ≡ (if is_turn result then self.old.turns + 1 else self.old.turns) }
         ensures printed { self.new.printed ≡ self.old.printed ++ printed_by request.now }
         ensures size { length self.new.memory ≡ length self.old.memory }
         ensures cpus { length self.new.ports ≡ length self.old.ports }

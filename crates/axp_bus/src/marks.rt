@@ -34,8 +34,9 @@ fn has_part(mask: Mask, n: u8) -> bool
 fn mark_line(marks: &mut [bool], line: Line, mask: Mask)
     requires whole { length marks.old * QUADWORD_BYTES % LINE_BYTES ≡ 0 }
     requires inside { line_number line * LINE_BYTES < length marks.old * QUADWORD_BYTES }
-    ensures { (bytes : List ℕ) → Marked (Some
-        (record { line = line; bits = mask_bits mask; bytes = bytes })) marks.old marks.new }
+    ensures { (bytes : List ℕ)
+        → Marked (Some (record { line = line; bits = mask_bits mask; bytes = bytes })) marks.old
+        marks.new }
 {
     let first = (line.address() / QUADWORD_BYTES) as usize;
     for n in 0..QUADWORDS {

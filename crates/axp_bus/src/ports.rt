@@ -72,10 +72,10 @@ impl Port {
 
     /// Keeps what an own call means.
     fn note_own(&mut self, request: &Request, reply: Reply)
-        ensures even { self.new.even ≡ queue
-            (late_by_own Even request.now reply self.old.even.pairs) self.old.even.room }
-        ensures odd { self.new.odd ≡ queue (late_by_own Odd request.now reply self.old.odd.pairs)
-            self.old.odd.room }
+        ensures even { self.new.even
+            ≡ queue (late_by_own Even request.now reply self.old.even.pairs) self.old.even.room }
+        ensures odd { self.new.odd
+            ≡ queue (late_by_own Odd request.now reply self.old.odd.pairs) self.old.odd.room }
         ensures lock { locked_block self.new.lock
             ≡ lock_by_own request.now (locked_block self.old.lock) }
         ensures pending { self.new.pending ≡ self.old.pending }
@@ -103,10 +103,12 @@ impl Port {
 
     /// Drops what a take was answered.
     fn deliver(&mut self, bank: Bank, reply: Reply)
-        ensures even { self.new.even ≡ queue
-            (late_by_own Even (request.Take bank) reply self.old.even.pairs) self.old.even.room }
-        ensures odd { self.new.odd ≡ queue
-            (late_by_own Odd (request.Take bank) reply self.old.odd.pairs) self.old.odd.room }
+        ensures even { self.new.even
+            ≡ queue (late_by_own Even (request.Take bank) reply self.old.even.pairs)
+            self.old.even.room }
+        ensures odd { self.new.odd
+            ≡ queue (late_by_own Odd (request.Take bank) reply self.old.odd.pairs)
+            self.old.odd.room }
         ensures lock { self.new.lock ≡ self.old.lock }
         ensures pending { self.new.pending ≡ self.old.pending }
     {
@@ -125,10 +127,10 @@ impl Port {
     /// Keeps what another processor's call means that wrote this line, if one, in this turn.
     fn note_other(&mut self, line: Option<Line>, turn: u64)
         requires { PortHasRoom turn self.old }
-        ensures even { self.new.even ≡ queue (late_by_other Even line turn self.old.even.pairs)
-            self.old.even.room }
-        ensures odd { self.new.odd ≡ queue (late_by_other Odd line turn self.old.odd.pairs)
-            self.old.odd.room }
+        ensures even { self.new.even
+            ≡ queue (late_by_other Even line turn self.old.even.pairs) self.old.even.room }
+        ensures odd { self.new.odd
+            ≡ queue (late_by_other Odd line turn self.old.odd.pairs) self.old.odd.room }
         ensures lock { locked_block self.new.lock
             ≡ lock_by_other line (locked_block self.old.lock) }
         ensures pending { self.new.pending ≡ self.old.pending }

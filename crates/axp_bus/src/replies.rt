@@ -54,9 +54,8 @@ fn line_reply(memory: &Ram, turns: u64, line: Line) -> Reply
 fn stored_reply(memory: &Ram, turns: u64, write: &Write) -> Reply
     requires inside { line_number write.now.line * LINE_BYTES < length memory.now }
     requires turns { turns < 2 ^ 32 }
-    ensures { (m : ℕ → ℕ) (port : Port) → Agrees memory.now m
-        → result ≡ stored_reply (port_state_of m turns port) (Some (written_of write.now))
-        write.now.line }
+    ensures { (m : ℕ → ℕ) (port : Port) → Agrees memory.now m → result
+        ≡ stored_reply (port_state_of m turns port) (Some (written_of write.now)) write.now.line }
 {
     Reply::Stored {
         turn: turns + 1,
@@ -75,9 +74,9 @@ fn succeeds(port: &Port, address: u64, armed: bool) -> bool
 fn tried_reply(memory: &Ram, turns: u64, write: &Write, succeeds: bool) -> Reply
     requires inside { line_number write.now.line * LINE_BYTES < length memory.now }
     requires turns { turns < 2 ^ 32 }
-    ensures { (m : ℕ → ℕ) (port : Port) → Agrees memory.now m
-        → result ≡ conditional_reply succeeds (port_state_of m turns port)
-        (Some (written_of write.now)) write.now.line }
+    ensures { (m : ℕ → ℕ) (port : Port) → Agrees memory.now m → result
+        ≡ conditional_reply succeeds (port_state_of m turns port) (Some (written_of write.now))
+        write.now.line }
 {
     if succeeds {
         stored_reply(memory, turns, write)
@@ -98,8 +97,8 @@ fn first_late(queue: &LateQueue) -> Reply
 
 /// The answer to a take.
 fn take_reply(port: &Port, bank: Bank) -> Reply
-    ensures { (m : ℕ → ℕ) (turns : ℕ) → result
-        ≡ first_late (late_in (port_state_of m turns port.now) bank) }
+    ensures { (m : ℕ → ℕ) (turns : ℕ)
+        → result ≡ first_late (late_in (port_state_of m turns port.now) bank) }
 {
     match bank {
         Bank::Even => first_late(&port.even),

@@ -24,12 +24,12 @@ pub(crate) fn conditional_write(address: u64, size: u8, value: u64) -> Write
     requires aligned { address % size ≡ 0 }
     ensures line { result.line ≡ line_at address }
     ensures number { line_number result.line ≡ address / LINE_BYTES }
-    ensures value { written_of result ≡ record {
-      line = line_at address;
-      bits = span_of address size;
-      bytes = stored_bytes address size
-          value;
-    } }
+    ensures value { written_of result
+        ≡ record {
+          line = line_at address;
+          bits = span_of address size;
+          bytes = stored_bytes address size value;
+        } }
 {
     let mut bytes = LineData::zero();
     bytes.set((address % LINE_BYTES) as u8, size, value);

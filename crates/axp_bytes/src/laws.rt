@@ -26,8 +26,8 @@ pub fn data_by_bytes()
         ≡ (if nat_lt i (bytes_of size) then byte a (i + n) else 0) }
     ensures extract_high { (size : Size) (a n i : ℕ) → 0 < n → n < 8 → i < 8
         → byte (extracted_high size a n) i
-        ≡ (if nat_lt (i + n) 8 then 0 else
-        (if nat_lt i (bytes_of size) then byte a (i + n - 8) else 0)) }
+        ≡ (if nat_lt (i + n) 8 then 0
+        else (if nat_lt i (bytes_of size) then byte a (i + n - 8) else 0)) }
     ensures extract_high_at_0 { (size : Size) (a : ℕ) → extracted_high size a 0 ≡ low_datum size a }
     ensures insert_low { (size : Size) (a n i : ℕ) → i < 8
         → byte (inserted_low size a n) i
@@ -37,11 +37,11 @@ pub fn data_by_bytes()
         ≡ (if nat_lt (i + 8) (n + bytes_of size) then byte a (i + 8 - n) else 0) }
     ensures mask_low { (size : Size) (a n i : ℕ)
         → byte (masked_low size a n) i
-        ≡ (if nat_lt i n then byte a i else
-        (if nat_lt i (n + bytes_of size) then 0 else byte a i)) }
+        ≡ (if nat_lt i n then byte a i
+        else (if nat_lt i (n + bytes_of size) then 0 else byte a i)) }
     ensures mask_high { (size : Size) (a n i : ℕ)
-        → byte (masked_high size a n) i ≡ (if nat_lt (i + 8) (n + bytes_of size) then 0 else byte a
-        i) }
+        → byte (masked_high size a n) i
+        ≡ (if nat_lt (i + 8) (n + bytes_of size) then 0 else byte a i) }
 {}
 
 /// Unaligned loads (section 4.6 of the manual). Extract low of the first quadword, extract high of
@@ -87,8 +87,8 @@ pub fn zapnot_is_zap_of_the_complement()
 /// ZAP clears each byte whose bit of the mask is 1, and ZAPNOT each whose bit is 0. The other bytes
 /// of the eight stay, and there are no more.
 pub fn zap_by_bytes()
-    ensures zap { (a b n : ℕ) → n < 8 → byte (value_of ZAP a b) n
-        ≡ (if has_bit b n then 0 else byte a n) }
+    ensures zap { (a b n : ℕ) → n < 8
+        → byte (value_of ZAP a b) n ≡ (if has_bit b n then 0 else byte a n) }
     ensures zap_fits { (a b : ℕ) → value_of ZAP a b < 2 ^ 64 }
     ensures zapnot { (a b n : ℕ) → b < 2 ^ 64 → n < 8
         → byte (value_of ZAPNOT a b) n ≡ (if has_bit b n then byte a n else 0) }

@@ -34,7 +34,7 @@ use Rattle.axp_cpu.specs.declared.cpu_states.CpuState.{CpuState}
 use Rattle.axp_pte.specs.Addresses.{in_kseg, physical, is_extended}
 use Rattle.axp_cpu.specs.Addresses.{memory_plan, aligned_plan, first_entry, look_up_plan}
 use Rattle.axp_cpu.specs.Plans.{Plan, End, Want, Unbuilt, given, along}
-use Rattle.axp_cpu.specs.Rows.{group, plan_of_word, barrier_plan, row, memory_row, branch_row, branch_goal, operate_row, misc_row, pal_row, next_plan, register_plan, load_locked_plan, load_plan, store_conditional_plan, store_plan, as_read, as_longword, address_of, quadword_at, operand}
+use Rattle.axp_cpu.specs.Rows.{group, plan_of_word, barrier_plan, row, memory_row, branch_row, branch_target, operate_row, misc_row, pal_row, next_plan, register_plan, load_locked_plan, load_plan, store_conditional_plan, store_plan, as_read, as_longword, address_of, quadword_at, operand}
 use Rattle.axp_cpu.specs.Soundness.{IsSound, IsSoundAs}
 use Rattle.axp_cpu.specs.CpuStates.{with_fetch_counted, with_lock_flag, next_pc}
 
@@ -147,7 +147,7 @@ goal_by : (taken : Bool) (target next : ℕ) → target % INSTRUCTION_BYTES ≡ 
 goal_by true target next h k = h
 goal_by false target next h k = k
 
-goal_aligned : (t : CpuState) (op : BranchOp) (a disp : ℕ) → IsAligned t → branch_goal t op a disp % INSTRUCTION_BYTES ≡ 0
+goal_aligned : (t : CpuState) (op : BranchOp) (a disp : ℕ) → IsAligned t → branch_target t op a disp % INSTRUCTION_BYTES ≡ 0
 goal_aligned t op a disp h =
     goal_by (is_taken op (register t.state a)) (target_of (next_pc t) disp) (next_pc t) (target_aligned (next_pc t) disp (next_aligned t h)) (next_aligned t h)
 

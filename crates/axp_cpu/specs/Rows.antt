@@ -116,20 +116,20 @@ memory_row size t STL_C a base disp = store_conditional_plan size t Long a (addr
 memory_row size t STQ_C a base disp = store_conditional_plan size t Quad a (address_of base disp)
 
 -- where a branch goes on, and whether it links
-abbrev pub branch_goal : CpuState → BranchOp → ℕ → ℕ → ℕ
-branch_goal t op a disp = if is_taken op (register t.state a) then target_of (next_pc t) disp else next_pc t
+abbrev pub branch_target : CpuState → BranchOp → ℕ → ℕ → ℕ
+branch_target t op a disp = if is_taken op (register t.state a) then target_of (next_pc t) disp else next_pc t
 
 abbrev pub branch_row : CpuState → BranchOp → ℕ → ℕ → Plan
-branch_row t BR a disp = link_plan t a (branch_goal t BR a disp)
-branch_row t BSR a disp = link_plan t a (branch_goal t BSR a disp)
-branch_row t BLBC a disp = End (at_pc t (branch_goal t BLBC a disp))
-branch_row t BLBS a disp = End (at_pc t (branch_goal t BLBS a disp))
-branch_row t BEQ a disp = End (at_pc t (branch_goal t BEQ a disp))
-branch_row t BNE a disp = End (at_pc t (branch_goal t BNE a disp))
-branch_row t BLT a disp = End (at_pc t (branch_goal t BLT a disp))
-branch_row t BLE a disp = End (at_pc t (branch_goal t BLE a disp))
-branch_row t BGE a disp = End (at_pc t (branch_goal t BGE a disp))
-branch_row t BGT a disp = End (at_pc t (branch_goal t BGT a disp))
+branch_row t BR a disp = link_plan t a (branch_target t BR a disp)
+branch_row t BSR a disp = link_plan t a (branch_target t BSR a disp)
+branch_row t BLBC a disp = End (at_pc t (branch_target t BLBC a disp))
+branch_row t BLBS a disp = End (at_pc t (branch_target t BLBS a disp))
+branch_row t BEQ a disp = End (at_pc t (branch_target t BEQ a disp))
+branch_row t BNE a disp = End (at_pc t (branch_target t BNE a disp))
+branch_row t BLT a disp = End (at_pc t (branch_target t BLT a disp))
+branch_row t BLE a disp = End (at_pc t (branch_target t BLE a disp))
+branch_row t BGE a disp = End (at_pc t (branch_target t BGE a disp))
+branch_row t BGT a disp = End (at_pc t (branch_target t BGT a disp))
 
 -- a jump goes to Rb with its two low bits cleared, whatever its hint
 abbrev pub jump_row : CpuState → ℕ → ℕ → Plan

@@ -4,7 +4,7 @@ ghost use Rattle.axp_access.specs.Kinds.{is_fetch};
 ghost use Rattle.axp_base.specs.Sizes.{bytes_of};
 ghost use Rattle.axp_cpu.specs.declared.cpu_states.CpuState.{CpuState};
 ghost use Rattle.axp_cpu.specs.Phases.{after, is_instruction, plan_of, FollowFits, PhaseFits};
-ghost use Rattle.axp_cpu.specs.Rows.{address_of, branch_goal, branch_row, cycle_counter};
+ghost use Rattle.axp_cpu.specs.Rows.{address_of, branch_target, branch_row, cycle_counter};
 ghost use Rattle.axp_cpu.specs.Rows.{barrier_plan, high_address_of, jump_row, load_locked_plan};
 ghost use Rattle.axp_cpu.specs.Rows.{load_plan, memory_row, misc_row, operand, operate_row};
 ghost use Rattle.axp_cpu.specs.Rows.{pal_row, quadword_at, row, store_conditional_plan, store_plan};
@@ -194,7 +194,7 @@ fn branch(table: &CpuState, op: BranchOp, a: u8, disp: u32) -> Phase
     ensures plan { (size : ℕ) → plan_of size table.now result ≡ branch_row table.now op a disp }
     ensures fits { PhaseFits result }
 {
-    let goal = goal_of(table, op, a, disp);
+    let goal = branch_target(table, op, a, disp);
     match op {
         BranchOp::BR | BranchOp::BSR => write_and_go(table, a, table.next_pc(), goal),
         BranchOp::BLBC
@@ -209,9 +209,9 @@ fn branch(table: &CpuState, op: BranchOp, a: u8, disp: u32) -> Phase
 }
 
 /// Where a branch goes on.
-fn goal_of(table: &CpuState, op: BranchOp, a: u8, disp: u32) -> u64
+fn branch_target(table: &CpuState, op: BranchOp, a: u8, disp: u32) -> u64
     requires { a < REGISTERS }
-    ensures { result ≡ branch_goal table.now op a disp }
+    ensures { result ≡ branch_target table.now op a disp }
 {
     let next = table.next_pc();
     if taken(op, table.state.get(a)) {

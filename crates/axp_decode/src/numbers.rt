@@ -221,78 +221,134 @@ pub(crate) fn pal_code(op: PalOp) -> u32
 pub(crate) fn operate_op(opcode: u8, function: u8) -> Option<Op>
     ensures { result ≡ operate_of opcode function }
 {
-    match (opcode, function) {
-        (0x10, 0x00) => Some(Op::ADDL),
-        (0x10, 0x09) => Some(Op::SUBL),
-        (0x10, 0x02) => Some(Op::S4ADDL),
-        (0x10, 0x12) => Some(Op::S8ADDL),
-        (0x10, 0x0B) => Some(Op::S4SUBL),
-        (0x10, 0x1B) => Some(Op::S8SUBL),
-        (0x10, 0x20) => Some(Op::ADDQ),
-        (0x10, 0x29) => Some(Op::SUBQ),
-        (0x10, 0x22) => Some(Op::S4ADDQ),
-        (0x10, 0x32) => Some(Op::S8ADDQ),
-        (0x10, 0x2B) => Some(Op::S4SUBQ),
-        (0x10, 0x3B) => Some(Op::S8SUBQ),
-        (0x10, 0x0F) => Some(Op::CMPBGE),
-        (0x10, 0x1D) => Some(Op::CMPULT),
-        (0x10, 0x3D) => Some(Op::CMPULE),
-        (0x10, 0x2D) => Some(Op::CMPEQ),
-        (0x10, 0x4D) => Some(Op::CMPLT),
-        (0x10, 0x6D) => Some(Op::CMPLE),
-        (0x10, 0x40) => Some(Op::ADDLV),
-        (0x10, 0x49) => Some(Op::SUBLV),
-        (0x10, 0x60) => Some(Op::ADDQV),
-        (0x10, 0x69) => Some(Op::SUBQV),
-        (0x11, 0x00) => Some(Op::AND),
-        (0x11, 0x08) => Some(Op::BIC),
-        (0x11, 0x20) => Some(Op::BIS),
-        (0x11, 0x28) => Some(Op::ORNOT),
-        (0x11, 0x40) => Some(Op::XOR),
-        (0x11, 0x48) => Some(Op::EQV),
-        (0x11, 0x14) => Some(Op::CMOVLBS),
-        (0x11, 0x16) => Some(Op::CMOVLBC),
-        (0x11, 0x24) => Some(Op::CMOVEQ),
-        (0x11, 0x26) => Some(Op::CMOVNE),
-        (0x11, 0x44) => Some(Op::CMOVLT),
-        (0x11, 0x46) => Some(Op::CMOVGE),
-        (0x11, 0x64) => Some(Op::CMOVLE),
-        (0x11, 0x66) => Some(Op::CMOVGT),
-        (0x11, 0x61) => Some(Op::AMASK),
-        (0x11, 0x6C) => Some(Op::IMPLVER),
-        (0x12, 0x06) => Some(Op::EXTBL),
-        (0x12, 0x16) => Some(Op::EXTWL),
-        (0x12, 0x26) => Some(Op::EXTLL),
-        (0x12, 0x36) => Some(Op::EXTQL),
-        (0x12, 0x5A) => Some(Op::EXTWH),
-        (0x12, 0x6A) => Some(Op::EXTLH),
-        (0x12, 0x7A) => Some(Op::EXTQH),
-        (0x12, 0x0B) => Some(Op::INSBL),
-        (0x12, 0x1B) => Some(Op::INSWL),
-        (0x12, 0x2B) => Some(Op::INSLL),
-        (0x12, 0x3B) => Some(Op::INSQL),
-        (0x12, 0x57) => Some(Op::INSWH),
-        (0x12, 0x67) => Some(Op::INSLH),
-        (0x12, 0x77) => Some(Op::INSQH),
-        (0x12, 0x02) => Some(Op::MSKBL),
-        (0x12, 0x12) => Some(Op::MSKWL),
-        (0x12, 0x22) => Some(Op::MSKLL),
-        (0x12, 0x32) => Some(Op::MSKQL),
-        (0x12, 0x52) => Some(Op::MSKWH),
-        (0x12, 0x62) => Some(Op::MSKLH),
-        (0x12, 0x72) => Some(Op::MSKQH),
-        (0x12, 0x30) => Some(Op::ZAP),
-        (0x12, 0x31) => Some(Op::ZAPNOT),
-        (0x12, 0x39) => Some(Op::SLL),
-        (0x12, 0x34) => Some(Op::SRL),
-        (0x12, 0x3C) => Some(Op::SRA),
-        (0x13, 0x00) => Some(Op::MULL),
-        (0x13, 0x20) => Some(Op::MULQ),
-        (0x13, 0x30) => Some(Op::UMULH),
-        (0x13, 0x40) => Some(Op::MULLV),
-        (0x13, 0x60) => Some(Op::MULQV),
-        (0x1C, 0x00) => Some(Op::SEXTB),
-        (0x1C, 0x01) => Some(Op::SEXTW),
+    match opcode {
+        0x10 => arithmetic_op(function),
+        0x11 => logic_op(function),
+        0x12 => byte_op(function),
+        0x13 => multiply_op(function),
+        0x1C => extension_op(function),
+        _ => None,
+    }
+}
+
+/// The instruction of integer arithmetic and comparison (opcode 10, hexadecimal) with this
+/// function.
+#[tactic(auto, unfolding(crate::specs::Table::operate_of))]
+fn arithmetic_op(function: u8) -> Option<Op>
+    ensures { result ≡ operate_of 16 function }
+{
+    match function {
+        0x00 => Some(Op::ADDL),
+        0x09 => Some(Op::SUBL),
+        0x02 => Some(Op::S4ADDL),
+        0x12 => Some(Op::S8ADDL),
+        0x0B => Some(Op::S4SUBL),
+        0x1B => Some(Op::S8SUBL),
+        0x20 => Some(Op::ADDQ),
+        0x29 => Some(Op::SUBQ),
+        0x22 => Some(Op::S4ADDQ),
+        0x32 => Some(Op::S8ADDQ),
+        0x2B => Some(Op::S4SUBQ),
+        0x3B => Some(Op::S8SUBQ),
+        0x0F => Some(Op::CMPBGE),
+        0x1D => Some(Op::CMPULT),
+        0x3D => Some(Op::CMPULE),
+        0x2D => Some(Op::CMPEQ),
+        0x4D => Some(Op::CMPLT),
+        0x6D => Some(Op::CMPLE),
+        0x40 => Some(Op::ADDLV),
+        0x49 => Some(Op::SUBLV),
+        0x60 => Some(Op::ADDQV),
+        0x69 => Some(Op::SUBQV),
+        _ => None,
+    }
+}
+
+/// The instruction of logic and conditional moves (opcode 11, hexadecimal) with this function.
+#[tactic(auto, unfolding(crate::specs::Table::operate_of))]
+fn logic_op(function: u8) -> Option<Op>
+    ensures { result ≡ operate_of 17 function }
+{
+    match function {
+        0x00 => Some(Op::AND),
+        0x08 => Some(Op::BIC),
+        0x20 => Some(Op::BIS),
+        0x28 => Some(Op::ORNOT),
+        0x40 => Some(Op::XOR),
+        0x48 => Some(Op::EQV),
+        0x14 => Some(Op::CMOVLBS),
+        0x16 => Some(Op::CMOVLBC),
+        0x24 => Some(Op::CMOVEQ),
+        0x26 => Some(Op::CMOVNE),
+        0x44 => Some(Op::CMOVLT),
+        0x46 => Some(Op::CMOVGE),
+        0x64 => Some(Op::CMOVLE),
+        0x66 => Some(Op::CMOVGT),
+        0x61 => Some(Op::AMASK),
+        0x6C => Some(Op::IMPLVER),
+        _ => None,
+    }
+}
+
+/// The instruction of byte manipulation and shifts (opcode 12, hexadecimal) with this function.
+#[tactic(auto, unfolding(crate::specs::Table::operate_of))]
+fn byte_op(function: u8) -> Option<Op>
+    ensures { result ≡ operate_of 18 function }
+{
+    match function {
+        0x06 => Some(Op::EXTBL),
+        0x16 => Some(Op::EXTWL),
+        0x26 => Some(Op::EXTLL),
+        0x36 => Some(Op::EXTQL),
+        0x5A => Some(Op::EXTWH),
+        0x6A => Some(Op::EXTLH),
+        0x7A => Some(Op::EXTQH),
+        0x0B => Some(Op::INSBL),
+        0x1B => Some(Op::INSWL),
+        0x2B => Some(Op::INSLL),
+        0x3B => Some(Op::INSQL),
+        0x57 => Some(Op::INSWH),
+        0x67 => Some(Op::INSLH),
+        0x77 => Some(Op::INSQH),
+        0x02 => Some(Op::MSKBL),
+        0x12 => Some(Op::MSKWL),
+        0x22 => Some(Op::MSKLL),
+        0x32 => Some(Op::MSKQL),
+        0x52 => Some(Op::MSKWH),
+        0x62 => Some(Op::MSKLH),
+        0x72 => Some(Op::MSKQH),
+        0x30 => Some(Op::ZAP),
+        0x31 => Some(Op::ZAPNOT),
+        0x39 => Some(Op::SLL),
+        0x34 => Some(Op::SRL),
+        0x3C => Some(Op::SRA),
+        _ => None,
+    }
+}
+
+/// The instruction of multiplication (opcode 13, hexadecimal) with this function.
+#[tactic(auto, unfolding(crate::specs::Table::operate_of))]
+fn multiply_op(function: u8) -> Option<Op>
+    ensures { result ≡ operate_of 19 function }
+{
+    match function {
+        0x00 => Some(Op::MULL),
+        0x20 => Some(Op::MULQ),
+        0x30 => Some(Op::UMULH),
+        0x40 => Some(Op::MULLV),
+        0x60 => Some(Op::MULQV),
+        _ => None,
+    }
+}
+
+/// The instruction of sign extension (opcode 1C, hexadecimal) with this function.
+#[tactic(auto, unfolding(crate::specs::Table::operate_of))]
+fn extension_op(function: u8) -> Option<Op>
+    ensures { result ≡ operate_of 28 function }
+{
+    match function {
+        0x00 => Some(Op::SEXTB),
+        0x01 => Some(Op::SEXTW),
         _ => None,
     }
 }

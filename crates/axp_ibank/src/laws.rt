@@ -63,6 +63,6 @@ pub fn code_lines_are_the_held_ones()
     ensures held { (n : ℕ) (cs : List LineCopy) → names_line n (code_lines cs) ≡ is_held n cs }
     ensures ascending { (cs : List LineCopy) (i j : ℕ) (d : Line) → Whole cs → i < j
         → j < length (code_lines cs)
-        → line_number (slice_index_or (code_lines cs) i d)
-        < line_number (slice_index_or (code_lines cs) j d) }
+        → line_number (slice_index_or (code_lines cs) i d) < line_number
+        (slice_index_or (code_lines cs) j d) }
 {}

@@ -54,7 +54,7 @@ impl Segment {
         self.bytes.as_slice()
     }
 
-    /// The segment has the byte at this address.
+    /// Whether the segment has the byte at this address.
     fn covers(&self, address: u64) -> bool
         ensures { result ≡ covers self.now address }
     {

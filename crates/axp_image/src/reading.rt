@@ -64,14 +64,14 @@ fn u64_at(bytes: &[u8], at: usize) -> Option<u64>
     Some(LittleEndian::read_u64(piece_at(bytes, at, 8)?))
 }
 
-/// Memory may have this many bytes.
+/// Whether memory may have this many bytes.
 fn is_memory_size(size: u64) -> bool
     ensures { result ≡ is_memory_size size }
 {
     size % PAGE_BYTES == 0 && PAGE_BYTES <= size && size <= MAX_MEMORY
 }
 
-/// Processors may start at this address of a memory of `size` bytes.
+/// Whether processors may start at this address of a memory of `size` bytes.
 fn is_entry(size: u64, entry: u64) -> bool
     requires least { PAGE_BYTES ≤ size }
     requires most { size ≤ MAX_MEMORY }
@@ -117,8 +117,8 @@ fn read_header(bytes: &[u8]) -> Option<Header>
     })
 }
 
-/// A record's segment has bytes, lies in a memory of `size` bytes and at or above `from`, and the
-/// record's last word is zero.
+/// Whether a record's segment has bytes and lies in a memory of `size` bytes, at or above `from`,
+/// and the record's last word is zero.
 fn is_extent(size: u64, from: u64, extent: Extent, last: u32) -> bool
     ensures { result ≡ is_extent size from extent last }
 {

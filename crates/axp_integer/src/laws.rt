@@ -78,12 +78,12 @@ pub fn overflow_is_no_fit()
         ↔ (FitsSigned w32 (signed_longword a -ℤ signed_longword b) → ⊥) }
     ensures mull { (a b : ℕ) → (overflow_of MULLV a b ≡ true)
         ↔ (FitsSigned w32 (signed_longword a *ℤ signed_longword b) → ⊥) }
-    ensures addq { (a b : ℕ) → (overflow_of ADDQV a b ≡ true)
-        ↔ (FitsSigned w64 (signed a +ℤ signed b) → ⊥) }
-    ensures subq { (a b : ℕ) → (overflow_of SUBQV a b ≡ true)
-        ↔ (FitsSigned w64 (signed a -ℤ signed b) → ⊥) }
-    ensures mulq { (a b : ℕ) → (overflow_of MULQV a b ≡ true)
-        ↔ (FitsSigned w64 (signed a *ℤ signed b) → ⊥) }
+    ensures addq { (a b : ℕ)
+        → (overflow_of ADDQV a b ≡ true) ↔ (FitsSigned w64 (signed a +ℤ signed b) → ⊥) }
+    ensures subq { (a b : ℕ)
+        → (overflow_of SUBQV a b ≡ true) ↔ (FitsSigned w64 (signed a -ℤ signed b) → ⊥) }
+    ensures mulq { (a b : ℕ)
+        → (overflow_of MULQV a b ≡ true) ↔ (FitsSigned w64 (signed a *ℤ signed b) → ⊥) }
 {}
 
 /// A /V instruction writes what the instruction without /V writes, also where it overflows.
@@ -123,18 +123,17 @@ pub fn bytes_compared()
 
 /// What the logical instructions do with each bit.
 pub fn logic_by_bits()
-    ensures and { (a b old n : ℕ) → has_bit (value_of AND a b old) n
-        ≡ (has_bit a n && has_bit b n) }
-    ensures bis { (a b old n : ℕ) → has_bit (value_of BIS a b old) n
-        ≡ (has_bit a n || has_bit b n) }
+    ensures and { (a b old n : ℕ)
+        → has_bit (value_of AND a b old) n ≡ (has_bit a n && has_bit b n) }
+    ensures bis { (a b old n : ℕ)
+        → has_bit (value_of BIS a b old) n ≡ (has_bit a n || has_bit b n) }
     ensures xor { (a b old n : ℕ) → has_bit (value_of XOR a b old) n
         ≡ (if has_bit a n then not (has_bit b n) else has_bit b n) }
     ensures bic { (a b old n : ℕ) → b < 2 ^ 64 → n < 64
         → has_bit (value_of BIC a b old) n ≡ (has_bit a n && not (has_bit b n)) }
     ensures ornot { (a b old n : ℕ) → b < 2 ^ 64 → n < 64
         → has_bit (value_of ORNOT a b old) n ≡ (has_bit a n || not (has_bit b n)) }
-    ensures eqv { (a b old n : ℕ) → b < 2 ^ 64 → n < 64
-        → has_bit (value_of EQV a b old) n
+    ensures eqv { (a b old n : ℕ) → b < 2 ^ 64 → n < 64 → has_bit (value_of EQV a b old) n
         ≡ (if has_bit a n then has_bit b n else not (has_bit b n)) }
 {}
 

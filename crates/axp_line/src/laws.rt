@@ -4,6 +4,12 @@ ghost use Rattle.axp_base.specs.Masks.{has_bit};
 ghost use Rattle.axp_base.specs.declared.lines.TheConstants.{LINE_BYTES};
 ghost use Rattle.axp_line.specs.Lines.{bytes_of_line, merged};
 ghost use Rattle.axp_line.specs.declared.contents.LineData.{LineData};
+ghost use Rattle.axp_line.specs.declared.messages.TheConstants.{MAX_HELD};
+
+/// The most lines that a processor holds, as a number.
+pub fn limits_are_these()
+    ensures held { MAX_HELD ≡ 32 }
+{}
 
 /// A line's data have the line's bytes.
 pub fn line_is_whole()

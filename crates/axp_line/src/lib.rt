@@ -6,7 +6,7 @@ mod laws;
 mod messages;
 
 pub use contents::{LineData, NoRoom};
-pub use laws::{line_is_whole, merged_bytes};
+pub use laws::{limits_are_these, line_is_whole, merged_bytes};
 pub use messages::{Held, MAX_HELD, Reply, Request};
 
 #[cfg(test)]

@@ -21,7 +21,7 @@ impl Since {
     ghost use Rattle.std.specs.Prelude.{◌≡◌};
     ghost use Rattle.axp_lsu.specs.Keeping.{has_dropped};
 
-    /// A drop from this bank.
+    /// Whether there was a drop from this bank.
     pub(crate) fn has_dropped(self, bank: Bank) -> bool
         ensures { result ≡ has_dropped bank self }
     {

@@ -408,10 +408,15 @@ fn take_removes_an_older_copy(rt: HostRuntime) {
     let line = Line::of(EVEN);
     rig.fills(&read, 5, starting_with(1));
     rig.makes(&read, None);
-    for (turn, gone) in [(5, false), (6, true), (7, false)] {
+    // the copy of the line that is named goes, whatever bank was asked for
+    for (bank, turn, gone) in [
+        (Bank::Even, 5, false),
+        (Bank::Odd, 6, true),
+        (Bank::Even, 7, false),
+    ] {
         let reply = Some(Reply::Late { line, turn });
         assert_eq!(rt;
-            rig.does(Act::Take(Bank::Even), &read, reply),
+            rig.does(Act::Take(bank), &read, reply),
             Some(Outcome::Taken { line, turn, gone })
         );
         assert_eq!(rt; rig.may(Act::Step, &read), turn < 6);

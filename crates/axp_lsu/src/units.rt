@@ -67,7 +67,7 @@ impl Lsu {
         if in_even(line) { &self.even } else { &self.odd }
     }
 
-    /// The bank has a copy of the line.
+    /// Whether the bank has a copy of the line.
     fn holds_in(&self, bank: Bank, line: Line) -> bool
         ensures { result ≡ is_held (line_number line) (copies_of bank self.now) }
     {
@@ -79,7 +79,7 @@ impl Lsu {
     }
 }
 
-/// The line belongs to bank `d0`.
+/// Whether the line belongs to bank `d0`.
 fn in_even(line: Line) -> bool
     ensures { data_bank (line_number line) ≡ (if result then Even else Odd) }
 {

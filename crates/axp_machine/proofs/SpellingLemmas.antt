@@ -1,6 +1,6 @@
 -- What a processor gives is printed: each number fits its field.
-use Rattle.std.proofs.Common.{◌≡◌, ℕ, ◌+◌, ◌*◌, ◌%◌, ◌^◌, ◌<◌, ◌≤◌, ◌||◌, leb, Bool, true, false, cond, List, [], ◌∷◌, length, slice_get, Option, Some, None, IfSome, is_some, ◌&&◌, not, arith, refl, sym, subst}
-use Rattle.std.proofs.lemmas.Bool.{and_parts, cond_both, eqb-true, leb-false, or_parts}
+use Rattle.std.proofs.Common.{◌≡◌, ℕ, ◌+◌, ◌*◌, ◌%◌, ◌^◌, ◌<◌, ◌≤◌, ◌||◌, Bool, true, false, cond, List, [], ◌∷◌, length, slice_get, Option, Some, None, IfSome, ◌&&◌, not, arith, refl, sym, subst}
+use Rattle.std.proofs.lemmas.Bool.{and_parts, cond_both, eqb-true}
 use Rattle.std.specs.List.{AllByRecursion, find, list_any}
 use Rattle.std.specs.Option.{option_map}
 use Rattle.axp_access.specs.declared.Access.{Access}
@@ -23,7 +23,7 @@ use Rattle.axp_base.specs.declared.processors.Cpu.{Cpu}
 use Rattle.axp_base.specs.declared.processors.TheConstants.{MAX_BUDGET, MAX_CPUS}
 use Rattle.axp_cpu.specs.Actors.{Actor, actor_intent, outcome_of}
 use Rattle.axp_cpu.specs.ActorStands.{IsAt}
-use Rattle.axp_cpu.specs.Seats.{Seat, is_finished, wanted}
+use Rattle.axp_cpu.specs.Seats.{wanted}
 use Rattle.axp_cpu.specs.Soundness as sound
 use Rattle.axp_cpu.specs.Soundness.{IsSoundAs}
 use Rattle.axp_cpu.specs.declared.processors.Processor.{Processor}

@@ -222,7 +222,7 @@ impl Machine {
         match self.processor(event.cpu).request(event.act) {
             Err(refusal) => Err(refusal),
             Ok(ask) => {
-                if is_vain(&ask, &self.bus, event.cpu) {
+                if is_taken_in_vain(&ask, &self.bus, event.cpu) {
                     Err(Refusal::NotLegal)
                 } else {
                     Ok(ask)
@@ -257,7 +257,7 @@ fn is_done(processor: &Processor) -> bool
 }
 
 /// Whether it is a take where nothing is late.
-fn is_vain(ask: &Ask2, bus: &Bus, cpu: Cpu) -> bool
+fn is_taken_in_vain(ask: &Ask2, bus: &Bus, cpu: Cpu) -> bool
     requires { cpu_number cpu < length bus.now.ports }
     ensures { IsTakenInVain bus.now cpu ask.now result }
 {

@@ -67,8 +67,8 @@ impl Ram {
     #[tactic(auto, using(crate::proofs::MergingLemmas::length_merged_at))]
     pub fn write(&mut self, line: Line, mask: Mask, bytes: &LineData)
         requires { line_number line * LINE_BYTES < length self.old }
-        ensures bytes { self.new ≡ written (line_number line) (mask_bits mask)
-            (bytes_of_line bytes.now) self.old }
+        ensures bytes { self.new
+            ≡ written (line_number line) (mask_bits mask) (bytes_of_line bytes.now) self.old }
         ensures size { length self.new ≡ length self.old }
     {
         let at = line.address() as usize;

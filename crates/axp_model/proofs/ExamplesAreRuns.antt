@@ -9,8 +9,8 @@ use Rattle.axp_model.specs.Outcomes.{IsRun}
 one_more : (image : ℕ → ℕ) (programs : Programs) (e : Event) (es : List Event) (h : List Record) (may : Bool) → may_follow programs h e ≡ may → IsRun image (processors programs) h
     → (IsRun image (processors programs) (record_of image programs h e ∷ h) → IsRun image (processors programs) (run_from image programs (record_of image programs h e ∷ h) es))
     → IsRun image (processors programs) (cond may (run_from image programs (record_of image programs h e ∷ h) es) h)
-one_more image programs e es h true is ran go_on = go_on (is, refl, ran)
-one_more image programs e es h false is ran go_on = ran
+one_more image programs e es h true is ran make_act = make_act (is, refl, ran)
+one_more image programs e es h false is ran make_act = ran
 
 run_from_is_run : (image : ℕ → ℕ) (programs : Programs) (es : List Event) (h : List Record) → IsRun image (processors programs) h → IsRun image (processors programs) (run_from image programs h es)
 run_from_is_run image programs [] h ran = ran

@@ -32,7 +32,9 @@ impl Flags for PteBits {
 
     ghost exact = { ⊤ };
 
-    ghost table = { (codes "V", 0x1) ∷ (codes "FOR", 0x2) ∷ (codes "FOW", 0x4) ∷ (codes "FOE", 0x8) ∷ (codes "ASM", 0x10) ∷ (codes "KRE", 0x100) ∷ (codes "URE", 0x200) ∷ (codes "KWE", 0x1000) ∷ (codes "UWE", 0x2000) ∷ [] };
+    ghost table = { (codes "V", 0x1) ∷ (codes "FOR", 0x2) ∷ (codes "FOW", 0x4) ∷ (codes "FOE", 0x8)
+        ∷ (codes "ASM", 0x10) ∷ (codes "KRE", 0x100) ∷ (codes "URE", 0x200)
+        ∷ (codes "KWE", 0x1000) ∷ (codes "UWE", 0x2000) ∷ [] };
 
     ghost set_of = { set_bits };
 
@@ -106,8 +108,8 @@ impl Pte {
 
     /// Whether the named bits of a set are all 1.
     pub(crate) fn has(self, flag: PteBits) -> bool
-        ensures { result ≡ (bit_and (bit_and (pte_word self) named_bits) (set_bits flag) == set_bits
-            flag) }
+        ensures { result
+            ≡ (bit_and (bit_and (pte_word self) named_bits) (set_bits flag) == set_bits flag) }
     {
         self.bits().contains(flag)
     }

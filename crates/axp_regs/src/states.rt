@@ -298,7 +298,7 @@ impl State {
         self.vptptr = value;
     }
 
-    /// The lock flag.
+    /// Whether the lock flag is set.
     pub fn locked(&self) -> bool
         ensures { result ≡ locked_of self.now }
     {

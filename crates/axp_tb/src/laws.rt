@@ -8,6 +8,11 @@ ghost use Rattle.axp_tb.specs.Buffers.{IsLastMatch};
 ghost use Rattle.axp_tb.specs.declared.buffers.TheConstants.{TB_ENTRIES};
 ghost use Rattle.axp_tb.specs.declared.entries.TbEntry.{TbEntry};
 
+/// How many entries the buffer keeps, as a number.
+pub fn limits_are_these()
+    ensures entries { TB_ENTRIES ≡ 32 }
+{}
+
 /// What is found is exactly the entry that was put last of those that match.
 pub fn finds_the_last()
     ensures some { (entries : List TbEntry) (page asn : ℕ) (pte : Pte)

@@ -8,7 +8,7 @@ mod laws;
 
 pub use buffers::{TB_ENTRIES, Tb};
 pub use entries::TbEntry;
-pub use laws::{finds_after_drops, finds_after_put, finds_the_last};
+pub use laws::{finds_after_drops, finds_after_put, finds_the_last, limits_are_these};
 
 #[cfg(test)]
 mod tests;

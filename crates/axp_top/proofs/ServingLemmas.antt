@@ -61,7 +61,7 @@ handed_course b n a ask s count asks ends = inl (record { ends = ends; count = c
 -- it failed
 failed_course : (b n : Outside) (a : Answer) (ask : Ask) (more : List Ask) (s : Status) (f : FetchFault) → f ≡ fetch.Failed → FetchCount b.desk.faults n.desk.faults (Err f) → FetchAsks b.desk.asks n.desk.asks ask (Err f) → Ends b.sink n.sink read_fault_answer s
     → Course b n a (ask ∷ more) s
-failed_course b n a ask more s fetch.Failed is count asks ends = inr (record { ends = ends; count = count; failed = ([], ask, more, refl, asks) })
+failed_course b n a ask more s fetch.Failed is count asks ends = inr (record { ends = ends; count = count; failed = record { good = []; failed = ask; rest = more; parted = refl; made = asks } })
 failed_course b n a ask more s fetch.TooLong is count asks ends = cc
 failed_course b n a ask more s fetch.Memory is count asks ends = cc
 
@@ -200,8 +200,13 @@ then_front : (before between now : List Ask) (ask : Ask) (more : List Ask) → b
 then_front before between now ask more is h = (ask ∷ h.0, h.1, ap (λ (xs : List Ask). ask ∷ xs) h.2, h.3 ∙ ap (λ (xs : List Ask). xs ++ h.0) is ∙ append_assoc before (ask ∷ []) h.0)
 
 then_failed : (before between now : List Ask) (ask : Ask) (more : List Ask) → between ≡ before ++ ask ∷ [] → AsksFailed between now more → AsksFailed before now (ask ∷ more)
-then_failed before between now ask more is h =
-    (ask ∷ h.0, h.1, h.2, ap (λ (xs : List Ask). ask ∷ xs) h.3, h.4 ∙ ap (λ (xs : List Ask). xs ++ (h.0 ++ h.1 ∷ [])) is ∙ append_assoc before (ask ∷ []) (h.0 ++ h.1 ∷ []))
+then_failed before between now ask more is h = record {
+  good = ask ∷ h.good;
+  failed = h.failed;
+  rest = h.rest;
+  parted = ap (λ (xs : List Ask). ask ∷ xs) h.parted;
+  made = h.made ∙ ap (λ (xs : List Ask). xs ++ (h.good ++ h.failed ∷ [])) is ∙ append_assoc before (ask ∷ []) (h.good ++ h.failed ∷ []);
+}
 
 then_all : (before between now : List Ask) (ask : Ask) (more : List Ask) → between ≡ before ++ ask ∷ [] → now ≡ between ++ more → now ≡ before ++ ask ∷ more
 then_all before between now ask more is all = all ∙ ap (λ (xs : List Ask). xs ++ more) is ∙ append_assoc before (ask ∷ []) more

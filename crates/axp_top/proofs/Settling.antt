@@ -182,13 +182,19 @@ desk_count b n a asks status.Memory is (inr h) = inr h.count
 
 -- those up to one that failed are a front
 failed_front : (before now asks : List Ask) → AsksFailed before now asks → AsksFront before now asks
-failed_front before now asks h = (h.0 ++ h.1 ∷ [], h.2, h.3 ∙ sym (append_assoc h.0 (h.1 ∷ []) h.2), h.4)
+failed_front before now asks h = (h.good ++ h.failed ∷ [], h.rest, h.parted ∙ sym (append_assoc h.good (h.failed ∷ []) h.rest), h.made)
 
 front_further : (before now asks more : List Ask) → AsksFront before now asks → AsksFront before now (asks ++ more)
 front_further before now asks more h = (h.0, h.1 ++ more, ap (λ (xs : List Ask). xs ++ more) h.2 ∙ append_assoc h.0 h.1 more, h.3)
 
 failed_further : (before now asks more : List Ask) → AsksFailed before now asks → AsksFailed before now (asks ++ more)
-failed_further before now asks more h = (h.0, h.1, h.2 ++ more, ap (λ (xs : List Ask). xs ++ more) h.3 ∙ append_assoc h.0 (h.1 ∷ h.2) more, h.4)
+failed_further before now asks more h = record {
+  good = h.good;
+  failed = h.failed;
+  rest = h.rest ++ more;
+  parted = ap (λ (xs : List Ask). xs ++ more) h.parted ∙ append_assoc h.good (h.failed ∷ h.rest) more;
+  made = h.made;
+}
 
 pub asks_needed : (b n : Outside) (a : Answer) (asks : List Ask) (s : Status) → IsAnswer a → Course b n a asks s → AsksNeeded b.desk n.desk asks s
 asks_needed b n a asks status.Done is (inl h) = h.all (λ e. cc)

@@ -18,7 +18,8 @@ abbrev pub image_in : List ℕ → Option Contents
 image_in bytes = if nat_lt MAX_IMAGE_BYTES (length bytes) then None else image_of bytes
 
 abbrev pub answer_of_trace : Contents → List ℕ → Answer
-answer_of_trace image bytes = if nat_lt MAX_TRACE_BYTES (length bytes) then not_built_at_all else answer_of_lines image (lines_of bytes)
+answer_of_trace image bytes =
+    if nat_lt MAX_TRACE_BYTES (length bytes) then not_built_at_all else answer_of_lines image (lines_of bytes)
 
 -- by the image, and the list that is handed over
 abbrev pub answer_by : Option Contents → List ℕ → Answer

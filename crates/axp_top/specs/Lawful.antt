@@ -34,7 +34,8 @@ abbrev pub IsCause : Seen → List FileLine → Status → Type 0
 IsCause m [] status.Done = is_complete m ≡ true
 IsCause m [] (status.Incomplete n) = (is_complete m ≡ false) × (n ≡ length m.records)
 IsCause m (line ∷ more) (status.NotLegal n) = IsNotLegal m line × (n ≡ length m.records + 1)
-IsCause m (line ∷ more) (status.NotBuilt n) = ((event_in m.cpus line ≡ None) ⊎ IsNotBuilt m line) × (n ≡ length m.records + 1)
+IsCause m (line ∷ more) (status.NotBuilt n) =
+    ((event_in m.cpus line ≡ None) ⊎ IsNotBuilt m line) × (n ≡ length m.records + 1)
 IsCause m rest s = ⊥
 
 -- An answer to a file of these lines is the header and all records of a machine's run over an image, and

@@ -27,5 +27,7 @@ abbrev pub desk_state : {D : Type 0} → (D → ℕ) → (D → List Ask) → D 
 desk_state faults asks d = record { faults = faults d; asks = asks d }
 
 -- both
-abbrev pub outside_at : {D K : Type 0} → (D → ℕ) → (D → List Ask) → (K → Option (List ℕ)) → (K → ℕ) → (K → ℕ) → D → K → Outside
-outside_at desk_faults asks taken sink_faults puts d k = record { sink = sink_state taken sink_faults puts k; desk = desk_state desk_faults asks d }
+abbrev pub outside_at : {D K : Type 0} → (D → ℕ) → (D → List Ask) → (K → Option (List ℕ)) → (K → ℕ) → (K → ℕ)
+    → D → K → Outside
+outside_at desk_faults asks taken sink_faults puts d k =
+    record { sink = sink_state taken sink_faults puts k; desk = desk_state desk_faults asks d }

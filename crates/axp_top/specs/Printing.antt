@@ -37,7 +37,8 @@ pub record StopsAt (before now : SinkState) (printed : Lines) (part : List ℕ) 
 
 -- the sink failed in a line, or memory was not found for its put
 abbrev pub Stopped : SinkState → SinkState → Lines → Stop → Type 0
-Stopped before now printed stop.WriteFault = ((part : List ℕ) × StopsAt before now printed part) × (now.faults ≡ raised before.faults 1)
+Stopped before now printed stop.WriteFault =
+    ((part : List ℕ) × StopsAt before now printed part) × (now.faults ≡ raised before.faults 1)
 Stopped before now printed stop.Memory = StopsAt before now printed [] × (now.faults ≡ before.faults)
 
 abbrev pub Prints : {T : Type 0} → SinkState → SinkState → Lines → Result T Stop → Type 0

@@ -88,8 +88,12 @@ abbrev pub AsksFront : List Ask → List Ask → List Ask → Type 0
 AsksFront before now asks = (front rest : List Ask) × (asks ≡ front ++ rest) × (now ≡ before ++ front)
 
 -- they are a front of it whose last one failed
-abbrev pub AsksFailed : List Ask → List Ask → List Ask → Type 0
-AsksFailed before now asks = (good : List Ask) × (failed : Ask) × (rest : List Ask) × (asks ≡ good ++ failed ∷ rest) × (now ≡ before ++ (good ++ failed ∷ []))
+pub record AsksFailed (before now asks : List Ask) : Type 0 where
+  pub good : List Ask
+  pub failed : Ask
+  pub rest : List Ask
+  pub parted : asks ≡ good ++ failed ∷ rest
+  pub made : now ≡ before ++ (good ++ failed ∷ [])
 
 -- The asks by the command's list and the status: all of them where both files are needed, those up to the
 -- one that failed for a read fault, else a front.
@@ -111,7 +115,8 @@ AsksNeeded before now asks (status.NotLegal n) = now.asks ≡ before.asks ++ ask
 AsksNeeded before now asks (status.Incomplete n) = now.asks ≡ before.asks ++ asks
 AsksNeeded before now asks (status.NotBuilt n) = now.asks ≡ before.asks ++ asks
 AsksNeeded before now asks status.ReadFault = AsksFailed before.asks now.asks asks
-AsksNeeded before now asks status.WriteFault = (now.asks ≡ before.asks ++ asks) ⊎ (AsksFailed before.asks now.asks asks × Rose before.faults now.faults)
+AsksNeeded before now asks status.WriteFault =
+    (now.asks ≡ before.asks ++ asks) ⊎ (AsksFailed before.asks now.asks asks × Rose before.faults now.faults)
 AsksNeeded before now asks status.Memory = AsksFront before.asks now.asks asks
 
 -- ---- where the desk tells nothing
@@ -122,7 +127,8 @@ SettlesLawfully before now image ls s answer = Settles before now answer s × Is
 
 -- There are two lists, one for the image and one for the event list, by which this is the text and the
 -- status, and these are the puts and the asks. Each is the told one where the desk tells it.
-pub record SettlesSome (told : List ℕ → Option (List ℕ)) (before now : Outside) (order : Option Order) (s : Status) : Type 0 where
+pub record SettlesSome (told : List ℕ → Option (List ℕ)) (before now : Outside) (order : Option Order) (s : Status)
+    : Type 0 where
   pub image : List ℕ
   pub trace : List ℕ
   pub image_is_told : IfSome (image_told order told) (λ bytes. AreBytes bytes → image ≡ bytes)

@@ -6,7 +6,7 @@ use Rattle.axp_base.specs.declared.lines.TheConstants.{LINE_BYTES}
 use Rattle.axp_wbuf.specs.Drains.{first_group, oldest_group}
 use Rattle.axp_wbuf.specs.Pending.{AreInOrder, IsTidy, Pending, PrecedesAll, has_byte, is_at, made_by, merges, put_into, stored, takes, with_store}
 use Rattle.axp_wbuf.specs.Runs.{Leaves, Stores, Closes, Run, Step, after_step, left_by, run}
-use Rattle.axp_wbuf.proofs.Orders.{tidy_closed, tidy_none, tidy_stored, tidy_without, next_more}
+use Rattle.axp_wbuf.proofs.Orders.{next_more, tidy_closed, tidy_none, tidy_stored, tidy_without}
 use Rattle.axp_wbuf.proofs.Pairs.{first_oldest, line_of, made_at, no_entry, oldest_entry, precedes_at, same_entry}
 
 -- an entry that left was made before this one, if both are of one line

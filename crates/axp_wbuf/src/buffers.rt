@@ -92,8 +92,8 @@ impl Wbuf {
         }
     }
 
-    /// There is room for a store to this line: the newest group has an entry of it, or one more
-    /// fits.
+    /// Whether there is room for a store to this line: the newest group has an entry of it, or one
+    /// more fits.
     pub fn takes(&self, line: Line) -> bool
         ensures { result ≡ takes (line_number line) self.now }
     {
@@ -119,13 +119,8 @@ impl Wbuf {
     pub fn oldest(&self, k: u8) -> (u32, Line, Mask, LineData)
         requires { k < length (oldest_group self.now.kept) }
         ensures { told (slice_get (oldest_group self.now.kept) k)
-            ≡ Some (
-              result.0,
-              (
-                line_number result.1,
-                (mask_bits result.2, bytes_of_line result.3),
-              ),
-            ) }
+            ≡ Some
+            (result.0, (line_number result.1, (mask_bits result.2, bytes_of_line result.3))) }
     {
         let entry = &self.entries[usize::from(k)];
         (entry.number, entry.line, entry.mask, entry.data)
@@ -147,21 +142,21 @@ impl Wbuf {
         overlay_each(self.entries.as_slice(), line, onto);
     }
 
-    /// An entry is of this line.
+    /// Whether an entry is of this line.
     pub fn has_line(&self, line: Line) -> bool
         ensures { result ≡ list_any (is_of_line (line_number line)) self.now.kept }
     {
         any_of_line(self.entries.as_slice(), line)
     }
 
-    /// An entry is of a group that is closed.
+    /// Whether an entry is of a group that is closed.
     pub fn has_closed(&self) -> bool
         ensures { result ≡ list_any (is_before self.now.newest) self.now.kept }
     {
         any_before(self.entries.as_slice(), self.newest)
     }
 
-    /// No entry is kept.
+    /// Whether no entry is kept.
     pub fn is_empty(&self) -> bool
         ensures { result ≡ (length self.now.kept == 0) }
     {

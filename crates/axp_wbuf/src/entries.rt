@@ -50,7 +50,7 @@ impl Entry {
         self.data.set((address % LINE_BYTES) as u8, size, value);
     }
 
-    /// The entry is of this group and this line.
+    /// Whether the entry is of this group and this line.
     pub(crate) fn is_at(&self, group: u32, line: Line) -> bool
         ensures { result ≡ is_at group (line_number line) (pending self.now) }
     {

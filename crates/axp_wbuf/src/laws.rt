@@ -32,7 +32,8 @@ pub fn stored_is_overlaid()
         → LINE_BYTES ≤ length bytes
         → IsSize size → address % size ≡ 0 → i < size
         → slice_index (overlaid (address / LINE_BYTES) (stored address size value b).kept bytes)
-        ((address + i) % LINE_BYTES) ≡ byte value i }
+        ((address + i) % LINE_BYTES)
+        ≡ byte value i }
     ensures others { (b : Buffer) (address size value line n : ℕ) (bytes : List ℕ)
         → LINE_BYTES ≤ length bytes → n < LINE_BYTES
         → (line ≢ address / LINE_BYTES) ⊎ (has_bit (span_of address size) n ≡ false)

@@ -23,8 +23,8 @@ pub(crate) type Entries = ArrayVec<Entry, WBUF_ENTRIES>;
 
 /// The place of the entry of this group and line.
 pub(crate) fn place_in(entries: &[Entry], group: u32, line: Line) -> Option<usize>
-    ensures place { result ≡ position_from (is_at group (line_number line)) 0
-        (all_pending entries.now) }
+    ensures place { result
+        ≡ position_from (is_at group (line_number line)) 0 (all_pending entries.now) }
     ensures inside { IfSome result (λ n. n < length entries.now) }
 {
     for n in 0..entries.len() {
@@ -35,7 +35,7 @@ pub(crate) fn place_in(entries: &[Entry], group: u32, line: Line) -> Option<usiz
     None
 }
 
-/// An entry is of this group and line.
+/// Whether an entry is of this group and line.
 pub(crate) fn has_place(entries: &[Entry], group: u32, line: Line) -> bool
     ensures { result ≡ list_any (is_at group (line_number line)) (all_pending entries.now) }
 {
@@ -47,7 +47,7 @@ pub(crate) fn has_place(entries: &[Entry], group: u32, line: Line) -> bool
     false
 }
 
-/// An entry is of this line.
+/// Whether an entry is of this line.
 pub(crate) fn any_of_line(entries: &[Entry], line: Line) -> bool
     ensures { result ≡ list_any (is_of_line (line_number line)) (all_pending entries.now) }
 {
@@ -59,7 +59,7 @@ pub(crate) fn any_of_line(entries: &[Entry], line: Line) -> bool
     false
 }
 
-/// An entry is of this group.
+/// Whether an entry is of this group.
 fn any_of_group(entries: &[Entry], group: u32) -> bool
     ensures { result ≡ list_any (is_of_group group) (all_pending entries.now) }
 {
@@ -71,7 +71,7 @@ fn any_of_group(entries: &[Entry], group: u32) -> bool
     false
 }
 
-/// An entry is of a group before this one.
+/// Whether an entry is of a group before this one.
 pub(crate) fn any_before(entries: &[Entry], group: u32) -> bool
     ensures { result ≡ list_any (is_before group) (all_pending entries.now) }
 {
@@ -112,8 +112,8 @@ pub(crate) fn oldest_count(entries: &[Entry]) -> usize
 /// Puts the bytes of each entry of the line over those of the line, the oldest entry first.
 #[tactic(auto, unfolding(crate::specs::Pending::overlaid))]
 pub(crate) fn overlay_each(entries: &[Entry], line: Line, onto: &mut LineData)
-    ensures { bytes_of_line onto.new ≡ overlaid (line_number line) (all_pending entries.now)
-        (bytes_of_line onto.old) }
+    ensures { bytes_of_line onto.new
+        ≡ overlaid (line_number line) (all_pending entries.now) (bytes_of_line onto.old) }
 {
     for n in 0..entries.len() {
         let entry = &entries[n];
@@ -134,8 +134,8 @@ pub(crate) fn merge_into(
 ) -> Option<u32>
     requires sized { IsSize size }
     requires aligned { address % size ≡ 0 }
-    ensures merges { is_some result ≡ list_any (is_at group (address / LINE_BYTES))
-        (all_pending entries.old) }
+    ensures merges { is_some result
+        ≡ list_any (is_at group (address / LINE_BYTES)) (all_pending entries.old) }
     ensures number { IfSome result (λ n. (next : ℕ)
         → n ≡ number_at_line group (address / LINE_BYTES) next (all_pending entries.old)) }
     ensures kept { OnSome result ((new : Pending)
@@ -153,7 +153,7 @@ pub(crate) fn merge_into(
     }
 }
 
-/// There is room for one entry more.
+/// Whether there is room for one entry more.
 #[tactic(auto, using(crate::proofs::Stores::as_many_pending))]
 pub(crate) fn has_room(entries: &Entries) -> bool
     ensures { result ≡ nat_lt (length (all_pending entries.now.items)) WBUF_ENTRIES }
@@ -200,8 +200,8 @@ pub(crate) fn remove_at(entries: &mut Entries, k: u8)
 pub(crate) fn newest_after(entries: &[Entry], newest: u32) -> u32
     requires { list_any (is_of_group newest) (all_pending entries.now) ≡ true
         → newest + 1 < 2 ^ 32 }
-    ensures { result ≡ (if list_any (is_of_group newest) (all_pending entries.now) then newest
-        + 1 else newest) }
+    ensures { result
+        ≡ (if list_any (is_of_group newest) (all_pending entries.now) then newest + 1 else newest) }
 {
     if any_of_group(entries, newest) {
         newest + 1

@@ -3,12 +3,8 @@ use Rattle.std.proofs.Common.{◌≡◌, ℕ, ⊎_elim, Bool, true, false, cond,
 use Rattle.std.specs.Prelude.{Ok, slice_get}
 use Rattle.std.proofs.lemmas.Bool.{cases_Bool, eq-eqb, eqb-true}
 use Rattle.axp_base.specs.Cpus.{cpu_number}
-use Rattle.axp_base.specs.Lines.{data_bank, line_number, line_at, line_numbered, line_of}
-use Rattle.axp_base.specs.declared.lines.Bank.{Bank}
-use Rattle.axp_base.specs.declared.lines.Bank.TheVariants.{Even, Odd, Code}
-use Rattle.axp_base.specs.declared.lines.Line.{Line}
+use Rattle.axp_base.specs.Lines.{data_bank, line_at, line_numbered, line_of}
 use Rattle.axp_base.specs.declared.processors.Cpu.{Cpu}
-use Rattle.axp_bank.specs.declared.copies.LineCopy.{LineCopy}
 use Rattle.axp_image.specs.Contents.{Contents}
 use Rattle.axp_line.specs.declared.messages.Reply.{Reply}
 use Rattle.axp_line.specs.declared.messages.Reply.TheVariants as reply
@@ -26,11 +22,10 @@ use Rattle.axp_cpu.specs.Actors.{Actor, actor_intent, asked_by, is_built, reques
 use Rattle.axp_lsu.specs.Asking.{act_ask, access_ask, ask_of, drain_ask, is_ready, step_ask}
 use Rattle.axp_lsu.specs.Going as going
 use Rattle.axp_lsu.specs.Going.{after_access, after_line, after_late, after_drain, after_barrier, after_fill, fill_outcome, drain_outcome, after_act, outcome_by, poll_outcome, after_stored, step_outcome, after_step, take_outcome}
-use Rattle.axp_lsu.specs.Keeping.{LocalMemory, with_copies}
+use Rattle.axp_lsu.specs.Keeping.{LocalMemory}
 use Rattle.axp_lsu.specs.declared.asks.Ask2.{Ask2}
 use Rattle.axp_lsu.proofs.Makes.{brought-buffer, delivered-buffer, fenced-buffer, filled-buffer, rewritten-buffer, with_copies-buffer}
 use Rattle.axp_model.specs.Legal.{is_timely}
-use Rattle.axp_model.specs.Outcomes.{bank_for}
 use Rattle.axp_laws.proofs.RunFacts.{Fitting}
 use Rattle.axp_wbuf.specs.Drains.{oldest_group, without}
 use Rattle.axp_wbuf.specs.Pending as pending

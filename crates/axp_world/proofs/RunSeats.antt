@@ -1,33 +1,21 @@
 -- After a played history each processor stands where its records say: the value that a record shows is the
 -- value that its processor went on with.
-use Rattle.std.proofs.Common.{◌≡◌, ℕ, ◌<◌, true, false, ⊎_elim, ltb, Bool, List, [], ◌∷◌, Option, Some, None, refl, sym, ap, ◌∙◌}
+use Rattle.std.proofs.Common.{◌≡◌, ℕ, ◌<◌, true, false, ⊎_elim, ltb, Bool, List, [], ◌∷◌, refl, sym, ap, ◌∙◌}
 use Rattle.std.proofs.lemmas.Bool.{cases_Bool, eqb-true, ltb-true, lt-ltb}
-use Rattle.axp_access.specs.declared.Act.{Act}
-use Rattle.axp_access.specs.declared.Act.TheVariants as act
 use Rattle.axp_access.specs.declared.Event.{Event}
-use Rattle.axp_access.specs.declared.Place.{Place}
 use Rattle.axp_access.specs.declared.Record.{Record}
-use Rattle.axp_access.specs.declared.Wanted.{Wanted}
 use Rattle.axp_base.specs.Cpus.{cpu_by, cpu_number, cpu_of}
-use Rattle.axp_base.specs.Lines.{line_of}
 use Rattle.axp_base.specs.declared.processors.Cpu.{Cpu}
 use Rattle.axp_base.specs.declared.processors.TheConstants.{MAX_CPUS}
-use Rattle.axp_cpu.specs.Actors.{Actor, actor_intent, advanced, first_actor, outcome_of}
-use Rattle.axp_cpu.specs.Actors as actors
+use Rattle.axp_cpu.specs.Actors.{Actor, first_actor, outcome_of}
 use Rattle.axp_cpu.specs.Following as following
 use Rattle.axp_cpu.specs.Following.{processors, seat_in}
-use Rattle.axp_cpu.specs.Seats.{first_seat, intent_of, seat_after_value}
+use Rattle.axp_cpu.specs.Seats.{first_seat, intent_of}
 use Rattle.axp_image.specs.Contents.{Contents}
-use Rattle.axp_line.specs.declared.messages.Reply.{Reply}
-use Rattle.axp_lsu.specs.Going as going
-use Rattle.axp_lsu.specs.Going.{shown_by, success_by}
-use Rattle.axp_lsu.specs.Keeping.{LocalMemory}
 use Rattle.axp_access.specs.declared.Intent.{Intent}
 use Rattle.axp_model.specs.Legal.{legal, is_legal_act}
 use Rattle.axp_model.specs.Processors.{Processors}
 use Rattle.axp_model.specs.Records.{is_of}
-use Rattle.axp_regs.specs.declared.asks.Kind.{Kind}
-use Rattle.axp_regs.specs.declared.asks.Kind.TheVariants as kind
 use Rattle.axp_world.specs.Worlds.{IsPlayed, World, cpu_or_first, reply_at, world}
 use Rattle.axp_cpu.proofs.FollowingLemmas.{goes_as_shown}
 use Rattle.axp_world.proofs.Agreement.{world_intent}

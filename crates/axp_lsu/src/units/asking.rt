@@ -88,7 +88,7 @@ impl Lsu {
         }
     }
 
-    /// The condition of a step that makes an access of this kind to this line.
+    /// Whether a step may make an access of this kind to this line now.
     fn is_ready(&self, kind: Kind, line: Line) -> bool
         ensures { result ≡ is_ready kind (line_number line) self.now }
     {
@@ -198,7 +198,8 @@ fn private_if(legal: bool) -> Option<Ask2>
     if legal { Some(Ask2::Private) } else { None }
 }
 
-/// A finished processor may drain alone; after a fill only the step is left.
+/// Whether an act has its time: a finished processor may drain alone, and after a fill only the
+/// step is left.
 fn is_timely(act: Act, finished: bool, filled: bool) -> bool
     ensures { result ≡ is_timely act finished filled }
 {

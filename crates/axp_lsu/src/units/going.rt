@@ -38,11 +38,11 @@ impl Lsu {
             → IsWantedWithin size intent.now.wanted → IsKeptWithin size self.new }
         ensures one_more { self.new.buffer.made ≤ self.old.buffer.made + 1 }
     {
-        self.go_on(act, cpu, intent, reply)
+        self.make_act(act, cpu, intent, reply)
     }
 
     #[tactic(auto, unfolding(crate::specs::Going::outcome_of, crate::specs::Going::advanced))]
-    fn go_on(&mut self, act: Act, cpu: Cpu, intent: &Intent, reply: Option<Reply>) -> Outcome
+    fn make_act(&mut self, act: Act, cpu: Cpu, intent: &Intent, reply: Option<Reply>) -> Outcome
         requires fits { ReplyFits (ask_of act intent.now self.old) reply }
         requires wanted { IsWantedInSome intent.now.wanted }
         requires few_made { self.old.buffer.made + 1 < 2 ^ 32 }
@@ -261,7 +261,7 @@ fn turn_in(reply: Option<Reply>) -> u64
     }
 }
 
-/// Only a store-conditional tells a success.
+/// Whether the access shows a success, which only a store-conditional does.
 fn success(kind: Kind, reply: Option<Reply>) -> bool
     ensures { result ≡ success_by kind reply }
 {

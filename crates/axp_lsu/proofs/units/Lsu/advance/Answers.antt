@@ -7,8 +7,8 @@ use Rattle.axp_lsu.proofs.units.Lsu.advance.Goals as goal
 
 pub returns-clause-within : goal.returns-clause-within
 returns-clause-within c size kept wanted =
-    subst (IsKeptWithin size) (sym c.go_on.ensures.kept) (advanced_within size c.args.act c.args.intent.now c.args.reply c.args.self.now c.requires.fits wanted kept)
+    subst (IsKeptWithin size) (sym c.make_act.ensures.kept) (advanced_within size c.args.act c.args.intent.now c.args.reply c.args.self.now c.requires.fits wanted kept)
 
 pub returns-clause-one_more : goal.returns-clause-one_more
 returns-clause-one_more c =
-    subst (λ (u : LocalMemory). u.buffer.made ≤ c.args.self.now.buffer.made + 1) (sym c.go_on.ensures.kept) (advanced_few c.args.act c.args.intent.now c.args.reply c.args.self.now)
+    subst (λ (u : LocalMemory). u.buffer.made ≤ c.args.self.now.buffer.made + 1) (sym c.make_act.ensures.kept) (advanced_few c.args.act c.args.intent.now c.args.reply c.args.self.now)

@@ -34,29 +34,29 @@ pub returns-in-Err-clause-answer : goal.returns-in-Err-clause-answer
 returns-in-Err-clause-answer c = answers c.args.self.now c.args.event (Err c.in-Err.refusal) (refuses c)
 
 -- a take in vain
-vain : (c : goal.Then-is_vain) → Err NotLegal ≡ granted_in c.args.self.now c.args.event
+vain : (c : goal.Then-is_taken_in_vain) → Err NotLegal ≡ granted_in c.args.self.now c.args.event
 vain c =
     let count = ap (λ (m : Seen). m.cpus) c.self.view_is in
     let stands = subst (λ (m : Seen). Stands c.self.inside.bus (image_bytes m.image) (world_of m).calls) c.self.view_is c.self.invariant.bus in
     granted_asked c.args.self.now c.args.event c.in-Ok.ask true (omega (arith, count, c.if-from-len.false, c.len.ensures, c.from.ensures, c.number.ensures.value))
     (sym (c.request.ensures.asked (actor_of c.args.self.now (cpu_number c.args.event.cpu)) c.processor.ensures.at) ∙ c.in-Ok.is)
-    (sym c.if-is_vain.true ∙ c.is_vain.ensures (image_bytes c.args.self.now.image) (world_of c.args.self.now).calls stands)
+    (sym c.if-is_taken_in_vain.true ∙ c.is_taken_in_vain.ensures (image_bytes c.args.self.now.image) (world_of c.args.self.now).calls stands)
 
-pub returns-then-is_vain-clause-granted : goal.returns-then-is_vain-clause-granted
-returns-then-is_vain-clause-granted c = vain c
+pub returns-then-is_taken_in_vain-clause-granted : goal.returns-then-is_taken_in_vain-clause-granted
+returns-then-is_taken_in_vain-clause-granted c = vain c
 
-pub returns-then-is_vain-clause-answer : goal.returns-then-is_vain-clause-answer
-returns-then-is_vain-clause-answer c = answers c.args.self.now c.args.event (Err NotLegal) (vain c)
+pub returns-then-is_taken_in_vain-clause-answer : goal.returns-then-is_taken_in_vain-clause-answer
+returns-then-is_taken_in_vain-clause-answer c = answers c.args.self.now c.args.event (Err NotLegal) (vain c)
 
-pub returns-else-is_vain-clause-granted : goal.returns-else-is_vain-clause-granted
-returns-else-is_vain-clause-granted c =
+pub returns-else-is_taken_in_vain-clause-granted : goal.returns-else-is_taken_in_vain-clause-granted
+returns-else-is_taken_in_vain-clause-granted c =
     let count = ap (λ (m : Seen). m.cpus) c.self.view_is in
     let stands = subst (λ (m : Seen). Stands c.self.inside.bus (image_bytes m.image) (world_of m).calls) c.self.view_is c.self.invariant.bus in
     granted_asked c.args.self.now c.args.event c.in-Ok.ask false (omega (arith, count, c.if-from-len.false, c.len.ensures, c.from.ensures, c.number.ensures.value))
     (sym (c.request.ensures.asked (actor_of c.args.self.now (cpu_number c.args.event.cpu)) c.processor.ensures.at) ∙ c.in-Ok.is)
-    (sym c.if-is_vain.false ∙ c.is_vain.ensures (image_bytes c.args.self.now.image) (world_of c.args.self.now).calls stands)
+    (sym c.if-is_taken_in_vain.false ∙ c.is_taken_in_vain.ensures (image_bytes c.args.self.now.image) (world_of c.args.self.now).calls stands)
 
-pub returns-else-is_vain-clause-within : goal.returns-else-is_vain-clause-within
-returns-else-is_vain-clause-within c =
+pub returns-else-is_taken_in_vain-clause-within : goal.returns-else-is_taken_in_vain-clause-within
+returns-else-is_taken_in_vain-clause-within c =
     let m : Seen = c.args.self.now in
     subst (λ n. IsAskWithin n c.in-Ok.ask) (seat_size m.image m.cpus m.budget m.records (cpu_number c.args.event.cpu)) (c.in-Ok.ensures.within (actor_of m (cpu_number c.args.event.cpu)) c.processor.ensures.at)

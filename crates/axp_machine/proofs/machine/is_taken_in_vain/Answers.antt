@@ -1,6 +1,6 @@
 use Rattle.std.proofs.Common.{◌∙◌, sym}
 use Rattle.axp_machine.proofs.VainLemmas.{late_take, no_take}
-use Rattle.axp_machine.proofs.machine.is_vain.Goals as goal
+use Rattle.axp_machine.proofs.machine.is_taken_in_vain.Goals as goal
 
 pub returns-in-Some : goal.returns-in-Some
 returns-in-Some c = late_take c.args.bus.now c.args.cpu c.args.ask.now c.in-Some.bank c.late.result (sym c.in-Some.is ∙ c.bank_taken.ensures) c.requires c.late.ensures
