@@ -1,4 +1,4 @@
-use super::tables::{Gives, both, first_difference, register, start};
+use super::tables::{Expected, both, first_difference, register, start};
 use super::*;
 
 /// Fills the code bank and makes so many steps; whether all of that was legal.
@@ -51,14 +51,14 @@ fn any_byte_names_its_quadword(rt: HostRuntime) -> Result<(), Fail> {
         let load = 0x2C5E_0000 | u32::from(offset);
         let mut machine = start(rt.alloc(), &[0x203F_1234, store, load, 0])?;
         let events = [
-            (a, Act::Fill, Gives::Code),
-            (a, Act::Step, Gives::Word(0x2000, 0x203F_1234)),
-            (a, Act::Step, Gives::Word(0x2004, store)),
-            (a, Act::Step, Gives::Written(STACK, 0x1234)),
-            (a, Act::Step, Gives::Word(0x2008, load)),
-            (a, Act::Drain(0), Gives::Drained),
-            (a, Act::Fill, Gives::Copied),
-            (a, Act::Step, Gives::Read(STACK, 0x1234)),
+            (a, Act::Fill, Expected::CodeFilled),
+            (a, Act::Step, Expected::Word(0x2000, 0x203F_1234)),
+            (a, Act::Step, Expected::Word(0x2004, store)),
+            (a, Act::Step, Expected::Written(STACK, 0x1234)),
+            (a, Act::Step, Expected::Word(0x2008, load)),
+            (a, Act::Drain(0), Expected::Drained(STACK, 1)),
+            (a, Act::Fill, Expected::Filled(1)),
+            (a, Act::Step, Expected::Read(STACK, 0x1234, 1)),
         ];
         assert_eq!(rt; first_difference(&mut machine, &events), None);
         assert_eq!(rt; register(&machine, a, 2), Some(0x1234));

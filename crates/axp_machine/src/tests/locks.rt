@@ -1,4 +1,4 @@
-use super::tables::{Gives, both, first_difference, register, start};
+use super::tables::{Expected, both, first_difference, register, start};
 use super::*;
 
 /// LDQ_L R1, 0(R30).
@@ -23,19 +23,19 @@ fn store_of_another_to_the_line_breaks_the_lock(rt: HostRuntime) -> Result<(), F
     let words = [0xF200_0003, LOCK_R1, TRY, 0, 0xB43E_0010, 0];
     let mut machine = start(rt.alloc(), &words)?;
     let events = [
-        (a, Act::Fill, Gives::Code),
-        (a, Act::Step, Gives::Word(0x2000, 0xF200_0003)),
-        (a, Act::Step, Gives::Word(0x2004, LOCK_R1)),
-        (a, Act::Step, Gives::Locked(STACK, 8, 0)),
-        (b, Act::Fill, Gives::Code),
-        (b, Act::Step, Gives::Word(0x2000, 0xF200_0003)),
-        (b, Act::Step, Gives::Word(0x2010, 0xB43E_0010)),
-        (b, Act::Step, Gives::Written(STACK + 16, 0)),
-        (b, Act::Drain(0), Gives::Drained),
-        (a, Act::Step, Gives::Word(0x2008, TRY)),
-        (a, Act::Step, Gives::Tried(STACK, 8, 0, false, 1)),
-        (a, Act::Step, Gives::Word(0x200C, 0)),
-        (b, Act::Step, Gives::Word(0x2014, 0)),
+        (a, Act::Fill, Expected::CodeFilled),
+        (a, Act::Step, Expected::Word(0x2000, 0xF200_0003)),
+        (a, Act::Step, Expected::Word(0x2004, LOCK_R1)),
+        (a, Act::Step, Expected::Locked(STACK, 8, 0)),
+        (b, Act::Fill, Expected::CodeFilled),
+        (b, Act::Step, Expected::Word(0x2000, 0xF200_0003)),
+        (b, Act::Step, Expected::Word(0x2010, 0xB43E_0010)),
+        (b, Act::Step, Expected::Written(STACK + 16, 0)),
+        (b, Act::Drain(0), Expected::Drained(STACK, 1)),
+        (a, Act::Step, Expected::Word(0x2008, TRY)),
+        (a, Act::Step, Expected::Conditional(STACK, 8, 0, false, 1)),
+        (a, Act::Step, Expected::Word(0x200C, 0)),
+        (b, Act::Step, Expected::Word(0x2014, 0)),
     ];
     assert_eq!(rt; first_difference(&mut machine, &events), None);
     assert!(rt; machine.complete());
@@ -49,11 +49,15 @@ fn conditional_to_another_block_fails(rt: HostRuntime) -> Result<(), Fail> {
     let (a, _) = both()?;
     let mut machine = start(rt.alloc(), &[LOCK_R1, TRY_16, 0])?;
     let events = [
-        (a, Act::Fill, Gives::Code),
-        (a, Act::Step, Gives::Word(0x2000, LOCK_R1)),
-        (a, Act::Step, Gives::Locked(STACK, 8, 0)),
-        (a, Act::Step, Gives::Word(0x2004, TRY_16)),
-        (a, Act::Step, Gives::Tried(STACK + 16, 8, 0, false, 0)),
+        (a, Act::Fill, Expected::CodeFilled),
+        (a, Act::Step, Expected::Word(0x2000, LOCK_R1)),
+        (a, Act::Step, Expected::Locked(STACK, 8, 0)),
+        (a, Act::Step, Expected::Word(0x2004, TRY_16)),
+        (
+            a,
+            Act::Step,
+            Expected::Conditional(STACK + 16, 8, 0, false, 0),
+        ),
     ];
     assert_eq!(rt; first_difference(&mut machine, &events), None);
     assert!(rt; !machine.complete());
@@ -67,15 +71,15 @@ fn own_store_waits_and_leaves_the_lock(rt: HostRuntime) -> Result<(), Fail> {
     let (a, _) = both()?;
     let mut machine = start(rt.alloc(), &[LOCK_R1, 0xB43E_0008, TRY, 0])?;
     let events = [
-        (a, Act::Fill, Gives::Code),
-        (a, Act::Step, Gives::Word(0x2000, LOCK_R1)),
-        (a, Act::Step, Gives::Locked(STACK, 8, 0)),
-        (a, Act::Step, Gives::Word(0x2004, 0xB43E_0008)),
-        (a, Act::Step, Gives::Written(STACK + 8, 0)),
-        (a, Act::Step, Gives::Word(0x2008, TRY)),
-        (a, Act::Step, Gives::Refused),
-        (a, Act::Drain(0), Gives::Drained),
-        (a, Act::Step, Gives::Tried(STACK, 8, 0, true, 2)),
+        (a, Act::Fill, Expected::CodeFilled),
+        (a, Act::Step, Expected::Word(0x2000, LOCK_R1)),
+        (a, Act::Step, Expected::Locked(STACK, 8, 0)),
+        (a, Act::Step, Expected::Word(0x2004, 0xB43E_0008)),
+        (a, Act::Step, Expected::Written(STACK + 8, 0)),
+        (a, Act::Step, Expected::Word(0x2008, TRY)),
+        (a, Act::Step, Expected::NotLegal),
+        (a, Act::Drain(0), Expected::Drained(STACK, 1)),
+        (a, Act::Step, Expected::Conditional(STACK, 8, 0, true, 2)),
     ];
     assert_eq!(rt; first_difference(&mut machine, &events), None);
     assert_eq!(rt; register(&machine, a, 1), Some(1));
@@ -90,14 +94,18 @@ fn conditional_to_the_locked_block_stores(rt: HostRuntime) -> Result<(), Fail> {
     let words = [LOCK_R2, 0x203F_0007, TRY_8, 0xA47E_0008, 0];
     let mut machine = start(rt.alloc(), &words)?;
     let events = [
-        (a, Act::Fill, Gives::Code),
-        (a, Act::Step, Gives::Word(0x2000, LOCK_R2)),
-        (a, Act::Step, Gives::Locked(STACK, 8, 0)),
-        (a, Act::Step, Gives::Word(0x2004, 0x203F_0007)),
-        (a, Act::Step, Gives::Word(0x2008, TRY_8)),
-        (a, Act::Step, Gives::Tried(STACK + 8, 8, 7, true, 1)),
-        (a, Act::Step, Gives::Word(0x200C, 0xA47E_0008)),
-        (a, Act::Step, Gives::Read(STACK + 8, 7)),
+        (a, Act::Fill, Expected::CodeFilled),
+        (a, Act::Step, Expected::Word(0x2000, LOCK_R2)),
+        (a, Act::Step, Expected::Locked(STACK, 8, 0)),
+        (a, Act::Step, Expected::Word(0x2004, 0x203F_0007)),
+        (a, Act::Step, Expected::Word(0x2008, TRY_8)),
+        (
+            a,
+            Act::Step,
+            Expected::Conditional(STACK + 8, 8, 7, true, 1),
+        ),
+        (a, Act::Step, Expected::Word(0x200C, 0xA47E_0008)),
+        (a, Act::Step, Expected::Read(STACK + 8, 7, 1)),
     ];
     assert_eq!(rt; first_difference(&mut machine, &events), None);
     assert_eq!(rt; register(&machine, a, 1), Some(1));
@@ -111,13 +119,17 @@ fn failed_conditional_releases_the_lock(rt: HostRuntime) -> Result<(), Fail> {
     let (a, _) = both()?;
     let mut machine = start(rt.alloc(), &[LOCK_R2, TRY_16, TRY, 0])?;
     let events = [
-        (a, Act::Fill, Gives::Code),
-        (a, Act::Step, Gives::Word(0x2000, LOCK_R2)),
-        (a, Act::Step, Gives::Locked(STACK, 8, 0)),
-        (a, Act::Step, Gives::Word(0x2004, TRY_16)),
-        (a, Act::Step, Gives::Tried(STACK + 16, 8, 0, false, 0)),
-        (a, Act::Step, Gives::Word(0x2008, TRY)),
-        (a, Act::Step, Gives::Tried(STACK, 8, 0, false, 0)),
+        (a, Act::Fill, Expected::CodeFilled),
+        (a, Act::Step, Expected::Word(0x2000, LOCK_R2)),
+        (a, Act::Step, Expected::Locked(STACK, 8, 0)),
+        (a, Act::Step, Expected::Word(0x2004, TRY_16)),
+        (
+            a,
+            Act::Step,
+            Expected::Conditional(STACK + 16, 8, 0, false, 0),
+        ),
+        (a, Act::Step, Expected::Word(0x2008, TRY)),
+        (a, Act::Step, Expected::Conditional(STACK, 8, 0, false, 0)),
     ];
     assert_eq!(rt; first_difference(&mut machine, &events), None);
     Ok(())
@@ -130,13 +142,13 @@ fn last_load_locked_counts(rt: HostRuntime) -> Result<(), Fail> {
     for (word, at, yes, turn) in [(TRY_16, STACK + 16, true, 1), (TRY, STACK, false, 0)] {
         let mut machine = start(rt.alloc(), &[LOCK_R2, 0xAC7E_0010, word, 0])?;
         let events = [
-            (a, Act::Fill, Gives::Code),
-            (a, Act::Step, Gives::Word(0x2000, LOCK_R2)),
-            (a, Act::Step, Gives::Locked(STACK, 8, 0)),
-            (a, Act::Step, Gives::Word(0x2004, 0xAC7E_0010)),
-            (a, Act::Step, Gives::Locked(STACK + 16, 8, 0)),
-            (a, Act::Step, Gives::Word(0x2008, word)),
-            (a, Act::Step, Gives::Tried(at, 8, 0, yes, turn)),
+            (a, Act::Fill, Expected::CodeFilled),
+            (a, Act::Step, Expected::Word(0x2000, LOCK_R2)),
+            (a, Act::Step, Expected::Locked(STACK, 8, 0)),
+            (a, Act::Step, Expected::Word(0x2004, 0xAC7E_0010)),
+            (a, Act::Step, Expected::Locked(STACK + 16, 8, 0)),
+            (a, Act::Step, Expected::Word(0x2008, word)),
+            (a, Act::Step, Expected::Conditional(at, 8, 0, yes, turn)),
         ];
         assert_eq!(rt; first_difference(&mut machine, &events), None);
         assert_eq!(rt; register(&machine, a, 1), Some(u64::from(yes)));
@@ -151,20 +163,20 @@ fn longwords_are_locked_and_stored(rt: HostRuntime) -> Result<(), Fail> {
     let (a, _) = both()?;
     let mut machine = start(rt.alloc(), &[0xA83E_E000, 0xABFE_0000, 0xB83E_0004, 0])?;
     let first = [
-        (a, Act::Fill, Gives::Code),
-        (a, Act::Step, Gives::Word(0x2000, 0xA83E_E000)),
-        (a, Act::Step, Gives::Locked(CODE, 4, 0xA83E_E000)),
+        (a, Act::Fill, Expected::CodeFilled),
+        (a, Act::Step, Expected::Word(0x2000, 0xA83E_E000)),
+        (a, Act::Step, Expected::Locked(CODE, 4, 0xA83E_E000)),
     ];
     assert_eq!(rt; first_difference(&mut machine, &first), None);
     assert_eq!(rt; register(&machine, a, 1), Some(0xFFFF_FFFF_A83E_E000));
     let others = [
-        (a, Act::Step, Gives::Word(0x2004, 0xABFE_0000)),
-        (a, Act::Step, Gives::Locked(STACK, 4, 0)),
-        (a, Act::Step, Gives::Word(0x2008, 0xB83E_0004)),
+        (a, Act::Step, Expected::Word(0x2004, 0xABFE_0000)),
+        (a, Act::Step, Expected::Locked(STACK, 4, 0)),
+        (a, Act::Step, Expected::Word(0x2008, 0xB83E_0004)),
         (
             a,
             Act::Step,
-            Gives::Tried(STACK + 4, 4, 0xA83E_E000, true, 1),
+            Expected::Conditional(STACK + 4, 4, 0xA83E_E000, true, 1),
         ),
     ];
     assert_eq!(rt; first_difference(&mut machine, &others), None);

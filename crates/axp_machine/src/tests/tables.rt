@@ -1,41 +1,49 @@
 //! Events in tables, each with what it is to give.
+ghost use Rattle.std.specs.Prelude.{◌≤◌};
+ghost use Rattle.axp_base.specs.declared.processors.TheConstants.{MAX_BUDGET};
+
 use super::*;
 
 /// What an event is to give.
 #[derive(Clone, Copy)]
-pub(super) enum Gives {
+pub(super) enum Expected {
     /// The program's line for the code bank, before any turn.
-    Code,
-    /// The word at an address, from there.
+    CodeFilled,
+    /// The stack's line for its data bank, after so many turns.
+    Filled(u64),
+    /// The word at an address, from a line that was filled before any turn.
     Word(u64, u32),
     /// A load-locked's bytes at an address, before any turn.
     Locked(u64, u8, u64),
     /// A store-conditional of these bytes at an address: whether it stored, and its turn, or the
     /// turns that were made.
-    Tried(u64, u8, u64, bool, u64),
-    /// A read of a quadword, after the first turn.
-    Read(u64, u64),
-    /// A write of a quadword into the first entry of the buffer.
+    Conditional(u64, u8, u64, bool, u64),
+    /// A read of the quadword at an address, and its place.
+    Read(u64, u64, u64),
+    /// A write of the quadword at an address into the first entry of the buffer.
     Written(u64, u64),
-    /// This entry, of the stack's line, as the first turn.
-    Drained,
-    /// The stack's line for its data bank, after the first turn.
-    Copied,
+    /// The first entry, of the line of an address, as this turn.
+    Drained(u64, u64),
+    /// The stack's line of the first turn, by which the copy goes.
+    Taken,
+    /// Nothing more than that it was done.
+    Done,
     /// It is not legal.
-    Refused,
+    NotLegal,
+    /// It comes to what is not built.
+    NotBuilt,
 }
 
 /// The outcome of an event of a processor that is to give this.
-fn outcome_of(cpu: Cpu, gives: Gives) -> Result<Outcome, Refusal> {
-    match gives {
-        Gives::Code => Ok(Outcome::Filled {
-            bank: Bank::Code,
-            line: Line::of(CODE),
-            turn: 0,
-        }),
-        Gives::Word(at, word) => fetch(cpu, at, u64::from(word)),
-        Gives::Locked(at, size, value) => access(cpu, Kind::Locked, at, size, value, Place::At(0)),
-        Gives::Tried(address, size, value, yes, turn) => Ok(Outcome::Access(Access {
+fn outcome_of(cpu: Cpu, expected: Expected) -> Result<Outcome, Refusal> {
+    match expected {
+        Expected::CodeFilled => Ok(filled(Bank::Code, CODE, 0)),
+        Expected::Filled(turn) => Ok(filled(Bank::Even, STACK, turn)),
+        Expected::Word(at, word) => access(cpu, Kind::Fetch, at, 4, u64::from(word), Place::At(0)),
+        Expected::Locked(at, size, value) => {
+            access(cpu, Kind::Locked, at, size, value, Place::At(0))
+        }
+        Expected::Conditional(address, size, value, yes, turn) => Ok(Outcome::Access(Access {
             cpu,
             kind: Kind::Conditional,
             address,
@@ -44,30 +52,61 @@ fn outcome_of(cpu: Cpu, gives: Gives) -> Result<Outcome, Refusal> {
             yes,
             place: Place::At(turn),
         })),
-        Gives::Read(at, value) => access(cpu, Kind::Read, at, 8, value, Place::At(1)),
-        Gives::Written(at, value) => access(cpu, Kind::Write, at, 8, value, Place::Entry(1)),
-        Gives::Drained => Ok(Outcome::Drained {
+        Expected::Read(at, value, turn) => access(cpu, Kind::Read, at, 8, value, Place::At(turn)),
+        Expected::Written(at, value) => access(cpu, Kind::Write, at, 8, value, Place::Entry(1)),
+        Expected::Drained(at, turn) => Ok(Outcome::Drained {
             entry: 1,
+            line: Line::of(at),
+            turn,
+        }),
+        Expected::Taken => Ok(Outcome::Taken {
             line: Line::of(STACK),
             turn: 1,
+            gone: true,
         }),
-        Gives::Copied => Ok(Outcome::Filled {
-            bank: Bank::Even,
-            line: Line::of(STACK),
-            turn: 1,
-        }),
-        Gives::Refused => Err(Refusal::NotLegal),
+        Expected::Done => Ok(Outcome::Done),
+        Expected::NotLegal => Err(Refusal::NotLegal),
+        Expected::NotBuilt => Err(Refusal::NotBuilt),
     }
+}
+
+/// The line of an address for a bank, after so many turns.
+fn filled(bank: Bank, address: u64, turn: u64) -> Outcome {
+    Outcome::Filled {
+        bank,
+        line: Line::of(address),
+        turn,
+    }
+}
+
+/// An access of a processor.
+fn access(
+    cpu: Cpu,
+    kind: Kind,
+    address: u64,
+    size: u8,
+    value: u64,
+    place: Place,
+) -> Result<Outcome, Refusal> {
+    Ok(Outcome::Access(Access {
+        cpu,
+        kind,
+        address,
+        size,
+        value,
+        yes: false,
+        place,
+    }))
 }
 
 /// The number of the first of these events that gives something else; `None` where none does.
 pub(super) fn first_difference(
     machine: &mut Machine,
-    events: &[(Cpu, Act, Gives)],
+    events: &[(Cpu, Act, Expected)],
 ) -> Option<usize> {
     for n in 0..events.len() {
-        let (cpu, act, gives) = events[n];
-        if machine.event(Event { cpu, act }) != outcome_of(cpu, gives) {
+        let (cpu, act, expected) = events[n];
+        if machine.event(Event { cpu, act }) != outcome_of(cpu, expected) {
             return Some(n);
         }
     }
@@ -81,10 +120,29 @@ pub(super) fn both() -> Result<(Cpu, Cpu), Fail> {
     Ok((a, b))
 }
 
-/// Two processors over a program.
+/// Two processors over a program, each with a budget of 20 steps.
 pub(super) fn start(alloc: Global, words: &[u32]) -> Result<Machine, Fail> {
-    let loaded = load(alloc, words, 20).ok().ok_or("memory")?;
+    start_with(alloc, words, 20)
+}
+
+/// Two processors over a program, each with a budget of steps.
+pub(super) fn start_with(alloc: Global, words: &[u32], budget: u32) -> Result<Machine, Fail>
+    requires least { 1 ≤ budget }
+    requires most { budget ≤ MAX_BUDGET }
+{
+    let loaded = load(alloc, words, budget).ok().ok_or("memory")?;
     Ok(loaded.ok_or("the file is an image")?)
+}
+
+/// Whether each of these acts of a processor was legal and built.
+pub(super) fn makes(machine: &mut Machine, cpu: Cpu, acts: &[Act]) -> bool {
+    for n in 0..acts.len() {
+        let act = acts[n];
+        if machine.event(Event { cpu, act }).is_err() {
+            return false;
+        }
+    }
+    true
 }
 
 /// A register of a processor.
