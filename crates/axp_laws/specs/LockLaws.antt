@@ -9,7 +9,6 @@ use Rattle.axp_access.specs.declared.Outcome.TheVariants as outcome
 use Rattle.axp_access.specs.declared.Record.{Record}
 use Rattle.axp_model.specs.Records.{is_of, makes_access, line_of_turn}
 use Rattle.axp_access.specs.Kinds.{is_locked}
-use Rattle.axp_access.specs.Order.{before}
 use Rattle.axp_model.specs.Locking.{is_locking}
 
 -- no turn on the line of this number

@@ -1,5 +1,5 @@
 -- What the machine's readers read, and its parts at the start.
-use Rattle.std.proofs.Common.{◌≡◌, ℕ, zero, suc, ◌+◌, ◌*◌, ◌<◌, ◌≤◌, ◌&&◌, Bool, List, reverse, [], ◌∷◌, ◌++◌, length, get_or, slice_get, Some, arith, refl, sym, ap, ◌∙◌, subst, add-one, length-append}
+use Rattle.std.proofs.Common.{◌≡◌, ℕ, zero, suc, ◌+◌, ◌*◌, ◌<◌, ◌≤◌, ◌&&◌, Bool, List, reverse, [], ◌∷◌, ◌++◌, length, get_or, slice_get, Some, arith, sym, ap, ◌∙◌, subst, length-append}
 use Rattle.std.proofs.lemmas.Option.{slice_get-get_or}
 use Rattle.std.specs.Vec.{vec_capacity}
 use Rattle.axp_base.specs.Cpus.{cpu_of}

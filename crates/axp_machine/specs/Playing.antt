@@ -18,7 +18,6 @@ use Rattle.axp_line.specs.BusCalls.{BusCall}
 use Rattle.axp_world.specs.Worlds.{World, asked, reply_at, reply_for}
 use Rattle.axp_cpu.specs.Actors.{Actor}
 use Rattle.axp_cpu.specs.Seats.{is_finished}
-use Rattle.axp_model.specs.Entries.{buffer}
 use Rattle.axp_machine.specs.Runs.{Seen, world_of}
 
 -- what is asked is granted, but for a take where nothing is late

@@ -6,7 +6,7 @@ use Rattle.axp_world.proofs.Agreement.{BanksAgree}
 use Rattle.axp_world.proofs.RunSeats.{legal_by, cpu_small}
 use Rattle.axp_world.proofs.RunWants.{intents_in_line, intents_want_no_poll}
 use Rattle.axp_model.specs.Legal.{legal, is_timely}
-use Rattle.std.proofs.lemmas.Bool.{lt-ltb, cases_Bool, eq-eqb, eqb-true, false≢true}
+use Rattle.std.proofs.lemmas.Bool.{cases_Bool, eq-eqb, eqb-true, false≢true}
 use Rattle.std.proofs.Common.{◌≡◌, ◌<◌, ℕ, Bool, true, false, cond, List, [], ◌∷◌, Option, None, is_some, refl, sym, ap, ◌∙◌, subst, ⊎_elim}
 use Rattle.axp_base.specs.Cpus.{cpu_number}
 use Rattle.axp_base.specs.declared.lines.Bank.TheVariants.{Even, Odd, Code}

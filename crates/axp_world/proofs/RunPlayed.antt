@@ -6,9 +6,9 @@ use Rattle.axp_world.proofs.Agreement.{world_intent, BanksAgree, BufferAgrees, B
 use Rattle.axp_world.proofs.RunSeats.{legal_by}
 use Rattle.axp_world.proofs.RunWants.{in_line, intents_in_line, intents_name_targets}
 use Rattle.axp_world.proofs.CountEvents.{numbered}
-use Rattle.axp_laws.proofs.RunRecords.{legal_parts, run_fits}
+use Rattle.axp_laws.proofs.RunRecords.{run_fits}
 use Rattle.axp_model.specs.Legal.{is_legal_act, legal, is_enabled, is_timely, since_step}
-use Rattle.std.proofs.lemmas.Bool.{lt-ltb, cases_Bool, and_parts}
+use Rattle.std.proofs.lemmas.Bool.{cases_Bool, and_parts}
 use Rattle.std.proofs.Common.{true, false, ℕ, ◌≡◌, ⊎_elim, eqb, not, List, [], ◌∷◌, Option, Some, is_some, refl, sym, ap, ◌∙◌, subst}
 use Rattle.std.specs.Prelude.{Ok}
 use Rattle.axp_base.specs.Cpus.{cpu_number}
