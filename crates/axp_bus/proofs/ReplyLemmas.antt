@@ -17,8 +17,8 @@ use Rattle.axp_bus.specs.BusStands.{call_of}
 use Rattle.axp_bus.specs.Buses.{IsTidyQueue}
 use Rattle.axp_bus.specs.ReplyLaws.{Answers, HasNoLock, IsNothing, IsRefused, TakesNothing, TellsLine, turn_of}
 use Rattle.axp_bus.proofs.LineLemmas.{line_told}
-use Rattle.axp_bus.proofs.StandLemmas.{none_of_code}
-use Rattle.axp_bus.proofs.TidyLemmas.{tidy_after}
+use Rattle.axp_bus.proofs.BusCallLemmas.{none_of_code}
+use Rattle.axp_bus.proofs.QueueLemmas.{tidy_after}
 
 -- answers fit
 tried_fits : (b : Bool) (f : PortState) (w : Option Written) (line : Line) (address size value : ℕ) (armed : Bool) → Answers (request.Conditional address size value armed) (conditional_reply b f w line)

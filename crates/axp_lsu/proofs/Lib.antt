@@ -1,8 +1,11 @@
-pub mod AskedWithin
-pub mod Entries
-pub mod Fits
-pub mod Goes
-pub mod Held
-pub mod Lines
-pub mod Numbers
+-- what is asked, and what an answer that fits it says
+pub mod AskRangeLemmas
+pub mod ReplyFitLemmas
+pub mod CpuNumberLemmas
+-- the entries of the write buffer
+pub mod EntryLemmas
 pub mod Makes
+-- the lines of memory that are kept
+pub mod LineLemmas
+pub mod HeldLineLemmas
+pub mod KeptRangeLemmas

@@ -1,9 +1,12 @@
+-- records, the run of their events, and what the machine's readers read
 pub mod RunLemmas
+pub mod ReaderLemmas
+pub mod RoomLemmas
+-- what an event is granted, and what it asks of the bus
 pub mod GrantLemmas
 pub mod AskLemmas
-pub mod RoomLemmas
-pub mod ReaderLemmas
-pub mod MakeLemmas
-pub mod VainLemmas
-pub mod LateLemmas
+pub mod VainTakeLemmas
+pub mod LateLineLemmas
+-- what a granted event leaves and gives
 pub mod SpellingLemmas
+pub mod MachinePartLemmas

@@ -23,7 +23,7 @@ use Rattle.axp_access.specs.Acts.{is_step}
 use Rattle.axp_world.specs.Lengths.{steps_in}
 use Rattle.axp_world.specs.Worlds.{World, after_event, asked, calls_for, image_bytes, reply_at, world}
 use Rattle.axp_world.proofs.PlayedRecords.{actor_other, actor_own}
-use Rattle.axp_bus.proofs.TidyLemmas.{printed_few}
+use Rattle.axp_bus.proofs.QueueLemmas.{printed_few}
 
 -- a processor's memory has the image's size
 size-moved : (s : Seat) (vs : List ℕ) (p : Plan) → (seat_at_plan s vs p).size ≡ s.size

@@ -6,7 +6,7 @@ use Rattle.axp_access.specs.declared.Outcome.{Outcome}
 use Rattle.axp_access.specs.declared.Record.{Record}
 use Rattle.axp_cpu.specs.declared.refusals.Refusal.{Refusal}
 use Rattle.axp_image.specs.Contents.{Contents, IsValid}
-use Rattle.axp_image.proofs.Places.{byte_small}
+use Rattle.axp_image.proofs.BytePlaceLemmas.{byte_small}
 use Rattle.axp_laws.proofs.CauseMoments.{no_loop}
 use Rattle.axp_laws.proofs.RunRecords.{run_fits}
 use Rattle.axp_laws.proofs.LockGuards.{keeps_locking}

@@ -39,16 +39,16 @@ use Rattle.axp_lsu.specs.Going.{drain_outcome, fill_outcome, outcome_by, place_b
 use Rattle.axp_lsu.specs.Keeping.{LocalMemory, copies_of, data_copies, has_dropped}
 use Rattle.axp_lsu.specs.Within.{IsConditional, IsCopyWithin, IsEntryWithin, IsInMemory, IsKeptWithin, IsLineWithin}
 use Rattle.axp_lsu.specs.declared.asks.Ask2.TheVariants as ask
-use Rattle.axp_lsu.proofs.AskedWithin.{line_address_within, oldest_within}
-use Rattle.axp_lsu.proofs.Fits.{act_fits, drain_fits, fits_if, fits_turn, none_fits}
-use Rattle.axp_lsu.proofs.Lines.{line_within}
+use Rattle.axp_lsu.proofs.AskRangeLemmas.{line_address_within, oldest_within}
+use Rattle.axp_lsu.proofs.ReplyFitLemmas.{act_fits, drain_fits, fits_if, fits_turn, none_fits}
+use Rattle.axp_lsu.proofs.LineLemmas.{line_within}
 use Rattle.axp_regs.specs.declared.asks.Kind.{Kind}
 use Rattle.axp_regs.specs.declared.asks.Kind.TheVariants as kind
 use Rattle.axp_wbuf.specs.Drains.{oldest_group}
 use Rattle.axp_wbuf.specs.Pending.{AreInOrder, IsMade, IsTidy, Pending, is_at, number_at_line}
 use Rattle.axp_wbuf.proofs.Fronts.{oldest_at, oldest_inside}
 use Rattle.axp_wbuf.proofs.Pairs.{made_at}
-use Rattle.axp_machine.proofs.LateLemmas.{IsToldWithin}
+use Rattle.axp_machine.proofs.LateLineLemmas.{IsToldWithin}
 
 -- what a wanted access is, by its kind: also of the kinds that the instruction table does not want yet
 record IsSignal (w : Wanted) : Type 0 where

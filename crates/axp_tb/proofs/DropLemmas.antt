@@ -9,7 +9,7 @@ use Rattle.axp_pte.specs.Entries.{has_asm, pte_word}
 use Rattle.axp_pte.specs.declared.entries.Pte.{Pte}
 use Rattle.axp_tb.specs.Buffers.{found, is_match, without_page, without_process}
 use Rattle.axp_tb.specs.declared.entries.TbEntry.{TbEntry}
-use Rattle.axp_tb.proofs.FoundLemmas.{step, step_other, other_page_differs, found_none}
+use Rattle.axp_tb.proofs.SearchLemmas.{step, step_other, other_page_differs, found_none}
 
 -- what `retain` leaves
 pub process_retained : {F : Type 0} (R : F → TbEntry → Bool → F → TbEntry → Type 0) (f : F) (xs ys : List TbEntry) → RetainsInTurn R f xs ys

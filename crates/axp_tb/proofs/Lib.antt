@@ -1,2 +1,2 @@
 pub mod DropLemmas
-pub mod FoundLemmas
+pub mod SearchLemmas

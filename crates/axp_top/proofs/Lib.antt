@@ -1,7 +1,10 @@
-pub mod Printings
-pub mod Replaying
-pub mod Ending
-pub mod Settling
-pub mod Wholes
-pub mod Lawful
+-- what is printed: piece after piece, and line by line through an event list
+pub mod PrintingLemmas
+pub mod ReplayLemmas
+-- what an answer is, and that its run keeps the constraints
+pub mod LawfulAnswerLemmas
+-- how the work ends, and what each status says
+pub mod EndingLemmas
+pub mod StatusLemmas
+pub mod WholeAnswerLemmas
 pub mod ServingLemmas

@@ -20,8 +20,8 @@ use Rattle.axp_top.specs.Replays.{Answer, answer_of_lines, not_built_at_all}
 use Rattle.axp_top.specs.Serving.{Course, Serves, ServesTrace}
 use Rattle.axp_top.specs.Statuses.{AsksFailed, AsksFront, AsksInTurn, AsksNeeded, DeskCount, PutsEach, Settles, SettlesLawfully, SettlesSome, SinkCount}
 use Rattle.axp_top.specs.Words.{Order, Replay}
-use Rattle.axp_top.proofs.Lawful.{over_lawful, told_lawful, valid_in}
-use Rattle.axp_top.proofs.Settling.{IsAnswer, answer_is, asks_in_turn, asks_needed, desk_count, over_is, puts_each, settles, sink_count, trace_is}
+use Rattle.axp_top.proofs.LawfulAnswerLemmas.{over_lawful, told_lawful, valid_in}
+use Rattle.axp_top.proofs.StatusLemmas.{IsAnswer, answer_is, asks_in_turn, asks_needed, desk_count, over_is, puts_each, settles, sink_count, trace_is}
 
 -- ---- lists that may have been handed over
 

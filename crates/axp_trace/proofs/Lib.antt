@@ -1,8 +1,10 @@
+-- what is written: digits, the parts of an event, lines
 pub mod DigitLemmas
-pub mod FileLemmas
-pub mod LineLemmas
-pub mod LineOfLemmas
-pub mod NamedLemmas
-pub mod ReadBackLemmas
-pub mod ReadingLemmas
 pub mod SpellingLemmas
+pub mod LineLemmas
+-- what is read: the lines of a file, words, acts, whole lines
+pub mod FileLemmas
+pub mod ReadingLemmas
+pub mod ActNameLemmas
+pub mod MemoryLineLemmas
+pub mod ReadBackLemmas

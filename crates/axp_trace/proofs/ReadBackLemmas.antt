@@ -24,8 +24,8 @@ use Rattle.axp_trace.specs.Reading.{words_of, cpu_in, line_in, drain_in, drop_by
 use Rattle.axp_trace.specs.declared.reading.Header.{Header}
 use Rattle.axp_trace.proofs.DigitLemmas.{decimal_back, hex_number_back}
 use Rattle.axp_trace.proofs.LineLemmas.{high_decimal, high_hex, small_cpu}
-use Rattle.axp_trace.proofs.LineOfLemmas.{line_in_back}
-use Rattle.axp_trace.proofs.NamedLemmas.{named_event}
+use Rattle.axp_trace.proofs.MemoryLineLemmas.{line_in_back}
+use Rattle.axp_trace.proofs.ActNameLemmas.{named_event}
 use Rattle.axp_trace.proofs.ReadingLemmas.{words_of-begin, words_of-one}
 
 high_word : (word : List ℕ) → All (λ d. 48 ≤ d) word → All (λ b. b ≢ 32) word

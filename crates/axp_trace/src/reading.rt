@@ -223,7 +223,7 @@ fn header_line(header: Header) -> LineText
 
 /// The event that a line spells, in a list for this many processors; `None` where the line is the
 /// text of no event of one of them.
-#[tactic(auto, unfolding(crate::specs::Reading::event_of), using(crate::proofs::ReadingLemmas::event_in_long, crate::proofs::NamedLemmas::named_event))]
+#[tactic(auto, unfolding(crate::specs::Reading::event_of), using(crate::proofs::ReadingLemmas::event_in_long, crate::proofs::ActNameLemmas::named_event))]
 pub fn read_event(line: &[u8], cpus: u8) -> Option<Event>
     ensures value { result ≡ event_of cpus line.now }
     ensures spelled { IfSome result (λ e. line.now ≡ event_text e) }

@@ -211,7 +211,7 @@ fn is_timely(act: Act, finished: bool, filled: bool) -> bool
 }
 
 /// A signal asks the bus; one to a number that no processor has asks nothing.
-#[tactic(auto, using(crate::proofs::Numbers::no_cpu_above))]
+#[tactic(auto, using(crate::proofs::CpuNumberLemmas::no_cpu_above))]
 fn signal_to(target: u64) -> Ask2
     ensures { result ≡ signal_to (cpu_of target) }
 {

@@ -1,5 +1,5 @@
 use Rattle.axp_bus.proofs.ReplyLemmas.{late_tidy}
-use Rattle.axp_bus.proofs.StandLemmas.{none_of_code}
+use Rattle.axp_bus.proofs.BusCallLemmas.{none_of_code}
 use Rattle.axp_bus.proofs.laws.late_turns_were_made.Goals as goal
 
 pub returns : goal.returns

@@ -1,6 +1,6 @@
 use Rattle.std.proofs.Common.{◌-◌, ◌∙◌, arith}
 use Rattle.axp_bus.specs.Buses.{port_state_of}
-use Rattle.axp_bus.proofs.GoneLemmas.{gone_more, gone_small, bit_is}
+use Rattle.axp_bus.proofs.GoneCopyLemmas.{gone_more, gone_small, bit_is}
 use Rattle.axp_bus.proofs.replies.gone.Goals as goal
 
 pub overflow_mul-bits : goal.overflow_mul-bits

@@ -1,6 +1,6 @@
 use Rattle.std.proofs.Common.{ap}
 use Rattle.axp_decode.specs.Format.{instr_of}
-use Rattle.axp_decode.proofs.RoundTrip.{word_of-instr_of}
+use Rattle.axp_decode.proofs.WordRoundTrip.{word_of-instr_of}
 use Rattle.axp_decode.proofs.laws.words_and_instructions.Goals as goal
 
 pub returns : goal.returns

@@ -1,4 +1,4 @@
-use Rattle.axp_image.proofs.Places.{do_not_overlap, have_their_bytes, are_zero_elsewhere, byte_small}
+use Rattle.axp_image.proofs.BytePlaceLemmas.{do_not_overlap, have_their_bytes, are_zero_elsewhere, byte_small}
 use Rattle.axp_image.proofs.laws.memory_of_segments.Goals as goal
 
 pub returns : goal.returns

@@ -1,6 +1,6 @@
-use Rattle.axp_image.proofs.Valid.{image_says}
-use Rattle.axp_image.proofs.Spelled.{image_spelled}
-use Rattle.axp_image.proofs.Again.{spelling_again}
+use Rattle.axp_image.proofs.ValidityLemmas.{image_says}
+use Rattle.axp_image.proofs.SpellingLemmas.{image_spelled}
+use Rattle.axp_image.proofs.ReadBackLemmas.{spelling_again}
 use Rattle.axp_image.proofs.laws.one_file.Goals as goal
 
 pub returns : goal.returns

@@ -1,5 +1,5 @@
 use Rattle.std.proofs.Common.{◌≡◌, ◌∷◌, ◌++◌, [], arith, rules}
-use Rattle.axp_image.proofs.Loops.{extents_more, extents_fail, extents_end}
+use Rattle.axp_image.proofs.ReadingLoopLemmas.{extents_more, extents_fail, extents_end}
 use Rattle.axp_image.proofs.reading.read_extents.Goals as goal
 
 pub returns-in_default : goal.returns-in_default

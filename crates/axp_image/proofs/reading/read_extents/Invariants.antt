@@ -1,7 +1,7 @@
 use Rattle.std.proofs.Common.{◌≡◌, ◌-◌, length, vec_capacity}
 use Rattle.axp_image.specs.Grammar.{extents_at}
 use Rattle.axp_image.specs.declared.layout.TheConstants.{HEADER_BYTES}
-use Rattle.axp_image.proofs.Loops.{with_front, record_at}
+use Rattle.axp_image.proofs.ReadingLoopLemmas.{with_front, record_at}
 use Rattle.axp_image.proofs.reading.read_extents.Given as goal
 
 abbrev pub invariant-loop-n : goal.invariant-loop-n

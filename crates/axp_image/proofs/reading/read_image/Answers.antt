@@ -1,7 +1,7 @@
 use Rattle.std.proofs.Common.{◌≡◌, Some, arith, rules}
 use Rattle.axp_image.specs.Contents.{contents}
 use Rattle.axp_image.specs.Grammar.{image_of}
-use Rattle.axp_image.proofs.Valid.{image_says}
+use Rattle.axp_image.proofs.ValidityLemmas.{image_says}
 use Rattle.axp_image.proofs.reading.read_image.Goals as goal
 
 pub new-requires : goal.new-requires

@@ -1,6 +1,6 @@
 use Rattle.std.proofs.Common.{◌≡◌, length, ltb, true, false, arith, rules}
 use Rattle.std.proofs.lemmas.Bool.{lt-ltb, le-ltb}
-use Rattle.axp_image.proofs.Loops.{segments_more, segments_fail, segments_end}
+use Rattle.axp_image.proofs.ReadingLoopLemmas.{segments_more, segments_fail, segments_end}
 use Rattle.axp_image.proofs.reading.read_segments.Goals as goal
 
 pub returns-in_default : goal.returns-in_default

@@ -1,6 +1,6 @@
 use Rattle.std.proofs.Common.{◌≡◌, drop, length, vec_capacity}
 use Rattle.axp_image.specs.Grammar.{segments_at}
-use Rattle.axp_image.proofs.Loops.{with_front}
+use Rattle.axp_image.proofs.ReadingLoopLemmas.{with_front}
 use Rattle.axp_image.proofs.reading.read_segments.Given as goal
 
 abbrev pub invariant-loop-extent : goal.invariant-loop-extent

@@ -1,5 +1,5 @@
 use Rattle.std.proofs.Common.{◌∙◌, sym}
-use Rattle.axp_machine.proofs.VainLemmas.{late_take, no_take}
+use Rattle.axp_machine.proofs.VainTakeLemmas.{late_take, no_take}
 use Rattle.axp_machine.proofs.machine.is_taken_in_vain.Goals as goal
 
 pub returns-in-Some : goal.returns-in-Some

@@ -1,4 +1,4 @@
-use Rattle.axp_tb.proofs.FoundLemmas.{found_none, found_some}
+use Rattle.axp_tb.proofs.SearchLemmas.{found_none, found_some}
 use Rattle.axp_tb.proofs.laws.finds_the_last.Goals as goal
 
 pub returns-clause-some : goal.returns-clause-some

@@ -1,4 +1,4 @@
-use Rattle.axp_top.proofs.Printings.{put_failed, put_printed, put_unfound}
+use Rattle.axp_top.proofs.PrintingLemmas.{put_failed, put_printed, put_unfound}
 use Rattle.axp_top.proofs.printing.print.Goals as goal
 
 pub returns-in-Ok : goal.returns-in-Ok

@@ -1,4 +1,4 @@
-use Rattle.axp_top.proofs.Replaying.{event_refused, event_done}
+use Rattle.axp_top.proofs.ReplayLemmas.{event_refused, event_done}
 use Rattle.axp_top.proofs.replay.print_event.Goals as goal
 
 pub returns-in-Err : goal.returns-in-Err

@@ -1,6 +1,6 @@
 use Rattle.std.proofs.Common.{Some, refl}
 use Rattle.axp_trace.specs.Files.{lines_of}
-use Rattle.axp_top.proofs.Replaying.{comes_at, comes_no_further, comes_on, comes_to_stop, comes_to_end, comes_to_part, not_refused, no_more_lines, part_of_line, exits_events}
+use Rattle.axp_top.proofs.ReplayLemmas.{comes_at, comes_no_further, comes_on, comes_to_stop, comes_to_end, comes_to_part, not_refused, no_more_lines, part_of_line, exits_events}
 use Rattle.axp_top.proofs.replay.print_events.Goals as goal
 
 pub returns-in_err-refusal : goal.returns-in_err-refusal

@@ -1,7 +1,7 @@
 use Rattle.std.proofs.Common.{length}
 use Rattle.axp_trace.specs.Files.{lines_of}
 use Rattle.axp_top.specs.Outside.{sink_state}
-use Rattle.axp_top.proofs.Replaying.{Comes}
+use Rattle.axp_top.proofs.ReplayLemmas.{Comes}
 use Rattle.axp_top.proofs.replay.print_events.Given as goal
 
 abbrev pub invariant-loop-line : goal.invariant-loop-line

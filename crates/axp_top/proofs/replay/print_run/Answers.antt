@@ -1,6 +1,6 @@
 use Rattle.axp_trace.specs.Files.{lines_of}
-use Rattle.axp_top.proofs.Printings.{exits}
-use Rattle.axp_top.proofs.Replaying.{header_is, run_stopped_first, run_stopped_front, run_prints, run_status}
+use Rattle.axp_top.proofs.PrintingLemmas.{exits}
+use Rattle.axp_top.proofs.ReplayLemmas.{header_is, run_stopped_first, run_stopped_front, run_prints, run_status}
 use Rattle.axp_top.proofs.replay.print_run.Goals as goal
 
 pub returns-in_err-print_line-clause-text : goal.returns-in_err-print_line-clause-text

@@ -3,7 +3,7 @@ use Rattle.axp_trace.specs.Files.{lines_of}
 use Rattle.axp_top.specs.Outside.{sink_state}
 use Rattle.axp_top.specs.Printing.{Ends}
 use Rattle.axp_top.specs.Replays.{Answer}
-use Rattle.axp_top.proofs.Ending.{answer_of_no_header, run_stopped}
+use Rattle.axp_top.proofs.EndingLemmas.{answer_of_no_header, run_stopped}
 use Rattle.axp_top.proofs.replay.replay.Goals as goal
 
 pub returns-in_default-read_header : goal.returns-in_default-read_header

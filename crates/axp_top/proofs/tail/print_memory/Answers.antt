@@ -1,7 +1,7 @@
 use Rattle.std.proofs.Common.{◌/◌}
 use Rattle.axp_base.specs.declared.parts.TheConstants.{QUADWORD_BYTES}
 use Rattle.axp_top.specs.Texts.{memory_lines, quadword_lines}
-use Rattle.axp_top.proofs.Printings.{exits, printed_none, printed_more, stopped_at, memory_more, memory_none}
+use Rattle.axp_top.proofs.PrintingLemmas.{exits, printed_none, printed_more, stopped_at, memory_more, memory_none}
 use Rattle.axp_top.proofs.tail.print_memory.Goals as goal
 
 pub loop-quadword-init : goal.loop-quadword-init

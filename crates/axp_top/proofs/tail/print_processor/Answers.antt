@@ -1,5 +1,5 @@
 use Rattle.axp_base.specs.Cpus.{cpu_number}
-use Rattle.axp_top.proofs.Printings.{exits, processor_stopped, processor_prints}
+use Rattle.axp_top.proofs.PrintingLemmas.{exits, processor_stopped, processor_prints}
 use Rattle.axp_top.proofs.tail.print_processor.Goals as goal
 
 pub returns-in_err-print_line : goal.returns-in_err-print_line

@@ -1,5 +1,5 @@
 use Rattle.axp_top.specs.Texts.{processors_lines, processor_lines}
-use Rattle.axp_top.proofs.Printings.{exits, printed_none, printed_more, stopped_at, processors_more, processors_none}
+use Rattle.axp_top.proofs.PrintingLemmas.{exits, printed_none, printed_more, stopped_at, processors_more, processors_none}
 use Rattle.axp_top.proofs.tail.print_processors.Goals as goal
 
 pub loop-n-init : goal.loop-n-init

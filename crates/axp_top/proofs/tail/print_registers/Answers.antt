@@ -1,7 +1,7 @@
 use Rattle.axp_base.specs.Cpus.{cpu_number}
 use Rattle.axp_regs.specs.declared.states.TheConstants.{ZERO_REGISTER}
 use Rattle.axp_top.specs.Texts.{registers_lines, register_lines}
-use Rattle.axp_top.proofs.Printings.{exits, printed_none, printed_more, stopped_at, registers_more, registers_none}
+use Rattle.axp_top.proofs.PrintingLemmas.{exits, printed_none, printed_more, stopped_at, registers_more, registers_none}
 use Rattle.axp_top.proofs.tail.print_registers.Goals as goal
 
 pub loop-n-init : goal.loop-n-init

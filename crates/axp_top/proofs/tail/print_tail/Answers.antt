@@ -1,4 +1,4 @@
-use Rattle.axp_top.proofs.Printings.{exits, tail_stopped_first, tail_stopped_memory, tail_stopped_console, tail_prints}
+use Rattle.axp_top.proofs.PrintingLemmas.{exits, tail_stopped_first, tail_stopped_memory, tail_stopped_console, tail_prints}
 use Rattle.axp_top.proofs.tail.print_tail.Goals as goal
 
 pub returns-in_err-print_processors : goal.returns-in_err-print_processors

@@ -1,7 +1,7 @@
 use Rattle.std.proofs.Common.{◌≡◌, Some, sym, ap, ◌∙◌, arith}
 use Rattle.axp_trace.specs.Digits.{hex_number_of}
 use Rattle.axp_trace.specs.Reading.{line_in}
-use Rattle.axp_trace.proofs.LineOfLemmas.{line_in_at}
+use Rattle.axp_trace.proofs.MemoryLineLemmas.{line_in_at}
 use Rattle.axp_trace.proofs.reading.guess_line.Goals as goal
 
 pub returns-then-address : goal.returns-then-address

@@ -9,8 +9,8 @@ use Rattle.axp_bus.specs.Buses.{State, AreTidy, MayAsk, NotedAll}
 use Rattle.axp_bus.specs.Marks.{Marked}
 use Rattle.axp_bus.specs.BusParts.{state_of}
 use Rattle.axp_bus.specs.BusStands.{Stands}
-use Rattle.axp_bus.proofs.StandLemmas.{reply_is, stands_after}
-use Rattle.axp_bus.proofs.TidyLemmas.{after_within, printed_few, tidy_step}
+use Rattle.axp_bus.proofs.BusCallLemmas.{reply_is, stands_after}
+use Rattle.axp_bus.proofs.QueueLemmas.{after_within, printed_few, tidy_step}
 use Rattle.axp_bus.proofs.buses.Bus.turn.Goals as goal
 
 pub write_down-requires-clause-asks : goal.write_down-requires-clause-asks

@@ -1,7 +1,7 @@
 use Rattle.std.proofs.Common.{◌+◌, ◌≤◌, ◌<◌, length, Some, subst, sym, ap, ◌∙◌}
 use Rattle.std.proofs.lemmas.Option.{slice_get-get_or}
 use Rattle.axp_image.specs.Contents.{Contents}
-use Rattle.axp_image.proofs.Placed.{placed_within}
+use Rattle.axp_image.proofs.SegmentPlaceLemmas.{placed_within}
 use Rattle.axp_image.proofs.images.Image.segment.Goals as goal
 
 pub returns-clause-within : goal.returns-clause-within

@@ -2,7 +2,7 @@ use Rattle.std.proofs.Common.{sym, subst, IfSome}
 use Rattle.std.specs.Prelude.{Option}
 use Rattle.axp_lsu.specs.declared.asks.Ask2.{Ask2}
 use Rattle.axp_lsu.specs.Within.{IsAskWithin}
-use Rattle.axp_lsu.proofs.AskedWithin.{asks_within}
+use Rattle.axp_lsu.proofs.AskRangeLemmas.{asks_within}
 use Rattle.axp_lsu.proofs.units.Lsu.ask.Goals as goal
 
 pub returns-clause-within : goal.returns-clause-within

@@ -5,7 +5,7 @@ use Rattle.axp_wbuf.specs.Drains.{oldest_group}
 use Rattle.axp_lsu.specs.Going.{drain_outcome, after_drain}
 use Rattle.axp_lsu.specs.Keeping.{LocalMemory}
 use Rattle.axp_lsu.specs.Views.{local_memory_of}
-use Rattle.axp_lsu.proofs.Entries.{drained_is, outcome_told}
+use Rattle.axp_lsu.proofs.EntryLemmas.{drained_is, outcome_told}
 use Rattle.axp_lsu.proofs.units.Lsu.drain.Goals as goal
 
 pub returns-clause-outcome : goal.returns-clause-outcome

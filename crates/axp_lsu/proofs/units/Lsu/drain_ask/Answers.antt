@@ -5,7 +5,7 @@ use Rattle.axp_line.specs.declared.messages.Request.TheVariants as request
 use Rattle.axp_lsu.specs.declared.asks.Ask2.TheVariants as ask
 use Rattle.axp_lsu.specs.Keeping.{LocalMemory}
 use Rattle.axp_lsu.specs.Asking.{drain_ask}
-use Rattle.axp_lsu.proofs.Entries.{drain_told}
+use Rattle.axp_lsu.proofs.EntryLemmas.{drain_told}
 use Rattle.axp_lsu.proofs.units.Lsu.drain_ask.Goals as goal
 
 pub returns : goal.returns

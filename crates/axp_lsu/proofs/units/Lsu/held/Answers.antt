@@ -4,7 +4,7 @@ use Rattle.axp_base.specs.declared.lines.Line.{Line}
 use Rattle.axp_bank.specs.Copies.{held_lines}
 use Rattle.axp_lsu.specs.Keeping.{LocalMemory, addressed}
 use Rattle.axp_lsu.specs.Within.{IsCopyWithin, IsSmall}
-use Rattle.axp_lsu.proofs.Held.{small_lines, pairs_are}
+use Rattle.axp_lsu.proofs.HeldLineLemmas.{small_lines, pairs_are}
 use Rattle.axp_lsu.proofs.units.Lsu.held.Goals as goal
 
 abbrev even_lines : LocalMemory → List (Line × ℕ)

@@ -4,7 +4,7 @@ use Rattle.axp_access.specs.declared.Act.TheVariants as act
 use Rattle.axp_wbuf.specs.Drains.{oldest_group}
 use Rattle.axp_lsu.specs.Asking.{ask_of}
 use Rattle.axp_lsu.specs.Fitting.{ReplyFits}
-use Rattle.axp_lsu.proofs.Fits.{act_fits, drain_fits}
+use Rattle.axp_lsu.proofs.ReplyFitLemmas.{act_fits, drain_fits}
 use Rattle.axp_lsu.proofs.units.Lsu.make_act.Goals as goal
 
 pub step-requires-clause-fits : goal.step-requires-clause-fits

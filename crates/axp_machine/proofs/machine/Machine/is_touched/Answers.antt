@@ -1,5 +1,5 @@
 use Rattle.std.proofs.Common.{◌≡◌, subst}
-use Rattle.axp_bus.proofs.StandLemmas.{touched_is}
+use Rattle.axp_bus.proofs.BusCallLemmas.{touched_is}
 use Rattle.axp_world.specs.Worlds.{image_bytes}
 use Rattle.axp_machine.specs.Runs.{Seen, touches, world_of}
 use Rattle.axp_machine.specs.Ties.{seen}

@@ -10,7 +10,7 @@ use Rattle.axp_machine.specs.Playing.{granted_in, actor_of}
 use Rattle.axp_machine.specs.Runs.{Seen, world_of}
 use Rattle.axp_machine.specs.Ties.{seen}
 use Rattle.axp_machine.proofs.GrantLemmas.{IsGranted, granted_is, outcome_in}
-use Rattle.axp_machine.proofs.MakeLemmas.{Makes, answer_is, can_answer, granted_of, has_room, is_answered, is_spelled, makes_of, shows_after, ties_made}
+use Rattle.axp_machine.proofs.MachinePartLemmas.{Makes, answer_is, can_answer, granted_of, has_room, is_answered, is_spelled, makes_of, shows_after, ties_made}
 use Rattle.axp_machine.proofs.ReaderLemmas.{seated_at}
 use Rattle.axp_machine.proofs.machine.Machine.make.Goals as goal
 

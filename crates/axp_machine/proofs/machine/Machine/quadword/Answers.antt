@@ -1,6 +1,6 @@
 use Rattle.std.proofs.Common.{◌≡◌, ◌+◌, ◌*◌, ◌<◌, ◌≤◌, length, subst, sym, ◌∙◌, arith}
 use Rattle.axp_base.specs.declared.parts.TheConstants.{QUADWORD_BYTES}
-use Rattle.axp_bus.proofs.StandLemmas.{bytes_are}
+use Rattle.axp_bus.proofs.BusCallLemmas.{bytes_are}
 use Rattle.axp_world.specs.Worlds.{image_bytes}
 use Rattle.axp_machine.specs.Runs.{Seen, quadword_of, world_of}
 use Rattle.axp_machine.specs.Ties.{seen}

@@ -1,7 +1,7 @@
 use Rattle.std.proofs.Common.{arith, ◌≡◌}
 use Rattle.std.proofs.lemmas.Grind.{common_steps}
 use Rattle.axp_tb.specs.Buffers.{found}
-use Rattle.axp_tb.proofs.FoundLemmas.{result_last, result_none}
+use Rattle.axp_tb.proofs.SearchLemmas.{result_last, result_none}
 use Rattle.axp_tb.proofs.buffers.Tb.find.Goals as goal
 
 pub returns-clause-none : goal.returns-clause-none

@@ -12,7 +12,7 @@ use Rattle.axp_image.specs.declared.reading.Extent.{Extent}
 use Rattle.axp_image.specs.Contents.{Segment, Contents, end_of, IsPlaced, ArePlaced, IsValid}
 use Rattle.axp_image.specs.Grammar.{piece_at, number_at, header_of, is_extent, extent, extent_at, extents_at, segments_at, image_of}
 use Rattle.axp_image.specs.Spelling.{record_of, bytes_of, spelling}
-use Rattle.axp_image.proofs.Valid.{HasHeader}
+use Rattle.axp_image.proofs.ValidityLemmas.{HasHeader}
 
 -- what stands in a file from an offset on: a piece, and the rest
 record Stands (file : List ℕ) (at : ℕ) (piece rest : List ℕ) : Type 0 where

@@ -28,9 +28,9 @@ use Rattle.axp_lsu.specs.Fitting.{ReplyFits, IsTurn}
 use Rattle.axp_lsu.specs.Going.{after_access, advanced, after_line, after_late, after_drain, after_barrier, after_fill, after_act, after_stored, after_step, turn_in}
 use Rattle.axp_lsu.specs.Keeping.{LocalMemory, copies_of, nothing, with_copies, with_drop}
 use Rattle.axp_lsu.specs.Within.{IsCopyWithin, IsEntryWithin, IsInMemory, IsKeptWithin, IsLineWithin, IsWantedBy, IsWantedWithin}
-use Rattle.axp_lsu.proofs.AskedWithin.{line_address_within, oldest_within}
-use Rattle.axp_lsu.proofs.Fits.{act_fits, fits_turn, none_fits}
-use Rattle.axp_lsu.proofs.Lines.{line_within}
+use Rattle.axp_lsu.proofs.AskRangeLemmas.{line_address_within, oldest_within}
+use Rattle.axp_lsu.proofs.ReplyFitLemmas.{act_fits, fits_turn, none_fits}
+use Rattle.axp_lsu.proofs.LineLemmas.{line_within}
 
 -- a property of each copy, through the changes of a bank
 all_refreshed : (P : LineCopy → Type 0) (c : LineCopy) (cs : List LineCopy) → P c → AllByRecursion P cs → AllByRecursion P (refreshed c cs)

@@ -18,7 +18,7 @@ use Rattle.axp_lsu.specs.Asking.{drain_ask}
 use Rattle.axp_lsu.specs.Going.{drain_outcome, after_drain, after_stored, turn_in}
 use Rattle.axp_lsu.specs.Keeping.{LocalMemory}
 use Rattle.axp_base.proofs.LineLemmas.{line_of_number}
-use Rattle.axp_lsu.proofs.Lines.{data_is}
+use Rattle.axp_lsu.proofs.LineLemmas.{data_is}
 
 -- an entry whose parts are these
 pub record Tells (e : Pending) (n : ℕ) (l : Line) (m : Mask) (d : LineData) : Type 0 where

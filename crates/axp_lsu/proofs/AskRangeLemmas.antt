@@ -24,7 +24,7 @@ use Rattle.axp_lsu.specs.declared.asks.Ask2.TheVariants as ask
 use Rattle.axp_lsu.specs.Keeping.{LocalMemory, data_copies}
 use Rattle.axp_lsu.specs.Asking.{is_ready, signal_to, access_ask, step_ask, may_bring, fill_for, fill_ask, drain_ask, take_ask, act_ask, ask_of}
 use Rattle.axp_lsu.specs.Within.{IsAskWithin, IsEntryWithin, IsInMemory, IsKeptWithin, IsWantedBy, IsWantedWithin}
-use Rattle.axp_lsu.proofs.Lines.{line_within}
+use Rattle.axp_lsu.proofs.LineLemmas.{line_within}
 
 abbrev Within : ℕ → Option Ask2 → Type 0
 Within size o = IfSome o (IsAskWithin size)

@@ -3,7 +3,7 @@ use Rattle.std.proofs.Common.{◌≡◌, ℕ, zero, suc, ◌+◌, ◌-◌, ◌<�
 use Rattle.std.proofs.lemmas.Bool.{and_parts, and_from, and_right, leb-true, ltb-true, le-leb, lt-ltb, le-ltb, cases_Bool}
 use Rattle.axp_image.specs.Contents.{Segment, end_of, covers, byte_in, ArePlaced}
 use Rattle.axp_image.specs.Laws.{DoNotOverlap, HaveTheirBytes, AreZeroElsewhere}
-use Rattle.axp_image.proofs.Valid.{some_is}
+use Rattle.axp_image.proofs.ValidityLemmas.{some_is}
 
 covers_says : (s : Segment) (address : ℕ) → covers s address ≡ true → (s.address ≤ address) × (address < end_of s)
 covers_says s address h =

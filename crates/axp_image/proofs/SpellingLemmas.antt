@@ -13,7 +13,7 @@ use Rattle.axp_image.specs.declared.reading.Extent.{Extent}
 use Rattle.axp_image.specs.Contents.{Segment, Contents, contents, segment_of, AreBytes}
 use Rattle.axp_image.specs.Grammar.{◌>>=◌, piece_at, number_at, header_of, extent_at, extents_at, segments_at, image_of}
 use Rattle.axp_image.specs.Spelling.{record_of, bytes_of, spelling}
-use Rattle.axp_image.proofs.Valid.{bind_some, guard_none, some_is, piece_some, piece_length, piece_bytes, HasHeader, header_has, HasExtent, extent_has, extent_end, extents_say, after_extents, after_header}
+use Rattle.axp_image.proofs.ValidityLemmas.{bind_some, guard_none, some_is, piece_some, piece_length, piece_bytes, HasHeader, header_has, HasExtent, extent_has, extent_end, extents_say, after_extents, after_header}
 
 -- ---- numbers
 

@@ -15,7 +15,7 @@ use Rattle.axp_top.specs.Outside.{SinkState}
 use Rattle.axp_top.specs.Printing.{Printed, Stopped, Prints, PrintsEvent, PrintsEvents}
 use Rattle.axp_top.specs.Replays.{FileLine, event_in, record_of, replayed, front_lines, ending_of, answer_of_replay}
 use Rattle.axp_top.specs.Texts.{Lines, record_text, record_lines, header_text, lines}
-use Rattle.axp_top.proofs.Printings.{printed_none, printed_then, prints_then, stopped_then, stopped_longer}
+use Rattle.axp_top.proofs.PrintingLemmas.{printed_none, printed_then, prints_then, stopped_then, stopped_longer}
 
 unchanged : (m : Seen) (e : Event) (refusal : Refusal) → answer_of m e ≡ Err refusal → after_event m e ≡ m
 unfolding after_event

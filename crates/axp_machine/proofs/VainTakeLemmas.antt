@@ -8,7 +8,7 @@ use Rattle.axp_base.specs.declared.lines.Line.{Line}
 use Rattle.axp_base.specs.declared.processors.Cpu.{Cpu}
 use Rattle.axp_bus.specs.Buses.{State}
 use Rattle.axp_bus.specs.Ports.{late_for}
-use Rattle.axp_bus.proofs.StandLemmas.{late_is, none_of_code}
+use Rattle.axp_bus.proofs.BusCallLemmas.{late_is, none_of_code}
 use Rattle.axp_line.specs.declared.messages.Request.TheVariants as request
 use Rattle.axp_base.specs.Blocks.{is_allowed}
 use Rattle.axp_lsu.specs.declared.asks.Ask2.{Ask2}

@@ -9,7 +9,7 @@ use Rattle.axp_cpu.specs.declared.refusals.Refusal.{Refusal}
 use Rattle.axp_cpu.specs.declared.refusals.Refusal.TheVariants.{NotLegal, NotBuilt}
 use Rattle.axp_image.specs.Contents.{AreBytes, Contents, IsValid}
 use Rattle.axp_image.specs.Grammar.{image_of}
-use Rattle.axp_image.proofs.Valid.{image_says}
+use Rattle.axp_image.proofs.ValidityLemmas.{image_says}
 use Rattle.axp_machine.specs.Runs.{Seen, IsRun, answer_of, events_of, is_complete, processors_of, started, with_record}
 use Rattle.axp_machine.proofs.RunLemmas.{keeps_constraints, refused_exactly}
 use Rattle.axp_model.specs.Legal.{legal}

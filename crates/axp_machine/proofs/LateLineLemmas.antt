@@ -18,7 +18,7 @@ use Rattle.axp_base.specs.Blocks.{is_allowed}
 use Rattle.axp_lsu.specs.Within.{IsLineWithin, IsRequestWithin}
 use Rattle.axp_lsu.specs.declared.asks.Ask2.{Ask2}
 use Rattle.axp_lsu.specs.declared.asks.Ask2.TheVariants as ask
-use Rattle.axp_lsu.proofs.Lines.{line_within}
+use Rattle.axp_lsu.proofs.LineLemmas.{line_within}
 use Rattle.axp_line.specs.BusCalls.{BusCall, Written, late, late_by_own, line_written, register, turns, write_asked, write_made}
 use Rattle.axp_line.specs.BusReply.{PortState, first_late, port_state, conditional_reply, reply_by}
 use Rattle.axp_world.specs.Worlds.{reply_for}

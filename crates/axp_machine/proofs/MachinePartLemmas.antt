@@ -47,7 +47,7 @@ use Rattle.axp_machine.specs.Runs.{Seen, answer_of, with_record, world_of}
 use Rattle.axp_machine.specs.Ties.{AreAskedWithin, AreSeated, Ties, history, seen}
 use Rattle.axp_machine.proofs.AskLemmas.{IsLateMade, asked_may, may_ask_for, reply_fits}
 use Rattle.axp_machine.proofs.GrantLemmas.{IsGranted, granted_is, outcome_in}
-use Rattle.axp_machine.proofs.LateLemmas.{IsToldWithin, told_within}
+use Rattle.axp_machine.proofs.LateLineLemmas.{IsToldWithin, told_within}
 use Rattle.axp_machine.proofs.RoomLemmas.{console_few, seat_size, steps_few}
 use Rattle.axp_machine.proofs.SpellingLemmas.{spells}
 
