@@ -1,3 +1,3 @@
 pub mod BankLemmas
-pub mod GetLemmas
+pub mod HeldCopyLemmas
 pub mod ListEqualityLemmas

@@ -10,7 +10,7 @@ use Rattle.axp_line.specs.declared.contents.LineData.{LineData}
 use Rattle.axp_bank.specs.declared.copies.LineCopy.{LineCopy}
 use Rattle.axp_bank.specs.Copies.{line_of, Ascending, Whole, is_held, shown, get_of}
 use Rattle.axp_bank.proofs.BankLemmas.{apart, above_none, get_none}
-use Rattle.axp_bank.proofs.GetLemmas.{own, comes, goes}
+use Rattle.axp_bank.proofs.HeldCopyLemmas.{own, comes, goes}
 
 -- a line is known by its number
 abbrev line_made : (n : ℕ) → nat_lt (n * LINE_BYTES) (2 ^ 64) ≡ true → Line

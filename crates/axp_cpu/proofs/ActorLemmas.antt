@@ -10,7 +10,7 @@ use Rattle.axp_base.specs.declared.processors.TheConstants.{MAX_BUDGET}
 use Rattle.axp_base.specs.Cpus.{cpu_number}
 use Rattle.axp_image.specs.Contents.{Contents}
 use Rattle.axp_line.specs.declared.messages.Reply.{Reply}
-use Rattle.axp_lsu.proofs.Makes.{advanced-made, most_made}
+use Rattle.axp_lsu.proofs.EntryCountLemmas.{advanced-made, most_made}
 use Rattle.axp_lsu.specs.Asking.{ask_of}
 use Rattle.axp_lsu.specs.Fitting.{ReplyFits, FitsSize, IsWantedInSome, WantsFitting}
 use Rattle.axp_lsu.specs.Going.{value_of}
@@ -26,7 +26,7 @@ use Rattle.axp_cpu.specs.Plans.{Plan, End, Want, Unbuilt, along}
 use Rattle.axp_cpu.specs.Rows.{group}
 use Rattle.axp_cpu.specs.Seats.{Seat, first_seat, is_finished, is_built_after, plan_now, seat_after_value, wanted, seat_at_plan}
 use Rattle.axp_cpu.specs.Seats as seats
-use Rattle.axp_cpu.specs.Stands.{GoesOn, Going, Stands, IsMakeable}
+use Rattle.axp_cpu.specs.Stands.{IsLed, Stands, IsMakeable}
 use Rattle.axp_cpu.specs.Soundness.{IsSound, IsSoundAs}
 use Rattle.axp_cpu.proofs.AnswerLemmas.{leads_same}
 use Rattle.axp_cpu.proofs.SeatLemmas.{seat_sound}
@@ -70,7 +70,7 @@ unfinished s w e = (wanted_parts s w (is_finished s) refl e).0
 
 plan_sound : (size : ℕ) (p : Plan) (w : Wanted) → seats.wanted_by p ≡ Some w → IsSound size p → IsSoundAs size w.kind w
 plan_sound size (End t) w e sound = cc
-plan_sound size (Want x k) w e sound = let same : x ≡ w = cc in subst (λ (y : Wanted). IsSoundAs size y.kind y) same sound.0
+plan_sound size (Want t x k) w e sound = let same : x ≡ w = cc in subst (λ (y : Wanted). IsSoundAs size y.kind y) same sound.0
 plan_sound size Unbuilt w e sound = cc
 
 pub wanted_sound : (q : Sequencer) (s : Seat) (w : Wanted) → Stands q s → wanted s ≡ Some w → IsSoundAs s.size w.kind w
@@ -80,28 +80,31 @@ wanted_sound q s w stands e = plan_sound s.size (plan_now s) w (wanted_parts s w
 pub wanted_in_some : (p : Processor) (o : Option Wanted) → IsSeatedWith p o → (w : Wanted) → o ≡ Some w → IsWantedInSome (Some w)
 wanted_in_some p o seated w is = record {
   size = seated.actor.seat.size;
-  within = wanted_by seated.actor.seat.size w.kind w (wanted_sound p.sequencer seated.actor.seat w seated.at.seat (sym seated.wants ∙ is));
+  within = wanted_by seated.actor.seat.size w.kind w (wanted_sound p.sequencer seated.actor.seat w seated.at.seat (sym (seated.wants seated.actor seated.at) ∙ is));
 }
 
-pub is_going : (p : Processor) (o : Option Wanted) → IsSeatedWith p o → (w : Wanted) → o ≡ Some w → Going p.sequencer
-is_going p o seated w is = record { seat = seated.actor.seat; stands = seated.at.seat; unfinished = unfinished seated.actor.seat w (sym seated.wants ∙ is) }
+-- a step is built exactly where its sequencer is led on by the value
+pub leads_is : (p : Processor) (a : Actor) (w : Wanted) (v : ℕ) → IsAt p a → v ≡ value_of w p.unit None → is_built_after a.seat v ≡ is_built_after a.seat (value_of w a.kept None)
+leads_is p a w v at is = ap (is_built_after a.seat) (is ∙ ap (λ u. value_of w u None) at.kept)
 
--- a step is built exactly where the sequencer goes on with the value
-goes_some : (s : Seat) (v : ℕ) (o : Option Sequencer) → GoesOn s v o → is_some o ≡ is_built_after s v
-goes_some s v None goes = sym goes
-goes_some s v (Some q) goes = sym goes.0
-
-pub leads_is : (p : Processor) (a : Actor) (w : Wanted) (v : ℕ) (o : Option Sequencer) → IsAt p a → v ≡ value_of w p.unit None → GoesOn a.seat v o → is_some o ≡ is_built_after a.seat (value_of w a.kept None)
-leads_is p a w v o at is goes = goes_some a.seat v o goes ∙ ap (is_built_after a.seat) (is ∙ ap (λ u. value_of w u None) at.kept)
-
--- where it does not go on, the step was not built
-pub never_stops : (p : Processor) (o : Option Wanted) (w : Wanted) (r : Option Reply) (v : ℕ) → IsMovable p act.Step o → o ≡ Some w → v ≡ value_of w p.unit r → ((s : Seat) → Stands p.sequencer s → is_built_after s v ≡ false) → ⊥
-never_stops p o w r v can is value stops =
+-- a step that is built leads its sequencer on, with the bus's answer too
+pub is_led : (p : Processor) (o : Option Wanted) (w : Wanted) (r : Option Reply) (v : ℕ) → IsMovable p act.Step o → o ≡ Some w → v ≡ value_of w p.unit r → IsLed p.sequencer v
+is_led p o w r v can is value =
     let a : Actor = can.actor in
-    let wants : (actor_intent a).wanted ≡ Some w = sym can.wants ∙ is in
+    let wants : (actor_intent a).wanted ≡ Some w = sym (can.wants can.actor can.at) ∙ is in
     let same : v ≡ value_of w a.kept r = value ∙ ap (λ u. value_of w u r) can.at.kept in
     let built : is_built_after a.seat (value_of w a.kept None) ≡ true = ap (λ x. step_built x a) (sym wants) ∙ can.built in
-    let never : false ≡ true = sym (stops a.seat can.at.seat) ∙ ap (is_built_after a.seat) same ∙ leads_same a.seat w a.kept r wants ∙ built in cc
+    record {
+      seat = a.seat;
+      stands = can.at.seat;
+      unfinished = unfinished a.seat w wants;
+      built = ap (is_built_after a.seat) same ∙ leads_same a.seat w a.kept r wants ∙ built;
+    }
+
+pub moved_on : (p : Processor) (a : Actor) (o : Option Wanted) (w : Wanted) (r : Option Reply) (v : ℕ) (q : Sequencer) → IsAt p a → (actor_intent a).wanted ≡ o → o ≡ Some w → v ≡ value_of w p.unit r → Stands q (seat_after_value a.seat v) → Stands q (seat_after act.Step r a)
+moved_on p a o w r v q at wants is value stands =
+    let same : v ≡ value_of w a.kept r = value ∙ ap (λ u. value_of w u r) at.kept in
+    subst (Stands q) (ap (seat_after_value a.seat) same ∙ ap (λ x. moved_by x r a) (sym (wants ∙ is))) stands
 
 -- what was asked for is legal and built
 asked_parts : (o : Option Ask2) (b : Bool) (q : Ask2) → asked_by o b ≡ Ok q → (o ≡ Some q) × (b ≡ true)
@@ -134,7 +137,7 @@ first_at image cpus budget cpu q u stands none few = record {
 -- a seat's memory and budget stay, and a step that makes an access is counted
 moved_parts : (s : Seat) (vs : List ℕ) (p : Plan) → ((seat_at_plan s vs p).size ≡ s.size) × ((seat_at_plan s vs p).budget ≡ s.budget) × ((seat_at_plan s vs p).steps ≡ s.steps + 1)
 moved_parts s vs (End t) = (refl, refl, refl)
-moved_parts s vs (Want w k) = (refl, refl, refl)
+moved_parts s vs (Want t w k) = (refl, refl, refl)
 moved_parts s vs Unbuilt = (refl, refl, refl)
 
 stepped_parts : (s : Seat) (v : ℕ) → ((seat_after_value s v).size ≡ s.size) × ((seat_after_value s v).budget ≡ s.budget) × ((seat_after_value s v).steps ≡ s.steps + 1)

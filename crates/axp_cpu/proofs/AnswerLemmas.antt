@@ -16,7 +16,7 @@ use Rattle.axp_cpu.proofs.KeepingLemmas.{Keeps, group_keeps}
 
 keeps_end : (n : ℕ) (p : Plan) → Keeps n p → AnswersEnd p
 keeps_end n (End t) keeps = tt
-keeps_end n (Want w k) keeps = (keeps.0, λ v. keeps_end n (k v) (keeps.1 v))
+keeps_end n (Want t w k) keeps = (keeps.0, λ v. keeps_end n (k v) (keeps.1 v))
 keeps_end n Unbuilt keeps = tt
 
 pub group_ends : (size : ℕ) (t : CpuState) → AnswersEnd (group size t)
@@ -24,7 +24,7 @@ group_ends size t = keeps_end (length t.state.registers) (group size t) (group_k
 
 given_ends : (v : ℕ) (p : Plan) → AnswersEnd p → AnswersEnd (given v p)
 given_ends v (End t) ends = tt
-given_ends v (Want w k) ends = ends.1 v
+given_ends v (Want t w k) ends = ends.1 v
 given_ends v Unbuilt ends = tt
 
 along_ends : (vs : List ℕ) (p : Plan) → AnswersEnd p → AnswersEnd (along vs p)
@@ -34,7 +34,7 @@ along_ends (v ∷ vs) p ends = along_ends vs (given v p) (given_ends v p ends)
 -- all is built that an access of a kind leads to, with the bus's answer as without it
 end_built : (p : Plan) → IsEnd p → is_built p ≡ true
 end_built (End t) is = refl
-end_built (Want w k) is = absurd is
+end_built (Want t w k) is = absurd is
 end_built Unbuilt is = absurd is
 
 kind_leads : (k : Kind) (w : Wanted) (u : LocalMemory) (r : Option Reply) (follow : ℕ → Plan) → EndsGroup k follow → is_built (follow (value_by k w u r)) ≡ is_built (follow (value_by k w u None))
@@ -45,7 +45,7 @@ kind_leads _ w u r follow ends = refl
 plan_leads : (p : Plan) (w : Wanted) (u : LocalMemory) (r : Option Reply) → wanted_by p ≡ Some w → AnswersEnd p → plan_is_built_after (value_of w u r) p ≡ plan_is_built_after (value_of w u None) p
 unfolding value_of
 plan_leads (End t) w u r e ends = cc
-plan_leads (Want x k) w u r e ends = let same : x ≡ w = cc in subst (λ (y : Wanted). is_built (k (value_of y u r)) ≡ is_built (k (value_of y u None))) same (kind_leads x.kind x u r k ends.0)
+plan_leads (Want t x k) w u r e ends = let same : x ≡ w = cc in subst (λ (y : Wanted). is_built (k (value_of y u r)) ≡ is_built (k (value_of y u None))) same (kind_leads x.kind x u r k ends.0)
 plan_leads Unbuilt w u r e ends = cc
 
 unless_finished : (finished : Bool) (o : Option Wanted) (w : Wanted) → cond finished None o ≡ Some w → o ≡ Some w

@@ -1,8 +1,7 @@
 -- What every plan of the instruction table keeps, whatever the memory: no register is added or taken away,
 -- and where the bus tells the value of an access, its group ends with it.
-use Rattle.std.proofs.Common.{◌≡◌, ℕ, ◌^◌, ◌%◌, ◌&&◌, Bool, true, false, cond, eqb, ltb, set, List, [], ◌∷◌, length, ◌∙◌, rules}
+use Rattle.std.proofs.Common.{◌≡◌, ℕ, ◌^◌, ◌%◌, Bool, true, false, cond, eqb, set, List, [], ◌∷◌, length, ◌∙◌, rules}
 use Rattle.std.proofs.lemmas.List.{length-set}
-use Rattle.axp_access.specs.declared.Wanted.{Wanted}
 use Rattle.axp_base.specs.Numbers.{sign_extended}
 use Rattle.axp_base.specs.Sizes.{bytes_of, low_datum}
 use Rattle.axp_base.specs.declared.sizes.Size.{Size}
@@ -23,19 +22,18 @@ use Rattle.axp_decode.specs.declared.names.MiscOp.{MiscOp}
 use Rattle.axp_decode.specs.declared.names.MiscOp.TheVariants as misc
 use Rattle.axp_decode.specs.declared.names.PalOp.{PalOp}
 use Rattle.axp_decode.specs.declared.names.PalOp.TheVariants as pal
-use Rattle.axp_image.specs.declared.limits.TheConstants.{INSTRUCTION_BYTES}
-use Rattle.axp_regs.specs.States.{pc_of, ptbr_of, register, with_register}
+use Rattle.axp_regs.specs.States.{register, with_register}
+use Rattle.axp_regs.specs.declared.asks.Ask.{Ask}
 use Rattle.axp_regs.specs.declared.asks.Kind.{Kind}
 use Rattle.axp_regs.specs.declared.asks.Kind.TheVariants.{Conditional, Fetch, Locked, Read, Write}
 use Rattle.axp_regs.specs.declared.states.State.{State}
 use Rattle.axp_regs.specs.declared.states.TheConstants.{ZERO_REGISTER}
 use Rattle.axp_cpu.specs.declared.cpu_states.CpuState.{CpuState}
-use Rattle.axp_pte.specs.Addresses.{in_kseg, is_extended, physical}
-use Rattle.axp_cpu.specs.Addresses.{aligned_plan, first_entry, look_up_plan, memory_plan}
 use Rattle.axp_cpu.specs.Plans.{Plan, End, Want, Unbuilt, along, given}
-use Rattle.axp_cpu.specs.Rows.{address_of, as_longword, as_read, branch_row, cycle_counter, next_plan, plan_of_word, group, high_address_of, load_plan, memory_row, misc_row, operand, operate_row, pal_row, quadword_at, row, register_plan}
+use Rattle.axp_cpu.specs.Rows.{address_of, as_longword, as_longword_with, as_made, as_read, as_read_with, branch_row, cycle_counter, datum_plan, fetch_of, next_plan, plan_of_word, group, high_address_of, load_plan, memory_row, misc_row, operand, operate_row, pal_row, quadword_at, row, register_plan, virtual_ask}
 use Rattle.axp_cpu.specs.Soundness.{EndsGroup}
-use Rattle.axp_cpu.specs.CpuStates.{with_fetch_counted, with_lock_flag, next_pc}
+use Rattle.axp_cpu.specs.CpuStates.{mode_of, with_fetch_counted, with_lock_flag, next_pc}
+use Rattle.axp_cpu.proofs.ReachLemmas.{Carries, HasKept, aligned_carries, reach_carries}
 
 -- a state has so many registers
 abbrev pub Has : ℕ → State → Type 0
@@ -44,7 +42,7 @@ Has n s = length s.registers ≡ n
 -- each end of a plan has so many registers, and a value that the bus tells leads to an end
 abbrev pub Keeps : ℕ → Plan → Type 0
 Keeps n (End t) = Has n t.state
-Keeps n (Want w k) = EndsGroup w.kind k × ((v : ℕ) → Keeps n (k v))
+Keeps n (Want t w k) = EndsGroup w.kind k × ((v : ℕ) → Keeps n (k v))
 Keeps n Unbuilt = Unit {0}
 
 pub written_has : (s : State) (n a v : ℕ) → Has n s → Has n (with_register s a v)
@@ -53,39 +51,47 @@ written_has s n a v has = by (eqb a ZERO_REGISTER) where
   by true = has
   by false = length-set s.registers a v ∙ has
 
--- a plan behind a test, and behind those of an address
+-- a plan behind a test
 tested : (b : Bool) (n : ℕ) (p q : Plan) → Keeps n p → Keeps n q → Keeps n (cond b p q)
 tested true n p q left right = left
 tested false n p q left right = right
 
-reached_keeps : (b : Bool) (n : ℕ) (w : Wanted) (k : ℕ → Plan) → EndsGroup w.kind k → ((v : ℕ) → Keeps n (k v)) → Keeps n (cond b (Want w k) Unbuilt)
-reached_keeps b n w k group ends = tested b n (Want w k) Unbuilt (group, ends) tt
+-- the access by which an address is reached, where it and what follows keep registers
+reached_keeps : (size n : ℕ) (t : CpuState) (ask : Ask) (k : CpuState → ℕ → Plan) → ((u : CpuState) → EndsGroup ask.kind (k u)) → ((u : CpuState) → HasKept t u → (v : ℕ) → Keeps n (k u v)) → Carries (Keeps n) size t ask k
+reached_keeps size n t ask k group keeps = record {
+  unbuilt = tt;
+  entry = λ address below whole next follows. (tt, follows);
+  access = λ u kept address below alike. (group u, keeps u kept);
+}
 
-aligned_keeps : (size : ℕ) (kind : Kind) (address bytes value n : ℕ) (k : ℕ → Plan) → EndsGroup kind k → ((v : ℕ) → Keeps n (k v)) → Keeps n (aligned_plan size kind address bytes value k)
-aligned_keeps size kind address bytes value n k group ends =
-    let w : Wanted = record { kind = kind; address = physical address; size = bytes; value = value } in
-    tested (eqb (address % bytes) 0) n (memory_plan size kind address bytes value k) Unbuilt (reached_keeps (in_kseg address && ltb (physical address) size) n w k group ends) tt
+datum_keeps : (size : ℕ) (t : CpuState) (kind : Kind) (what : Size) (address value n : ℕ) (k : CpuState → ℕ → Plan) → ((u : CpuState) → EndsGroup kind (k u)) → ((u : CpuState) → HasKept t u → (v : ℕ) → Keeps n (k u v)) → Keeps n (datum_plan size t kind what address value k)
+datum_keeps size t kind what address value n k group keeps =
+    aligned_carries (Keeps n) size t (mode_of t) (virtual_ask kind address (bytes_of what) value) k (λ _. reached_keeps size n t (virtual_ask kind address (bytes_of what) value) k group keeps) tt
 
-loaded_keeps : (size : ℕ) (t : CpuState) (what : Size) (a address n : ℕ) (k : ℕ → Plan) → Has n t.state → ((v : ℕ) → Keeps n (k v)) → Keeps n (load_plan size t what a address k)
-loaded_keeps size t what a address n k has ends = tested (eqb a ZERO_REGISTER) n (next_plan t) (aligned_plan size Read address (bytes_of what) 0 k) has (aligned_keeps size Read address (bytes_of what) 0 n k tt ends)
+-- a state in which a translation is kept has the same registers
+kept_has : (n : ℕ) (t u : CpuState) → Has n t.state → HasKept t u → Has n u.state
+kept_has n t u has kept = rw kept.0 has
+
+loaded_keeps : (size : ℕ) (t : CpuState) (what : Size) (a address n : ℕ) (k : CpuState → ℕ → Plan) → Has n t.state → ((u : CpuState) → HasKept t u → (v : ℕ) → Keeps n (k u v)) → Keeps n (load_plan size t what a address k)
+loaded_keeps size t what a address n k has keeps = tested (eqb a ZERO_REGISTER) n (next_plan t) _ has (datum_keeps size t Read what address 0 n k (λ u. tt) keeps)
 
 memory_keeps : (size : ℕ) (t : CpuState) (op : MemOp) (a base disp n : ℕ) → Has n t.state → Keeps n (memory_row size t op a base disp)
 memory_keeps size t memory.LDA a base disp n has = written_has t.state n a (address_of base disp) has
 memory_keeps size t memory.LDAH a base disp n has = written_has t.state n a (high_address_of base disp) has
-memory_keeps size t memory.LDBU a base disp n has = loaded_keeps size t Byte a (address_of base disp) n (as_read t a) has (λ v. written_has t.state n a v has)
-memory_keeps size t memory.LDWU a base disp n has = loaded_keeps size t Word a (address_of base disp) n (as_read t a) has (λ v. written_has t.state n a v has)
-memory_keeps size t memory.LDL a base disp n has = loaded_keeps size t Long a (address_of base disp) n (as_longword t a) has (λ v. written_has t.state n a (sign_extended 32 v) has)
-memory_keeps size t memory.LDQ a base disp n has = loaded_keeps size t Quad a (address_of base disp) n (as_read t a) has (λ v. written_has t.state n a v has)
-memory_keeps size t memory.LDQ_U a base disp n has = loaded_keeps size t Quad a (quadword_at (address_of base disp)) n (as_read t a) has (λ v. written_has t.state n a v has)
-memory_keeps size t memory.LDL_L a base disp n has = aligned_keeps size Locked (address_of base disp) 4 0 n (as_longword (with_lock_flag t true) a) (λ v. tt) (λ v. written_has (with_lock_flag t true).state n a (sign_extended 32 v) has)
-memory_keeps size t memory.LDQ_L a base disp n has = aligned_keeps size Locked (address_of base disp) 8 0 n (as_read (with_lock_flag t true) a) (λ v. tt) (λ v. written_has (with_lock_flag t true).state n a v has)
-memory_keeps size t memory.STB a base disp n has = aligned_keeps size Write (address_of base disp) (bytes_of Byte) (low_datum Byte (register t.state a)) n (λ v. next_plan t) tt (λ v. has)
-memory_keeps size t memory.STW a base disp n has = aligned_keeps size Write (address_of base disp) (bytes_of Word) (low_datum Word (register t.state a)) n (λ v. next_plan t) tt (λ v. has)
-memory_keeps size t memory.STL a base disp n has = aligned_keeps size Write (address_of base disp) (bytes_of Long) (low_datum Long (register t.state a)) n (λ v. next_plan t) tt (λ v. has)
-memory_keeps size t memory.STQ a base disp n has = aligned_keeps size Write (address_of base disp) (bytes_of Quad) (low_datum Quad (register t.state a)) n (λ v. next_plan t) tt (λ v. has)
-memory_keeps size t memory.STQ_U a base disp n has = aligned_keeps size Write (quadword_at (address_of base disp)) (bytes_of Quad) (low_datum Quad (register t.state a)) n (λ v. next_plan t) tt (λ v. has)
-memory_keeps size t memory.STL_C a base disp n has = aligned_keeps size Conditional (address_of base disp) 4 (low_datum Long (register t.state a)) n (as_read (with_lock_flag t false) a) (λ v. tt) (λ v. written_has (with_lock_flag t false).state n a v has)
-memory_keeps size t memory.STQ_C a base disp n has = aligned_keeps size Conditional (address_of base disp) 8 (low_datum Quad (register t.state a)) n (as_read (with_lock_flag t false) a) (λ v. tt) (λ v. written_has (with_lock_flag t false).state n a v has)
+memory_keeps size t memory.LDBU a base disp n has = loaded_keeps size t Byte a (address_of base disp) n (as_read a) has (λ u kept v. written_has u.state n a v (kept_has n t u has kept))
+memory_keeps size t memory.LDWU a base disp n has = loaded_keeps size t Word a (address_of base disp) n (as_read a) has (λ u kept v. written_has u.state n a v (kept_has n t u has kept))
+memory_keeps size t memory.LDL a base disp n has = loaded_keeps size t Long a (address_of base disp) n (as_longword a) has (λ u kept v. written_has u.state n a (sign_extended 32 v) (kept_has n t u has kept))
+memory_keeps size t memory.LDQ a base disp n has = loaded_keeps size t Quad a (address_of base disp) n (as_read a) has (λ u kept v. written_has u.state n a v (kept_has n t u has kept))
+memory_keeps size t memory.LDQ_U a base disp n has = loaded_keeps size t Quad a (quadword_at (address_of base disp)) n (as_read a) has (λ u kept v. written_has u.state n a v (kept_has n t u has kept))
+memory_keeps size t memory.LDL_L a base disp n has = datum_keeps size t Locked Long (address_of base disp) 0 n (as_longword_with true a) (λ u v. tt) (λ u kept v. written_has (with_lock_flag u true).state n a (sign_extended 32 v) (kept_has n t u has kept))
+memory_keeps size t memory.LDQ_L a base disp n has = datum_keeps size t Locked Quad (address_of base disp) 0 n (as_read_with true a) (λ u v. tt) (λ u kept v. written_has (with_lock_flag u true).state n a v (kept_has n t u has kept))
+memory_keeps size t memory.STB a base disp n has = datum_keeps size t Write Byte (address_of base disp) (low_datum Byte (register t.state a)) n as_made (λ u. tt) (λ u kept v. kept_has n t u has kept)
+memory_keeps size t memory.STW a base disp n has = datum_keeps size t Write Word (address_of base disp) (low_datum Word (register t.state a)) n as_made (λ u. tt) (λ u kept v. kept_has n t u has kept)
+memory_keeps size t memory.STL a base disp n has = datum_keeps size t Write Long (address_of base disp) (low_datum Long (register t.state a)) n as_made (λ u. tt) (λ u kept v. kept_has n t u has kept)
+memory_keeps size t memory.STQ a base disp n has = datum_keeps size t Write Quad (address_of base disp) (low_datum Quad (register t.state a)) n as_made (λ u. tt) (λ u kept v. kept_has n t u has kept)
+memory_keeps size t memory.STQ_U a base disp n has = datum_keeps size t Write Quad (quadword_at (address_of base disp)) (low_datum Quad (register t.state a)) n as_made (λ u. tt) (λ u kept v. kept_has n t u has kept)
+memory_keeps size t memory.STL_C a base disp n has = datum_keeps size t Conditional Long (address_of base disp) (low_datum Long (register t.state a)) n (as_read_with false a) (λ u v. tt) (λ u kept v. written_has (with_lock_flag u false).state n a v (kept_has n t u has kept))
+memory_keeps size t memory.STQ_C a base disp n has = datum_keeps size t Conditional Quad (address_of base disp) (low_datum Quad (register t.state a)) n (as_read_with false a) (λ u v. tt) (λ u kept v. written_has (with_lock_flag u false).state n a v (kept_has n t u has kept))
 
 branch_keeps : (t : CpuState) (op : BranchOp) (a disp n : ℕ) → Has n t.state → Keeps n (branch_row t op a disp)
 branch_keeps t branch.BR a disp n has = written_has t.state n a (next_pc t) has
@@ -132,22 +138,15 @@ row_keeps size t (instr.Pal op) n has = pal_keeps t op n has
 row_keeps size t (instr.Floating word) n has = tt
 row_keeps size t (instr.Reserved word) n has = tt
 
-looked_up_keeps : (size table address n : ℕ) → Keeps n (look_up_plan size table address)
-looked_up_keeps size table address n =
-    reached_keeps (is_extended address && ltb (first_entry table address) size) n (record { kind = Read; address = first_entry table address; size = 8; value = 0 }) (λ v. Unbuilt) tt (λ v. tt)
-
 pub group_keeps : (size : ℕ) (t : CpuState) (n : ℕ) → Has n t.state → Keeps n (group size t)
 unfolding group
 group_keeps size t n has =
-    let pc = pc_of t.state in
-    let w : Wanted = record { kind = Fetch; address = physical pc; size = INSTRUCTION_BYTES; value = 0 } in
-    tested (in_kseg pc) n (memory_plan size Fetch pc INSTRUCTION_BYTES 0 (plan_of_word size t)) (look_up_plan size (ptbr_of t.state) pc)
-    (reached_keeps (in_kseg pc && ltb (physical pc) size) n w (plan_of_word size t) tt (λ v. row_keeps size (with_fetch_counted t) (instr_of (v % 2 ^ 32)) n has))
-    (looked_up_keeps size (ptbr_of t.state) pc n)
+    reach_carries (Keeps n) size t (mode_of t) (fetch_of t) (plan_of_word size)
+    (reached_keeps size n t (fetch_of t) (plan_of_word size) (λ u. tt) (λ u kept v. row_keeps size (with_fetch_counted u) (instr_of (v % 2 ^ 32)) n (kept_has n t u has kept)))
 
 given_keeps : (n v : ℕ) (p : Plan) → Keeps n p → Keeps n (given v p)
 given_keeps n v (End t) ends = ends
-given_keeps n v (Want w k) ends = ends.1 v
+given_keeps n v (Want t w k) ends = ends.1 v
 given_keeps n v Unbuilt ends = tt
 
 pub along_keeps : (n : ℕ) (vs : List ℕ) (p : Plan) → Keeps n p → Keeps n (along vs p)

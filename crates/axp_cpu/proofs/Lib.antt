@@ -1,10 +1,15 @@
+-- plans: the access by which an address is reached, and what every plan keeps
+pub mod ReachLemmas
 pub mod PlanLemmas
 pub mod KeepingLemmas
-pub mod SeatLemmas
-pub mod RefusalLemmas
+pub mod TableLemmas
 pub mod AnswerLemmas
+pub mod RefusalLemmas
+-- phases of the code
+pub mod WalkLemmas
+-- one processor: its seat, what it keeps of memory, and its records
+pub mod SeatLemmas
 pub mod ActorLemmas
-pub mod AddressLemmas
-pub mod ShowingLemmas
 pub mod FollowingLemmas
 pub mod RegisterLemmas
+pub mod ShowingLemmas

@@ -1,6 +1,5 @@
 -- Every plan of the instruction table is sound.
-use Rattle.std.proofs.Common.{◌≡◌, ◌⊎◌, ℕ, ◌+◌, ◌*◌, ◌/◌, ◌%◌, ◌^◌, ◌<◌, ◌≤◌, ◌&&◌, Bool, true, false, cond, eqb, ltb, List, [], ◌∷◌, arith, rules, refl, inl, inr}
-use Rattle.std.proofs.lemmas.Bool.{ltb-true, eqb-true}
+use Rattle.std.proofs.Common.{◌≡◌, ◌⊎◌, ℕ, ◌+◌, ◌*◌, ◌/◌, ◌%◌, ◌^◌, ◌<◌, ◌≤◌, Bool, true, false, cond, eqb, List, [], ◌∷◌, arith, rules, refl, inl, inr}
 use Rattle.axp_access.specs.declared.Wanted.{Wanted}
 use Rattle.axp_base.specs.Masks.{IsSize}
 use Rattle.axp_base.specs.Numbers.{sign_extended}
@@ -26,17 +25,17 @@ use Rattle.axp_decode.specs.declared.names.PalOp.TheVariants as pal
 use Rattle.axp_image.specs.declared.limits.TheConstants.{PAGE_BYTES, INSTRUCTION_BYTES}
 use Rattle.axp_integer.specs.Rows as integer
 use Rattle.axp_lsu.specs.Within.{IsInMemory}
-use Rattle.axp_regs.specs.States.{register, pc_of, ptbr_of}
+use Rattle.axp_regs.specs.States.{register, pc_of}
+use Rattle.axp_regs.specs.declared.asks.Ask.{Ask}
 use Rattle.axp_regs.specs.declared.asks.Kind.{Kind}
 use Rattle.axp_regs.specs.declared.asks.Kind.TheVariants.{Fetch, Read, Write, Locked, Conditional, Barrier, WriteBarrier, CodeBarrier}
 use Rattle.axp_regs.specs.declared.states.TheConstants.{ZERO_REGISTER}
 use Rattle.axp_cpu.specs.declared.cpu_states.CpuState.{CpuState}
-use Rattle.axp_pte.specs.Addresses.{in_kseg, physical, is_extended}
-use Rattle.axp_cpu.specs.Addresses.{memory_plan, aligned_plan, first_entry, look_up_plan}
 use Rattle.axp_cpu.specs.Plans.{Plan, End, Want, Unbuilt, given, along}
-use Rattle.axp_cpu.specs.Rows.{group, plan_of_word, barrier_plan, row, memory_row, branch_row, branch_target, operate_row, misc_row, pal_row, next_plan, register_plan, load_locked_plan, load_plan, store_conditional_plan, store_plan, as_read, as_longword, address_of, quadword_at, operand}
+use Rattle.axp_cpu.specs.Rows.{group, plan_of_word, barrier_plan, row, memory_row, branch_row, branch_target, operate_row, misc_row, pal_row, next_plan, register_plan, load_plan, as_read, as_read_with, as_longword, as_longword_with, as_made, address_of, quadword_at, operand, datum_plan, fetch_of, virtual_ask}
 use Rattle.axp_cpu.specs.Soundness.{IsSound, IsSoundAs}
-use Rattle.axp_cpu.specs.CpuStates.{with_fetch_counted, with_lock_flag, next_pc}
+use Rattle.axp_cpu.specs.CpuStates.{mode_of, with_fetch_counted, next_pc}
+use Rattle.axp_cpu.proofs.ReachLemmas.{Carries, HasKept, aligned_carries, either, reach_carries, wanted_at}
 
 -- the end of an aligned part of whole pages lies in them
 part_within : (n a size : ℕ) → IsSize n → a % n ≡ 0 → a < size → size % PAGE_BYTES ≡ 0 → a + n ≤ size
@@ -44,13 +43,6 @@ part_within n a size (inl e) h below pages = omega arith
 part_within n a size (inr (inl e)) h below pages = let k = rw e at h in omega arith
 part_within n a size (inr (inr (inl e))) h below pages = let k = rw e at h in omega arith
 part_within n a size (inr (inr (inr e))) h below pages = let k = rw e at h in omega arith
-
--- a physical address is as aligned as its virtual one
-low_aligned : (n a : ℕ) → IsSize n → a % n ≡ 0 → physical a % n ≡ 0
-low_aligned n a (inl e) h = rw e (omega arith)
-low_aligned n a (inr (inl e)) h = let k = rw e at h in rw e (omega arith)
-low_aligned n a (inr (inr (inl e))) h = let k = rw e at h in rw e (omega arith)
-low_aligned n a (inr (inr (inr e))) h = let k = rw e at h in rw e (omega arith)
 
 pub size_some : (n : ℕ) → IsSize n → 1 ≤ n
 size_some n (inl e) = omega arith
@@ -104,34 +96,20 @@ sound_as size Locked w asks inside = inside
 sound_as size Conditional w asks inside = record { within = inside; sized = asks.conditional refl }
 sound_as size _ w asks inside = absurd asks.plain
 
-reached_by : (tested : Bool) (size : ℕ) (w : Wanted) (k : ℕ → Plan) → (tested ≡ true → IsSoundAs size w.kind w) → ((x : ℕ) → IsSound size (k x)) → IsSound size (cond tested (Want w k) Unbuilt)
-reached_by true size w k inside follows = (inside refl, follows)
-reached_by false size w k inside follows = tt
+-- every access by which an address is reached is sound
+reached_sound : (size : ℕ) (t : CpuState) (ask : Ask) (k : CpuState → ℕ → Plan) → size % PAGE_BYTES ≡ 0 → Asks ask.kind ask.size → ask.address % ask.size ≡ 0 → ((u : CpuState) → HasKept t u → (x : ℕ) → IsSound size (k u x)) → Carries (IsSound size) size t ask k
+reached_sound size t ask k pages asks aligned follows = record {
+  unbuilt = tt;
+  entry = λ address below whole next sound. (record { sized = inr (inr (inr refl)); aligned = whole; within = part_within 8 address size (inr (inr (inr refl))) whole below pages }, sound);
+  access = λ u kept address below alike.
+      let near = alike ask.size asks.sized aligned in
+      (sound_as size ask.kind (wanted_at ask address) asks (record { sized = asks.sized; aligned = near; within = part_within ask.size address size asks.sized near below pages }), follows u kept);
+}
 
-both-true : (a b : Bool) → a && b ≡ true → b ≡ true
-both-true true b h = h
-both-true false b h = cc
-
-reached_sound : (size : ℕ) (kind : Kind) (a n v : ℕ) (k : ℕ → Plan) → size % PAGE_BYTES ≡ 0 → Asks kind n → a % n ≡ 0 → ((x : ℕ) → IsSound size (k x)) → IsSound size (memory_plan size kind a n v k)
-reached_sound size kind a n v k pages asks h follows =
-    let one = asks.sized in
-    let w : Wanted = record { kind = kind; address = physical a; size = n; value = v } in
-    reached_by (in_kseg a && ltb (physical a) size) size w k
-    (λ passed. sound_as size kind w asks (record {
-      sized = one;
-      aligned = low_aligned n a one h;
-      within = part_within n (physical a) size one (low_aligned n a one h) (ltb-true (physical a) size (both-true (in_kseg a) (ltb (physical a) size) passed)) pages;
-    }))
-    follows
-
--- a plan is sound where both ways of a test are
-either : (tested : Bool) (size : ℕ) (p q : Plan) → (tested ≡ true → IsSound size p) → (tested ≡ false → IsSound size q) → IsSound size (cond tested p q)
-either true size p q left right = left refl
-either false size p q left right = right refl
-
-aligned_sound : (size : ℕ) (kind : Kind) (a n v : ℕ) (k : ℕ → Plan) → size % PAGE_BYTES ≡ 0 → Asks kind n → ((x : ℕ) → IsSound size (k x)) → IsSound size (aligned_plan size kind a n v k)
-aligned_sound size kind a n v k pages asks follows =
-    either (eqb (a % n) 0) size (memory_plan size kind a n v k) Unbuilt (λ passed. reached_sound size kind a n v k pages asks (eqb-true (a % n) 0 passed) follows) (λ _. tt)
+aligned_sound : (size : ℕ) (t : CpuState) (kind : Kind) (what : Size) (address value : ℕ) (k : CpuState → ℕ → Plan) → size % PAGE_BYTES ≡ 0 → Asks kind (bytes_of what) → ((u : CpuState) → HasKept t u → (x : ℕ) → IsSound size (k u x)) → IsSound size (datum_plan size t kind what address value k)
+aligned_sound size t kind what address value k pages asks follows =
+    aligned_carries (IsSound size) size t (mode_of t) (virtual_ask kind address (bytes_of what) value) k
+    (λ aligned. reached_sound size t (virtual_ask kind address (bytes_of what) value) k pages asks aligned follows) tt
 
 -- the program counter stays a multiple of an instruction's size
 abbrev IsAligned : CpuState → Type 0
@@ -143,6 +121,10 @@ next_aligned t h = omega arith
 target_aligned : (next disp : ℕ) → next % INSTRUCTION_BYTES ≡ 0 → target_of next disp % INSTRUCTION_BYTES ≡ 0
 target_aligned next disp h = let x = sign_extended 21 disp in omega arith
 
+-- also once a translation is kept
+kept_aligned : (t u : CpuState) → IsAligned t → HasKept t u → next_pc u % INSTRUCTION_BYTES ≡ 0
+kept_aligned t u h kept = rw kept.0 (next_aligned t h)
+
 goal_by : (taken : Bool) (target next : ℕ) → target % INSTRUCTION_BYTES ≡ 0 → next % INSTRUCTION_BYTES ≡ 0 → cond taken target next % INSTRUCTION_BYTES ≡ 0
 goal_by true target next h k = h
 goal_by false target next h k = k
@@ -151,39 +133,28 @@ goal_aligned : (t : CpuState) (op : BranchOp) (a disp : ℕ) → IsAligned t →
 goal_aligned t op a disp h =
     goal_by (is_taken op (register t.state a)) (target_of (next_pc t) disp) (next_pc t) (target_aligned (next_pc t) disp (next_aligned t h)) (next_aligned t h)
 
-loaded_sound : (size : ℕ) (t : CpuState) (what : Size) (a address : ℕ) (k : ℕ → Plan) → ((v : ℕ) → IsSound size (k v)) → size % PAGE_BYTES ≡ 0 → IsAligned t → IsSound size (load_plan size t what a address k)
+loaded_sound : (size : ℕ) (t : CpuState) (what : Size) (a address : ℕ) (k : CpuState → ℕ → Plan) → ((u : CpuState) → HasKept t u → (x : ℕ) → IsSound size (k u x)) → size % PAGE_BYTES ≡ 0 → IsAligned t → IsSound size (load_plan size t what a address k)
 loaded_sound size t what a address k follows pages h =
-    either (eqb a ZERO_REGISTER) size (next_plan t) _ (λ _. next_aligned t h)
-    (λ _. aligned_sound size Read address (bytes_of what) 0 k pages (asks_read what) follows)
-
-stored_sound : (size : ℕ) (t : CpuState) (what : Size) (a address : ℕ) → size % PAGE_BYTES ≡ 0 → IsAligned t → IsSound size (store_plan size t what a address)
-stored_sound size t what a address pages h =
-    aligned_sound size Write address (bytes_of what) (low_datum what (register t.state a)) (λ _. next_plan t) pages (asks_write what) (λ v. next_aligned t h)
-
-load_locked_sound : (size : ℕ) (what : Size) (address : ℕ) (k : ℕ → Plan) → ((v : ℕ) → IsSound size (k v)) → size % PAGE_BYTES ≡ 0 → IsSound size (load_locked_plan size what address k)
-load_locked_sound size what address k follows pages = aligned_sound size Locked address (bytes_of what) 0 k pages (asks_locked what) follows
-
-store_conditional_sound : (size : ℕ) (t : CpuState) (what : Size) (a address : ℕ) → (bytes_of what ≡ 4) ⊎ (bytes_of what ≡ 8) → size % PAGE_BYTES ≡ 0 → IsAligned t → IsSound size (store_conditional_plan size t what a address)
-store_conditional_sound size t what a address long pages h =
-    aligned_sound size Conditional address (bytes_of what) (low_datum what (register t.state a)) (as_read (with_lock_flag t false) a) pages (asks_conditional what long) (λ v. next_aligned t h)
+    either (IsSound size) (eqb a ZERO_REGISTER) (next_plan t) _ (λ _. next_aligned t h)
+    (λ _. aligned_sound size t Read what address 0 k pages (asks_read what) follows)
 
 memory_sound : (size : ℕ) (t : CpuState) (op : MemOp) (a base disp : ℕ) → size % PAGE_BYTES ≡ 0 → IsAligned t → IsSound size (memory_row size t op a base disp)
 memory_sound size t memory.LDA a base disp pages h = next_aligned t h
 memory_sound size t memory.LDAH a base disp pages h = next_aligned t h
-memory_sound size t memory.LDBU a base disp pages h = loaded_sound size t Byte a (address_of base disp) (as_read t a) (λ v. next_aligned t h) pages h
-memory_sound size t memory.LDWU a base disp pages h = loaded_sound size t Word a (address_of base disp) (as_read t a) (λ v. next_aligned t h) pages h
-memory_sound size t memory.LDL a base disp pages h = loaded_sound size t Long a (address_of base disp) (as_longword t a) (λ v. next_aligned t h) pages h
-memory_sound size t memory.LDQ a base disp pages h = loaded_sound size t Quad a (address_of base disp) (as_read t a) (λ v. next_aligned t h) pages h
-memory_sound size t memory.LDQ_U a base disp pages h = loaded_sound size t Quad a (quadword_at (address_of base disp)) (as_read t a) (λ v. next_aligned t h) pages h
-memory_sound size t memory.LDL_L a base disp pages h = load_locked_sound size Long (address_of base disp) (as_longword (with_lock_flag t true) a) (λ v. next_aligned t h) pages
-memory_sound size t memory.LDQ_L a base disp pages h = load_locked_sound size Quad (address_of base disp) (as_read (with_lock_flag t true) a) (λ v. next_aligned t h) pages
-memory_sound size t memory.STB a base disp pages h = stored_sound size t Byte a (address_of base disp) pages h
-memory_sound size t memory.STW a base disp pages h = stored_sound size t Word a (address_of base disp) pages h
-memory_sound size t memory.STL a base disp pages h = stored_sound size t Long a (address_of base disp) pages h
-memory_sound size t memory.STQ a base disp pages h = stored_sound size t Quad a (address_of base disp) pages h
-memory_sound size t memory.STQ_U a base disp pages h = stored_sound size t Quad a (quadword_at (address_of base disp)) pages h
-memory_sound size t memory.STL_C a base disp pages h = store_conditional_sound size t Long a (address_of base disp) (inl refl) pages h
-memory_sound size t memory.STQ_C a base disp pages h = store_conditional_sound size t Quad a (address_of base disp) (inr refl) pages h
+memory_sound size t memory.LDBU a base disp pages h = loaded_sound size t Byte a (address_of base disp) (as_read a) (λ u kept v. kept_aligned t u h kept) pages h
+memory_sound size t memory.LDWU a base disp pages h = loaded_sound size t Word a (address_of base disp) (as_read a) (λ u kept v. kept_aligned t u h kept) pages h
+memory_sound size t memory.LDL a base disp pages h = loaded_sound size t Long a (address_of base disp) (as_longword a) (λ u kept v. kept_aligned t u h kept) pages h
+memory_sound size t memory.LDQ a base disp pages h = loaded_sound size t Quad a (address_of base disp) (as_read a) (λ u kept v. kept_aligned t u h kept) pages h
+memory_sound size t memory.LDQ_U a base disp pages h = loaded_sound size t Quad a (quadword_at (address_of base disp)) (as_read a) (λ u kept v. kept_aligned t u h kept) pages h
+memory_sound size t memory.LDL_L a base disp pages h = aligned_sound size t Locked Long (address_of base disp) 0 (as_longword_with true a) pages (asks_locked Long) (λ u kept v. kept_aligned t u h kept)
+memory_sound size t memory.LDQ_L a base disp pages h = aligned_sound size t Locked Quad (address_of base disp) 0 (as_read_with true a) pages (asks_locked Quad) (λ u kept v. kept_aligned t u h kept)
+memory_sound size t memory.STB a base disp pages h = aligned_sound size t Write Byte (address_of base disp) (low_datum Byte (register t.state a)) as_made pages (asks_write Byte) (λ u kept v. kept_aligned t u h kept)
+memory_sound size t memory.STW a base disp pages h = aligned_sound size t Write Word (address_of base disp) (low_datum Word (register t.state a)) as_made pages (asks_write Word) (λ u kept v. kept_aligned t u h kept)
+memory_sound size t memory.STL a base disp pages h = aligned_sound size t Write Long (address_of base disp) (low_datum Long (register t.state a)) as_made pages (asks_write Long) (λ u kept v. kept_aligned t u h kept)
+memory_sound size t memory.STQ a base disp pages h = aligned_sound size t Write Quad (address_of base disp) (low_datum Quad (register t.state a)) as_made pages (asks_write Quad) (λ u kept v. kept_aligned t u h kept)
+memory_sound size t memory.STQ_U a base disp pages h = aligned_sound size t Write Quad (quadword_at (address_of base disp)) (low_datum Quad (register t.state a)) as_made pages (asks_write Quad) (λ u kept v. kept_aligned t u h kept)
+memory_sound size t memory.STL_C a base disp pages h = aligned_sound size t Conditional Long (address_of base disp) (low_datum Long (register t.state a)) (as_read_with false a) pages (asks_conditional Long (inl refl)) (λ u kept v. kept_aligned t u h kept)
+memory_sound size t memory.STQ_C a base disp pages h = aligned_sound size t Conditional Quad (address_of base disp) (low_datum Quad (register t.state a)) (as_read_with false a) pages (asks_conditional Quad (inr refl)) (λ u kept v. kept_aligned t u h kept)
 
 branch_sound : (size : ℕ) (t : CpuState) (op : BranchOp) (a disp : ℕ) → IsAligned t → IsSound size (branch_row t op a disp)
 branch_sound size t branch.BR a disp h = goal_aligned t branch.BR a disp h
@@ -199,8 +170,8 @@ branch_sound size t branch.BGT a disp h = goal_aligned t branch.BGT a disp h
 
 operate_sound : (size : ℕ) (t : CpuState) (op : Op) (a b c : ℕ) → IsAligned t → IsSound size (operate_row t op a b c)
 operate_sound size t op a b c h =
-    either (eqb (operate_opcode op) BYTE_OPCODE) size (register_plan t c (bytes.value_of op a b)) _ (λ _. next_aligned t h)
-    (λ _. either (integer.overflow_of op a b) size Unbuilt (register_plan t c (integer.value_of op a b (register t.state c))) (λ _. tt) (λ _. next_aligned t h))
+    either (IsSound size) (eqb (operate_opcode op) BYTE_OPCODE) (register_plan t c (bytes.value_of op a b)) _ (λ _. next_aligned t h)
+    (λ _. either (IsSound size) (integer.overflow_of op a b) Unbuilt (register_plan t c (integer.value_of op a b (register t.state c))) (λ _. tt) (λ _. next_aligned t h))
 
 fenced_sound : (size : ℕ) (t : CpuState) (kind : Kind) → IsSoundAs size kind (record { kind = kind; address = 0; size = 0; value = 0 }) → IsAligned t → IsSound size (barrier_plan t kind)
 fenced_sound size t kind sound h = (sound, λ v. next_aligned t h)
@@ -232,33 +203,16 @@ row_sound size t (instr.Pal op) pages h = pal_sound size t op h
 row_sound size t (instr.Floating word) pages h = tt
 row_sound size t (instr.Reserved word) pages h = tt
 
--- the entry by which a page is looked up lies in memory
-looked_up_sound : (size table a : ℕ) → size % PAGE_BYTES ≡ 0 → IsSound size (look_up_plan size table a)
-looked_up_sound size table a pages =
-    let w : Wanted = record { kind = Read; address = first_entry table a; size = 8; value = 0 } in
-    reached_by (is_extended a && ltb (first_entry table a) size) size w (λ v. Unbuilt)
-    (λ passed. record {
-      sized = inr (inr (inr refl));
-      aligned = entry_aligned (table * PAGE_BYTES + 8 * (a / 2 ^ 33 % 2 ^ 10)) (whole table (a / 2 ^ 33 % 2 ^ 10));
-      within = part_within 8 (first_entry table a) size (inr (inr (inr refl))) (entry_aligned (table * PAGE_BYTES + 8 * (a / 2 ^ 33 % 2 ^ 10)) (whole table (a / 2 ^ 33 % 2 ^ 10))) (ltb-true (first_entry table a) size (both-true (is_extended a) (ltb (first_entry table a) size) passed)) pages;
-    })
-    (λ v. tt) where
-      whole : (m n : ℕ) → (m * PAGE_BYTES + 8 * n) % 8 ≡ 0
-      whole m n = omega arith
-
-      entry_aligned : (n : ℕ) → n % 8 ≡ 0 → n % 2 ^ 64 % 8 ≡ 0
-      entry_aligned n e = omega arith
-
 pub group_sound : (size : ℕ) (t : CpuState) → size % PAGE_BYTES ≡ 0 → IsAligned t → IsSound size (group size t)
 unfolding group
 group_sound size t pages h =
-    either (in_kseg (pc_of t.state)) size (memory_plan size Fetch (pc_of t.state) INSTRUCTION_BYTES 0 (plan_of_word size t)) (look_up_plan size (ptbr_of t.state) (pc_of t.state))
-    (λ _. reached_sound size Fetch (pc_of t.state) INSTRUCTION_BYTES 0 (plan_of_word size t) pages asks_fetch h (λ v. row_sound size (with_fetch_counted t) (instr_of (v % 2 ^ 32)) pages h))
-    (λ _. looked_up_sound size (ptbr_of t.state) (pc_of t.state) pages)
+    reach_carries (IsSound size) size t (mode_of t) (fetch_of t) (plan_of_word size)
+    (reached_sound size t (fetch_of t) (plan_of_word size) pages asks_fetch h
+      (λ u kept v. row_sound size (with_fetch_counted u) (instr_of (v % 2 ^ 32)) pages (rw kept.0 h)))
 
 given_sound : (size v : ℕ) (p : Plan) → IsSound size p → IsSound size (given v p)
 given_sound size v (End t) sound = sound
-given_sound size v (Want w k) sound = sound.1 v
+given_sound size v (Want t w k) sound = sound.1 v
 given_sound size v Unbuilt sound = tt
 
 pub along_sound : (size : ℕ) (vs : List ℕ) (p : Plan) → IsSound size p → IsSound size (along vs p)

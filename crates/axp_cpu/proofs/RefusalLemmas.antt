@@ -1,5 +1,6 @@
 -- A row is built exactly where its instruction is not refused.
-use Rattle.std.proofs.Common.{◌≡◌, ℕ, ◌%◌, ◌&&◌, not, Bool, true, false, cond, eqb, ltb, rules, refl, sym, ap, ◌∙◌}
+use Rattle.std.proofs.Common.{◌≡◌, ℕ, ◌+◌, ◌*◌, ◌%◌, ◌&&◌, not, Bool, true, false, cond, eqb, ltb, rules, refl, sym, ap, ◌∙◌}
+use Rattle.std.specs.Prelude.{Result, Ok, Err, Option, Some, None}
 use Rattle.axp_access.specs.declared.Wanted.{Wanted}
 use Rattle.axp_base.specs.Sizes.{bytes_of, low_datum}
 use Rattle.axp_base.specs.declared.sizes.Size.{Size}
@@ -8,6 +9,7 @@ use Rattle.axp_bytes.specs.Rows as bytes
 use Rattle.axp_decode.specs.Table.{operate_opcode}
 use Rattle.axp_decode.specs.declared.instructions.Instr.{Instr}
 use Rattle.axp_decode.specs.declared.instructions.Instr.TheVariants as instr
+use Rattle.axp_decode.specs.declared.instructions.Operand.TheVariants as operand
 use Rattle.axp_decode.specs.declared.names.BranchOp.{BranchOp}
 use Rattle.axp_decode.specs.declared.names.MemOp.{MemOp}
 use Rattle.axp_decode.specs.declared.names.MemOp.TheVariants as memory
@@ -15,33 +17,73 @@ use Rattle.axp_decode.specs.declared.names.MiscOp.{MiscOp}
 use Rattle.axp_decode.specs.declared.names.Op.{Op}
 use Rattle.axp_decode.specs.declared.names.PalOp.{PalOp}
 use Rattle.axp_decode.specs.declared.numbers.TheConstants.{BYTE_OPCODE}
-use Rattle.axp_image.specs.declared.limits.TheConstants.{INSTRUCTION_BYTES}
+use Rattle.axp_image.specs.declared.limits.TheConstants.{PAGE_BYTES}
 use Rattle.axp_integer.specs.Rows as integer
-use Rattle.axp_regs.specs.States.{register, pc_of, ptbr_of}
+use Rattle.axp_regs.specs.States.{register, ptbr_of}
+use Rattle.axp_regs.specs.declared.asks.Ask.{Ask}
 use Rattle.axp_regs.specs.declared.asks.Kind.{Kind}
-use Rattle.axp_regs.specs.declared.asks.Kind.TheVariants.{Fetch, Read, Write, Locked, Conditional}
+use Rattle.axp_regs.specs.declared.asks.Kind.TheVariants.{Read, Write, Locked, Conditional}
 use Rattle.axp_regs.specs.declared.states.TheConstants.{ZERO_REGISTER}
 use Rattle.axp_cpu.specs.declared.cpu_states.CpuState.{CpuState}
-use Rattle.axp_pte.specs.Addresses.{in_kseg, is_extended}
-use Rattle.axp_cpu.specs.Addresses.{aligned_plan, first_entry, look_up_plan, memory_plan}
-use Rattle.axp_cpu.specs.Plans.{Plan, Want, Unbuilt, given, is_built}
-use Rattle.axp_cpu.specs.CpuStates.{with_lock_flag}
-use Rattle.axp_cpu.specs.Refusals.{is_reached, is_accessible, load_refused, store_refused, memory_refused, pal_refused, is_refused, is_begun}
-use Rattle.axp_cpu.specs.Rows.{group, plan_of_word, row, memory_row, branch_row, operate_row, misc_row, pal_row, next_plan, register_plan, load_locked_plan, load_plan, store_conditional_plan, store_plan, as_read, as_longword, address_of, quadword_at, operand}
+use Rattle.axp_pte.specs.Addresses.{split_of}
+use Rattle.axp_pte.specs.Entries.{pte_word}
+use Rattle.axp_pte.specs.Protection.{upper_of}
+use Rattle.axp_pte.specs.declared.addresses.Where.{Where}
+use Rattle.axp_pte.specs.declared.addresses.Where.TheVariants.{Direct, Mapped}
+use Rattle.axp_pte.specs.declared.entries.Pte.{Pte}
+use Rattle.axp_pte.specs.declared.faults.MmFault.{MmFault}
+use Rattle.axp_pte.specs.declared.faults.Mode.{Mode}
+use Rattle.axp_cpu.specs.Translation.{entry_address, entry_kept, entry_plan, first_entry, frame_of, frame_plan, framed_by, index_at, kept_plan, reach_plan, second_entry, split_plan, third_entry, with_page_kept}
+use Rattle.axp_cpu.specs.declared.translation.Level.{Level}
+use Rattle.axp_cpu.specs.declared.translation.Level.TheVariants as level
+use Rattle.axp_cpu.specs.declared.translation.MappedAsk.{MappedAsk}
+use Rattle.axp_cpu.specs.Plans.{Plan, Want, Unbuilt, is_built}
+use Rattle.axp_cpu.specs.CpuStates.{mode_of, with_fetch_counted}
+use Rattle.axp_cpu.specs.Refusals.{datum_refused, is_accessible, is_framed, is_kept_reached, is_reached, is_refused, is_split_reached, is_table, load_refused, memory_refused, pal_refused}
+use Rattle.axp_cpu.specs.Rows.{address_of, as_longword, as_longword_with, as_made, as_read, as_read_with, branch_row, datum_plan, fetch_of, group, load_plan, memory_row, misc_row, next_plan, operand, operate_row, pal_row, plan_of_word, quadword_at, register_plan, row, virtual_ask}
+use Rattle.axp_cpu.proofs.ReachLemmas.{entry_wanted, wanted_at}
 
-wants_if : (tested : Bool) (w : Wanted) (k : ℕ → Plan) → is_built (cond tested (Want w k) Unbuilt) ≡ tested
-wants_if true w k = refl
-wants_if false w k = refl
+wants_if : (tested : Bool) (t : CpuState) (w : Wanted) (k : ℕ → Plan) → is_built (cond tested (Want t w k) Unbuilt) ≡ tested
+wants_if true t w k = refl
+wants_if false t w k = refl
 
-reached_built : (size : ℕ) (kind : Kind) (a n v : ℕ) (k : ℕ → Plan) → is_built (memory_plan size kind a n v k) ≡ is_reached size a
-reached_built size kind a n v k = wants_if (is_reached size a) _ k
+framed_built : (o : Result ℕ MmFault) (size : ℕ) (t : CpuState) (far : MappedAsk) (k : CpuState → ℕ → Plan) → is_built (framed_by o (frame_plan size t far k)) ≡ is_framed size far o
+framed_built (Ok frame) size t far k = wants_if (is_framed size far (Ok frame)) t (wanted_at far.ask (frame * PAGE_BYTES + far.parts.offset)) (k t)
+framed_built (Err fault) size t far k = refl
+
+table_built : (o : Result ℕ MmFault) (size : ℕ) (t : CpuState) (far : MappedAsk) (level : Level) (next : ℕ → Plan) → is_built (framed_by o (entry_plan size t next (index_at level far.parts))) ≡ is_table size level far o
+table_built (Ok table) size t far level next = wants_if (is_table size level far (Ok table)) t (entry_wanted (entry_address table (index_at level far.parts))) next
+table_built (Err fault) size t far level next = refl
+
+pub first_built : (size : ℕ) (t : CpuState) (far : MappedAsk) (k : CpuState → ℕ → Plan) (word : ℕ) → is_built (first_entry size t far k word) ≡ is_table size level.Second far (upper_of word)
+first_built size t far k word = table_built (upper_of word) size t far level.Second (second_entry size t far k)
+
+pub second_built : (size : ℕ) (t : CpuState) (far : MappedAsk) (k : CpuState → ℕ → Plan) (word : ℕ) → is_built (second_entry size t far k word) ≡ is_table size level.Third far (upper_of word)
+second_built size t far k word = table_built (upper_of word) size t far level.Third (third_entry size t far k)
+
+pub third_built : (size : ℕ) (t : CpuState) (far : MappedAsk) (k : CpuState → ℕ → Plan) (word : ℕ) → is_built (third_entry size t far k word) ≡ is_framed size far (frame_of far word)
+third_built size t far k word = framed_built (frame_of far word) size (with_page_kept far word t) far k
+
+kept_built : (o : Option Pte) (size : ℕ) (t : CpuState) (far : MappedAsk) (k : CpuState → ℕ → Plan) → is_built (kept_plan size t far k o) ≡ is_kept_reached size t far o
+kept_built (Some pte) size t far k = framed_built (frame_of far (pte_word pte)) size t far k
+kept_built None size t far k = table_built (Ok (ptbr_of t.state)) size t far level.First (first_entry size t far k)
+
+split_built : (o : Result Where MmFault) (size : ℕ) (t : CpuState) (mode : Mode) (ask : Ask) (k : CpuState → ℕ → Plan) → is_built (split_plan size t mode ask k o) ≡ is_split_reached size t mode ask o
+split_built (Ok (Direct address)) size t mode ask k = wants_if (ltb address size) t (wanted_at ask address) (k t)
+split_built (Ok (Mapped parts)) size t mode ask k =
+    let far : MappedAsk = record { ask = ask; mode = mode; parts = parts } in kept_built (entry_kept t far) size t far k
+split_built (Err fault) size t mode ask k = refl
+
+reached_built : (size : ℕ) (t : CpuState) (mode : Mode) (ask : Ask) (k : CpuState → ℕ → Plan) → is_built (reach_plan size t mode ask k) ≡ is_reached size t mode ask
+reached_built size t mode ask k = split_built (split_of ask.address mode) size t mode ask k
 
 aligned_if : (tested : Bool) (p : Plan) (r : Bool) → is_built p ≡ r → is_built (cond tested p Unbuilt) ≡ tested && r
 aligned_if true p r is = is
 aligned_if false p r is = refl
 
-aligned_built : (size : ℕ) (kind : Kind) (what : Size) (a v : ℕ) (k : ℕ → Plan) → is_built (aligned_plan size kind a (bytes_of what) v k) ≡ is_accessible size what a
-aligned_built size kind what a v k = aligned_if (eqb (a % bytes_of what) 0) _ (is_reached size a) (reached_built size kind a (bytes_of what) v k)
+datum_built : (size : ℕ) (t : CpuState) (kind : Kind) (what : Size) (address value : ℕ) (k : CpuState → ℕ → Plan) → is_built (datum_plan size t kind what address value k) ≡ is_accessible size t kind what address
+datum_built size t kind what address value k =
+    aligned_if (eqb (address % bytes_of what) 0) _ (is_reached size t (mode_of t) (virtual_ask kind address (bytes_of what) 0)) (reached_built size t (mode_of t) (virtual_ask kind address (bytes_of what) value) k)
 
 twice : (b : Bool) → b ≡ not (not b)
 twice true = refl
@@ -51,37 +93,30 @@ loaded_if : (lost : Bool) (p q : Plan) (r : Bool) → is_built p ≡ true → is
 loaded_if true p q r ends is = ends
 loaded_if false p q r ends is = is ∙ twice r
 
-loaded_built : (size : ℕ) (t : CpuState) (what : Size) (a address : ℕ) (k : ℕ → Plan) → is_built (load_plan size t what a address k) ≡ not (load_refused size what a address)
+loaded_built : (size : ℕ) (t : CpuState) (what : Size) (a address : ℕ) (k : CpuState → ℕ → Plan) → is_built (load_plan size t what a address k) ≡ not (load_refused size t what a address)
 loaded_built size t what a address k =
-    loaded_if (eqb a ZERO_REGISTER) (next_plan t) _ (is_accessible size what address) refl (aligned_built size Read what address 0 k)
+    loaded_if (eqb a ZERO_REGISTER) (next_plan t) _ (is_accessible size t Read what address) refl (datum_built size t Read what address 0 k)
 
-stored_built : (size : ℕ) (t : CpuState) (what : Size) (a address : ℕ) → is_built (store_plan size t what a address) ≡ not (store_refused size what address)
-stored_built size t what a address = aligned_built size Write what address (low_datum what (register t.state a)) (λ _. next_plan t) ∙ twice (is_accessible size what address)
+made_built : (size : ℕ) (t : CpuState) (kind : Kind) (what : Size) (address value : ℕ) (k : CpuState → ℕ → Plan) → is_built (datum_plan size t kind what address value k) ≡ not (datum_refused size t kind what address)
+made_built size t kind what address value k = datum_built size t kind what address value k ∙ twice (is_accessible size t kind what address)
 
-load_locked_built : (size : ℕ) (what : Size) (address : ℕ) (k : ℕ → Plan) → is_built (load_locked_plan size what address k) ≡ not (store_refused size what address)
-load_locked_built size what address k = aligned_built size Locked what address 0 k ∙ twice (is_accessible size what address)
-
-store_conditional_built : (size : ℕ) (t : CpuState) (what : Size) (a address : ℕ) → is_built (store_conditional_plan size t what a address) ≡ not (store_refused size what address)
-store_conditional_built size t what a address =
-    aligned_built size Conditional what address (low_datum what (register t.state a)) (as_read (with_lock_flag t false) a) ∙ twice (is_accessible size what address)
-
-memory_built : (size : ℕ) (t : CpuState) (op : MemOp) (a base disp : ℕ) → is_built (memory_row size t op a base disp) ≡ not (memory_refused size op a (address_of base disp))
+memory_built : (size : ℕ) (t : CpuState) (op : MemOp) (a base disp : ℕ) → is_built (memory_row size t op a base disp) ≡ not (memory_refused size t op a (address_of base disp))
 memory_built size t memory.LDA a base disp = refl
 memory_built size t memory.LDAH a base disp = refl
-memory_built size t memory.LDBU a base disp = loaded_built size t Byte a (address_of base disp) (as_read t a)
-memory_built size t memory.LDWU a base disp = loaded_built size t Word a (address_of base disp) (as_read t a)
-memory_built size t memory.LDL a base disp = loaded_built size t Long a (address_of base disp) (as_longword t a)
-memory_built size t memory.LDQ a base disp = loaded_built size t Quad a (address_of base disp) (as_read t a)
-memory_built size t memory.LDQ_U a base disp = loaded_built size t Quad a (quadword_at (address_of base disp)) (as_read t a)
-memory_built size t memory.LDL_L a base disp = load_locked_built size Long (address_of base disp) (as_longword (with_lock_flag t true) a)
-memory_built size t memory.LDQ_L a base disp = load_locked_built size Quad (address_of base disp) (as_read (with_lock_flag t true) a)
-memory_built size t memory.STB a base disp = stored_built size t Byte a (address_of base disp)
-memory_built size t memory.STW a base disp = stored_built size t Word a (address_of base disp)
-memory_built size t memory.STL a base disp = stored_built size t Long a (address_of base disp)
-memory_built size t memory.STQ a base disp = stored_built size t Quad a (address_of base disp)
-memory_built size t memory.STQ_U a base disp = stored_built size t Quad a (quadword_at (address_of base disp))
-memory_built size t memory.STL_C a base disp = store_conditional_built size t Long a (address_of base disp)
-memory_built size t memory.STQ_C a base disp = store_conditional_built size t Quad a (address_of base disp)
+memory_built size t memory.LDBU a base disp = loaded_built size t Byte a (address_of base disp) (as_read a)
+memory_built size t memory.LDWU a base disp = loaded_built size t Word a (address_of base disp) (as_read a)
+memory_built size t memory.LDL a base disp = loaded_built size t Long a (address_of base disp) (as_longword a)
+memory_built size t memory.LDQ a base disp = loaded_built size t Quad a (address_of base disp) (as_read a)
+memory_built size t memory.LDQ_U a base disp = loaded_built size t Quad a (quadword_at (address_of base disp)) (as_read a)
+memory_built size t memory.LDL_L a base disp = made_built size t Locked Long (address_of base disp) 0 (as_longword_with true a)
+memory_built size t memory.LDQ_L a base disp = made_built size t Locked Quad (address_of base disp) 0 (as_read_with true a)
+memory_built size t memory.STB a base disp = made_built size t Write Byte (address_of base disp) (low_datum Byte (register t.state a)) as_made
+memory_built size t memory.STW a base disp = made_built size t Write Word (address_of base disp) (low_datum Word (register t.state a)) as_made
+memory_built size t memory.STL a base disp = made_built size t Write Long (address_of base disp) (low_datum Long (register t.state a)) as_made
+memory_built size t memory.STQ a base disp = made_built size t Write Quad (address_of base disp) (low_datum Quad (register t.state a)) as_made
+memory_built size t memory.STQ_U a base disp = made_built size t Write Quad (quadword_at (address_of base disp)) (low_datum Quad (register t.state a)) as_made
+memory_built size t memory.STL_C a base disp = made_built size t Conditional Long (address_of base disp) (low_datum Long (register t.state a)) (as_read_with false a)
+memory_built size t memory.STQ_C a base disp = made_built size t Conditional Quad (address_of base disp) (low_datum Quad (register t.state a)) (as_read_with false a)
 
 branch_built : (t : CpuState) (op : BranchOp) (a disp : ℕ) → is_built (branch_row t op a disp) ≡ true
 branch_built t op a disp = search rules
@@ -117,19 +152,20 @@ row_built size t (instr.Pal op) = pal_built t op
 row_built size t (instr.Floating word) = refl
 row_built size t (instr.Reserved word) = refl
 
-looked_up_built : (size table a : ℕ) → is_built (look_up_plan size table a) ≡ (is_extended a && ltb (first_entry table a) size)
-looked_up_built size table a = wants_if (is_extended a && ltb (first_entry table a) size) (record { kind = Read; address = first_entry table a; size = 8; value = 0 }) (λ v. Unbuilt)
-
-pub looked_up_leads : (size v table a : ℕ) → is_built (given v (look_up_plan size table a)) ≡ false
-looked_up_leads size v table a = leads_if (is_extended a && ltb (first_entry table a) size) where
-  leads_if : (tested : Bool) → is_built (given v (cond tested (Want (record { kind = Read; address = first_entry table a; size = 8; value = 0 }) (λ x. Unbuilt)) Unbuilt)) ≡ false
-  leads_if true = refl
-  leads_if false = refl
-
-pub group_built : (size : ℕ) (t : CpuState) → is_built (group size t) ≡ is_begun size t
+pub group_built : (size : ℕ) (t : CpuState) → is_built (group size t) ≡ is_reached size t (mode_of t) (fetch_of t)
 unfolding group
-group_built size t =
-    both (in_kseg (pc_of t.state)) _ _ _ _ (reached_built size Fetch (pc_of t.state) INSTRUCTION_BYTES 0 (plan_of_word size t)) (looked_up_built size (ptbr_of t.state) (pc_of t.state)) where
-      both : (tested : Bool) (p q : Plan) (a b : Bool) → is_built p ≡ a → is_built q ≡ b → is_built (cond tested p q) ≡ cond tested a b
-      both true p q a b left right = left
-      both false p q a b left right = right
+group_built size t = reached_built size t (mode_of t) (fetch_of t) (plan_of_word size)
+
+-- what is refused does not hang on how many instructions were fetched, nor on the value that is stored
+pub count_beside : (size : ℕ) (t : CpuState) (i : Instr) → is_built (row size (with_fetch_counted t) i) ≡ is_built (row size t i)
+count_beside size t i = row_built size (with_fetch_counted t) i ∙ ap not (same_refused i) ∙ sym (row_built size t i) where
+  same_refused : (i : Instr) → is_refused size (with_fetch_counted t) i ≡ is_refused size t i
+  same_refused (instr.Memory op a b disp) = refl
+  same_refused (instr.Branch op a disp) = refl
+  same_refused (instr.Jump kind a b hint) = refl
+  same_refused (instr.Operate op a (operand.Reg n pad) c) = refl
+  same_refused (instr.Operate op a (operand.Literal v) c) = refl
+  same_refused (instr.Misc op a b) = refl
+  same_refused (instr.Pal op) = refl
+  same_refused (instr.Floating word) = refl
+  same_refused (instr.Reserved word) = refl

@@ -18,7 +18,7 @@ use Rattle.axp_cpu.proofs.KeepingLemmas.{Has, Keeps, along_keeps, group_keeps, w
 
 moved_has : (n : ℕ) (s : Seat) (vs : List ℕ) (p : Plan) → Has n s.start.state → Keeps n p → Has n (seat_at_plan s vs p).start.state
 moved_has n s vs (End t) has ends = ends
-moved_has n s vs (Want w k) has ends = has
+moved_has n s vs (Want t w k) has ends = has
 moved_has n s vs Unbuilt has ends = has
 
 stepped_has : (n : ℕ) (s : Seat) (v : ℕ) → Has n s.start.state → Has n (seat_after_value s v).start.state

@@ -1,120 +1,122 @@
 -- A processor stays at its seat, step by step.
-use Rattle.std.proofs.Common.{◌≡◌, ℕ, suc, Bool, true, false, cond, ◌+◌, ◌%◌, List, [], ◌∷◌, ◌++◌, Option, Some, None, rules, refl, sym, ap, ◌∙◌, subst, arith}
-use Rattle.axp_access.specs.Kinds.{is_fetch}
+use Rattle.std.proofs.Common.{◌≡◌, ℕ, Bool, true, false, ◌+◌, ◌%◌, ◌||◌, leb, List, [], ◌∷◌, ◌++◌, Option, Some, None, rules, refl, sym, ap, ◌∙◌, subst}
+use Rattle.std.specs.Prelude.{nat_lt, is_none, is_some}
 use Rattle.axp_access.specs.declared.Wanted.{Wanted}
+use Rattle.axp_base.specs.Lists.{is_empty}
 use Rattle.axp_image.specs.Contents.{Contents, IsValid}
-use Rattle.axp_cpu.specs.declared.phases.Phase.{Phase}
-use Rattle.axp_cpu.specs.declared.phases.Phase.TheVariants as phase
-use Rattle.axp_cpu.specs.declared.phases.Continuation.{Continuation}
+use Rattle.axp_regs.specs.States.{ps_of, locked_of, with_fetched}
+use Rattle.axp_cpu.specs.declared.phases.Stage.{Stage}
 use Rattle.axp_cpu.specs.declared.sequencers.Sequencer.{Sequencer}
 use Rattle.axp_cpu.specs.declared.cpu_states.CpuState.{CpuState}
-use Rattle.axp_cpu.specs.Phases.{Fits, PhaseFits, after, is_instruction, plan_of, table_after}
-use Rattle.axp_cpu.specs.Plans.{Plan, End, Want, given, along, fetch_of, fetches, is_built}
+use Rattle.axp_cpu.specs.Phases.{Fits, after}
+use Rattle.axp_cpu.specs.Plans.{Plan, End, Want, Unbuilt, given, along, is_built, table_in}
 use Rattle.axp_cpu.specs.Rows.{group}
-use Rattle.axp_cpu.specs.Seats.{Seat, intent_of, is_finished, wanted, first_seat, first_table, plan_is_built_after, seat_at_plan, plan_now, seat_after_value}
+use Rattle.axp_cpu.specs.Seats.{Seat, intent_of, is_built_after, is_finished, wanted, first_seat, first_table, plan_is_built_after, seat_at_plan, plan_now, seat_after_value}
 use Rattle.axp_cpu.specs.Soundness.{IsSound}
-use Rattle.axp_cpu.specs.Stands.{GoesOn, IsMakeable, Stands, plan_left}
-use Rattle.axp_cpu.specs.CpuStates.{with_fetch_counted, counted_by}
-use Rattle.axp_base.specs.Lists.{is_empty}
-use Rattle.axp_regs.specs.States.{ps_of, locked_of}
-use Rattle.std.specs.Prelude.{nat_lt, is_none}
+use Rattle.axp_cpu.specs.Stands.{HasSameRegisters, IsLed, IsMakeable, Stands, plan_left}
 use Rattle.axp_cpu.proofs.PlanLemmas.{group_sound, along_sound}
+use Rattle.axp_cpu.proofs.TableLemmas.{group_begins, registers_stay}
 
 never_empty : (vs : List ℕ) (v : ℕ) → is_empty (vs ++ v ∷ []) ≡ false
 never_empty [] v = refl
 never_empty (x ∷ vs) v = refl
 
--- the parts of a processor's state that its seat has
-pub intent_is : (p : Sequencer) (s : Seat) (finished boundary low armed : Bool) (o : Option Wanted) → Stands p s → finished ≡ is_finished s → boundary ≡ is_none p.making → low ≡ nat_lt (ps_of p.table.state % 8) 5 → armed ≡ locked_of p.table.state → o ≡ wanted s
-    → record { finished = finished; boundary = boundary; takes_interrupts = low; lock_flag = armed; wanted = o } ≡ intent_of s
-intent_is p s finished boundary low armed o stands is_f is_b is_l is_a is_w =
-    let ps : ps_of p.table.state ≡ ps_of s.start.state = ap (λ (t : CpuState). ps_of t.state) stands.table in
-    let flag : locked_of p.table.state ≡ locked_of s.start.state = ap (λ (t : CpuState). locked_of t.state) stands.table in
-    rw (is_f, is_b ∙ stands.boundary, is_l ∙ ap (λ n. nat_lt (n % 8) 5) ps, is_a ∙ flag, is_w) refl
-
 pub along-more : (vs : List ℕ) (v : ℕ) (p : Plan) → along (vs ++ v ∷ []) p ≡ given v (along vs p)
 along-more [] v p = refl
 along-more (x ∷ vs) v p = along-more vs v (given x p)
-
--- one more value is given: one more fetch is counted where the plan wanted one
-fetches-more : (vs : List ℕ) (v : ℕ) (p : Plan) → fetches (vs ++ v ∷ []) p ≡ fetch_of (along vs p) + fetches vs p
-fetches-more [] v p = refl
-fetches-more (x ∷ vs) v p = let more = fetches-more vs v (given x p) in omega (arith, more)
-
-counted-more : (fetch : Bool) (n : ℕ) (t : CpuState) → cond fetch (with_fetch_counted (counted_by n t)) (counted_by n t) ≡ counted_by (cond fetch 1 0 + n) t
-counted-more true n t = let more : suc n ≡ 1 + n = omega arith in ap (λ m. counted_by m t) more
-counted-more false n t = let same : n ≡ 0 + n = omega arith in ap (λ m. counted_by m t) same
-
--- a step that does not end the group leaves the table state of the seat after it
-table_stepped : (p : Sequencer) (s : Seat) (w : Wanted) (next : Continuation) (v : ℕ) (k : ℕ → Plan) → Stands p s → Want w k ≡ plan_now s → is_fetch w.kind ≡ is_instruction next → table_after next p.table ≡ counted_by (fetches (s.values ++ v ∷ []) (group s.size s.start)) s.start
-table_stepped p s w next v k stands wants fetch =
-    let n = fetches s.values (group s.size s.start) in
-    let one : fetch_of (plan_now s) ≡ cond (is_instruction next) 1 0 = ap fetch_of (sym wants) ∙ ap (λ b. cond b 1 0) fetch in
-    ap (table_after next) stands.table ∙ counted-more (is_instruction next) n s.start
-    ∙ ap (λ m. counted_by m s.start) (sym (fetches-more s.values v (group s.size s.start) ∙ ap (λ m. m + n) one))
 
 -- what a seat's group still has to do is sound
 pub seat_sound : (p : Sequencer) (s : Seat) → Stands p s → IsSound s.size (plan_now s)
 seat_sound p s stands = along_sound s.size s.values (group s.size s.start) (group_sound s.size s.start stands.pages stands.pc)
 
--- the processor after a step that led to a phase, over this table state
-abbrev pub moved_on : Sequencer → CpuState → Phase → Option Sequencer
-moved_on p t (phase.Wants w next) = Some (record { size = p.size; cpus = p.cpus; budget = p.budget; table = t; making = Some (w, next); steps = p.steps + 1 })
-moved_on p t (phase.Ends u) = Some (record { size = p.size; cpus = p.cpus; budget = p.budget; table = u; making = None; steps = p.steps + 1 })
-moved_on p t phase.NotBuilt = None
+-- what follows the value that the wanted access gave
+comes_to : (p : Sequencer) (s : Seat) (w : Wanted) (stage : Stage) (v : ℕ) → Stands p s → Want p.table w (after p.size p.table stage) ≡ plan_left p → after p.size p.table stage v ≡ along (s.values ++ v ∷ []) (group s.size s.start)
+comes_to p s w stage v stands left = ap (given v) (left ∙ stands.plan) ∙ sym (along-more s.values v (group s.size s.start))
 
--- a processor goes on to a phase as its seat does with the value
-pub goes_on : (p : Sequencer) (s : Seat) (w : Wanted) (next : Continuation) (v : ℕ) (t : CpuState) (ph : Phase) → Stands p s → Want w (after p.size p.table next) ≡ plan_left p → plan_of p.size t ph ≡ after p.size p.table next v → t ≡ table_after next p.table → is_fetch w.kind ≡ is_instruction next → PhaseFits ph
-    → GoesOn s v (moved_on p t ph)
-goes_on p s w next v t (phase.Wants w' next') stands left plan same fetch fits =
+-- a processor goes on to a phase as its seat does with the value: it wants another access,
+pub goes_on : (p : Sequencer) (s : Seat) (w w' : Wanted) (stage stage' : Stage) (v : ℕ) (t : CpuState) → Stands p s → Want p.table w (after p.size p.table stage) ≡ plan_left p → Want t w' (after p.size t stage') ≡ after p.size p.table stage v → Fits t w' stage'
+    → Stands (record { size = p.size; cpus = p.cpus; budget = p.budget; table = t; making = Some (w', stage'); steps = p.steps + 1 }) (seat_after_value s v)
+goes_on p s w w' stage stage' v t stands left plan fits =
     let vs = s.values ++ v ∷ [] in
-    let wants : Want w (after p.size p.table next) ≡ plan_now s = left ∙ stands.plan in
-    let comes : plan_of p.size t (phase.Wants w' next') ≡ along vs (group s.size s.start) = plan ∙ ap (given v) wants ∙ sym (along-more s.values v (group s.size s.start)) in
-    let there : seat_after_value s v ≡ record { size = s.size; cpus = s.cpus; budget = s.budget; start = s.start; values = vs; steps = s.steps + 1 } = ap (seat_at_plan s vs) (sym comes) in (
-      sym (ap (plan_is_built_after v) wants) ∙ sym (ap (λ q. is_built q) plan),
-      subst (λ (x : Seat). Stands (record { size = p.size; cpus = p.cpus; budget = p.budget; table = t; making = Some (w', next'); steps = p.steps + 1 }) x) (sym there) (record {
-        size = stands.size;
-        cpus = stands.cpus;
-        budget = stands.budget;
-        table = same ∙ table_stepped p s w next v (after p.size p.table next) stands wants fetch;
-        plan = comes;
-        fits = fits;
-        boundary = sym (never_empty s.values v);
-        steps = ap (λ n. n + 1) stands.steps;
-        pages = stands.pages;
-        most = stands.most;
-        pc = stands.pc;
-      }),
-    )
-goes_on p s w next v t (phase.Ends u) stands left plan same fetch fits =
+    let comes : Want t w' (after p.size t stage') ≡ along vs (group s.size s.start) = plan ∙ comes_to p s w stage v stands left in
+    let there : seat_after_value s v ≡ record { size = s.size; cpus = s.cpus; budget = s.budget; start = s.start; values = vs; steps = s.steps + 1 } = ap (seat_at_plan s vs) (sym comes) in
+    subst (λ (x : Seat). Stands (record { size = p.size; cpus = p.cpus; budget = p.budget; table = t; making = Some (w', stage'); steps = p.steps + 1 }) x) (sym there) (record {
+      size = stands.size;
+      cpus = stands.cpus;
+      budget = stands.budget;
+      table = ap (table_in s.start) comes;
+      plan = comes;
+      fits = fits;
+      boundary = sym (never_empty s.values v);
+      steps = ap (λ n. n + 1) stands.steps;
+      pages = stands.pages;
+      most = stands.most;
+      pc = stands.pc;
+    })
+
+-- or ends its group,
+pub goes_to_end : (p : Sequencer) (s : Seat) (w : Wanted) (stage : Stage) (v : ℕ) (u : CpuState) → Stands p s → Want p.table w (after p.size p.table stage) ≡ plan_left p → End u ≡ after p.size p.table stage v
+    → Stands (record { size = p.size; cpus = p.cpus; budget = p.budget; table = u; making = None; steps = p.steps + 1 }) (seat_after_value s v)
+goes_to_end p s w stage v u stands left plan =
     let vs = s.values ++ v ∷ [] in
-    let wants : Want w (after p.size p.table next) ≡ plan_now s = left ∙ stands.plan in
-    let comes : End u ≡ along vs (group s.size s.start) = plan ∙ ap (given v) wants ∙ sym (along-more s.values v (group s.size s.start)) in
+    let comes : End u ≡ along vs (group s.size s.start) = plan ∙ comes_to p s w stage v stands left in
     let there : seat_after_value s v ≡ record { size = s.size; cpus = s.cpus; budget = s.budget; start = u; values = []; steps = s.steps + 1 } = ap (seat_at_plan s vs) (sym comes) in
-    let sound : IsSound s.size (End u) = subst (IsSound s.size) (sym comes) (along_sound s.size vs (group s.size s.start) (group_sound s.size s.start stands.pages stands.pc)) in (
-      sym (ap (plan_is_built_after v) wants) ∙ sym (ap (λ q. is_built q) plan),
-      subst (λ (x : Seat). Stands (record { size = p.size; cpus = p.cpus; budget = p.budget; table = u; making = None; steps = p.steps + 1 }) x) (sym there) (record {
-        size = stands.size;
-        cpus = stands.cpus;
-        budget = stands.budget;
-        table = refl;
-        plan = ap (λ n. group n u) stands.size;
-        fits = tt;
-        boundary = refl;
-        steps = ap (λ n. n + 1) stands.steps;
-        pages = stands.pages;
-        most = stands.most;
-        pc = sound;
-      }),
-    )
-goes_on p s w next v t phase.NotBuilt stands left plan same fetch fits =
-    let wants : Want w (after p.size p.table next) ≡ plan_now s = left ∙ stands.plan in
-    sym (ap (plan_is_built_after v) wants) ∙ sym (ap (λ q. is_built q) plan)
+    let sound : IsSound s.size (End u) = subst (IsSound s.size) (sym comes) (along_sound s.size vs (group s.size s.start) (group_sound s.size s.start stands.pages stands.pc)) in
+    subst (λ (x : Seat). Stands (record { size = p.size; cpus = p.cpus; budget = p.budget; table = u; making = None; steps = p.steps + 1 }) x) (sym there) (record {
+      size = stands.size;
+      cpus = stands.cpus;
+      budget = stands.budget;
+      table = sym (group_begins s.size u);
+      plan = ap (λ n. group n u) stands.size;
+      fits = tt;
+      boundary = refl;
+      steps = ap (λ n. n + 1) stands.steps;
+      pages = stands.pages;
+      most = stands.most;
+      pc = sound;
+    })
+
+-- and never comes to what is not built
+pub built_after : (p : Sequencer) (s : Seat) (w : Wanted) (stage : Stage) (v : ℕ) → Stands p s → Want p.table w (after p.size p.table stage) ≡ plan_left p → is_built (after p.size p.table stage v) ≡ is_built_after s v
+built_after p s w stage v stands left = ap (plan_is_built_after v) (left ∙ stands.plan)
+
+pub never_unbuilt : (p : Sequencer) (v : ℕ) (w : Wanted) (stage : Stage) → IsLed p v → Want p.table w (after p.size p.table stage) ≡ plan_left p → Unbuilt ≡ after p.size p.table stage v → ⊥
+never_unbuilt p v w stage led left plan =
+    let never : false ≡ true = ap (λ q. is_built q) plan ∙ built_after p led.seat w stage v led.stands left ∙ led.built in cc
+
+-- a processor that is led on wants an access
+pub never_ends : (p : Sequencer) (v : ℕ) (u : CpuState) → IsLed p v → End u ≡ plan_left p → ⊥
+never_ends p v u led left = let never : false ≡ true = ap (plan_is_built_after v) (left ∙ led.stands.plan) ∙ led.built in cc
+
+pub never_unbuilt_yet : (p : Sequencer) (v : ℕ) → IsLed p v → Unbuilt ≡ plan_left p → ⊥
+never_unbuilt_yet p v led left = let never : false ≡ true = ap (plan_is_built_after v) (left ∙ led.stands.plan) ∙ led.built in cc
+
+-- the registers of the processor are its seat's, but for the count of fetched instructions
+pub has_registers : (p : Sequencer) (s : Seat) → Stands p s → HasSameRegisters s.start p.table
+has_registers p s stands = let same = registers_stay s in record { state = ap (λ (t : CpuState). with_fetched t.state 0) stands.table ∙ same.state; halted = ap (λ (t : CpuState). t.halted) stands.table ∙ same.halted }
+
+pub state_is : (p : Sequencer) (s : Seat) → Stands p s → with_fetched p.table.state 0 ≡ with_fetched s.start.state 0
+state_is p s stands = (has_registers p s stands).state
+
+pub halted_is : (p : Sequencer) (s : Seat) → Stands p s → p.table.halted ≡ s.start.halted
+halted_is p s stands = (has_registers p s stands).halted
+
+pub finished_is : (p : Sequencer) (s : Seat) → Stands p s → is_some p.table.halted || leb p.budget p.steps ≡ is_finished s
+finished_is p s stands = rw (halted_is p s stands, stands.budget, stands.steps) refl
+
+-- the parts of a processor's state that its seat has
+pub intent_is : (p : Sequencer) (s : Seat) (finished boundary low armed : Bool) (o : Option Wanted) → Stands p s → finished ≡ is_finished s → boundary ≡ is_none p.making → low ≡ nat_lt (ps_of p.table.state % 8) 5 → armed ≡ locked_of p.table.state → o ≡ wanted s
+    → record { finished = finished; boundary = boundary; takes_interrupts = low; lock_flag = armed; wanted = o } ≡ intent_of s
+intent_is p s finished boundary low armed o stands is_f is_b is_l is_a is_w =
+    let same = has_registers p s stands in
+    let ps : ps_of p.table.state ≡ ps_of s.start.state = ap ps_of same.state in
+    let flag : locked_of p.table.state ≡ locked_of s.start.state = ap locked_of same.state in
+    rw (is_f, is_b ∙ stands.boundary, is_l ∙ ap (λ n. nat_lt (n % 8) 5) ps, is_a ∙ flag, is_w) refl
 
 -- a wanted access can be made
-pub makeable : (p : Sequencer) (s : Seat) (w : Wanted) (next : Continuation) → Stands p s → Want w (after p.size p.table next) ≡ plan_left p → Fits w next → IsMakeable s.size w
-makeable p s w next stands left fits =
-    let sound : IsSound s.size (Want w (after p.size p.table next)) = subst (IsSound s.size) (sym (left ∙ stands.plan)) (seat_sound p s stands) in
+pub makeable : (p : Sequencer) (s : Seat) (w : Wanted) (stage : Stage) → Stands p s → Want p.table w (after p.size p.table stage) ≡ plan_left p → Fits p.table w stage → IsMakeable s.size w
+makeable p s w stage stands left fits =
+    let sound : IsSound s.size (Want p.table w (after p.size p.table stage)) = subst (IsSound s.size) (sym (left ∙ stands.plan)) (seat_sound p s stands) in
     record { inside = sound.0; small = fits.value }
 
 -- a processor at the start
@@ -124,7 +126,7 @@ first_stands image cpus budget n size t is first valid = record {
   size = is;
   cpus = refl;
   budget = refl;
-  table = first;
+  table = first ∙ sym (group_begins image.size (first_table image n));
   plan = ap (λ m. group m t) is ∙ ap (group image.size) first;
   fits = tt;
   boundary = refl;

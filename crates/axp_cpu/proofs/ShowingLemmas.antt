@@ -1,32 +1,48 @@
 -- A load, a store or a store-conditional goes on with what its access shows.
-use Rattle.std.proofs.Common.{◌≡◌, ◌≢◌, ℕ, ◌+◌, ◌%◌, ◌^◌, ◌<◌, Bool, true, false, cond, eqb, [], ◌∷◌, ◌++◌, length, Option, Some, None, IfSome, arith, refl, sym, ap, ◌∙◌, subst, get_or-set_other}
+use Rattle.std.proofs.Common.{◌≡◌, ◌≢◌, ℕ, ◌+◌, ◌%◌, ◌^◌, ◌<◌, Bool, true, false, cond, eqb, List, [], ◌∷◌, ◌++◌, length, Option, Some, None, IfSome, arith, refl, sym, ap, ◌∙◌, subst, rules, get_or-set_other}
 use Rattle.std.proofs.lemmas.Bool.{eqb-true}
 use Rattle.std.proofs.lemmas.List.{get_or-set_same}
 use Rattle.std.specs.Prelude.{IfNone}
 use Rattle.axp_access.specs.declared.Access.{Access}
 use Rattle.axp_access.specs.declared.Wanted.{Wanted}
-use Rattle.axp_base.specs.Sizes.{bytes_of}
+use Rattle.axp_base.specs.Sizes.{bytes_of, low_datum}
 use Rattle.axp_base.specs.declared.sizes.Size.{Size}
 use Rattle.axp_base.specs.declared.sizes.Size.TheVariants.{Byte, Word, Long, Quad}
+use Rattle.axp_bytes.specs.Rows as bytes
 use Rattle.axp_decode.specs.Format.{instr_of, ra_of}
+use Rattle.axp_decode.specs.Table.{operate_opcode}
+use Rattle.axp_decode.specs.declared.instructions.Instr.{Instr}
+use Rattle.axp_decode.specs.declared.instructions.Instr.TheVariants as instr
 use Rattle.axp_decode.specs.declared.instructions.Instr.TheVariants.{Memory}
+use Rattle.axp_decode.specs.declared.names.BranchOp.{BranchOp}
 use Rattle.axp_decode.specs.declared.names.MemOp.{MemOp}
 use Rattle.axp_decode.specs.declared.names.MemOp.TheVariants as memory
+use Rattle.axp_decode.specs.declared.names.MiscOp.{MiscOp}
+use Rattle.axp_decode.specs.declared.names.MiscOp.TheVariants as misc
+use Rattle.axp_decode.specs.declared.names.Op.{Op}
+use Rattle.axp_decode.specs.declared.names.PalOp.{PalOp}
+use Rattle.axp_decode.specs.declared.names.PalOp.TheVariants as pal
+use Rattle.axp_decode.specs.declared.numbers.TheConstants.{BYTE_OPCODE}
 use Rattle.axp_decode.proofs.Words.{stands_for}
-use Rattle.axp_regs.specs.States.{locked_of, pc_of, register, with_register}
+use Rattle.axp_integer.specs.Rows as integer
+use Rattle.axp_regs.specs.States.{fetched_of, locked_of, pc_of, register, with_fetched, with_register}
+use Rattle.axp_base.specs.Numbers.{add}
+use Rattle.axp_image.specs.declared.limits.TheConstants.{INSTRUCTION_BYTES}
+use Rattle.axp_regs.specs.declared.asks.Ask.{Ask}
 use Rattle.axp_regs.specs.declared.asks.Kind.{Kind}
-use Rattle.axp_regs.specs.declared.asks.Kind.TheVariants.{Read, Write, Locked, Conditional}
+use Rattle.axp_regs.specs.declared.asks.Kind.TheVariants.{Fetch, Read, Write, Locked, Conditional}
 use Rattle.axp_regs.specs.declared.states.State.{State}
 use Rattle.axp_regs.specs.declared.states.TheConstants.{REGISTERS, ZERO_REGISTER}
 use Rattle.axp_cpu.specs.declared.cpu_states.CpuState.{CpuState}
-use Rattle.axp_cpu.specs.Addresses.{aligned_plan}
+use Rattle.axp_cpu.specs.CpuStates.{at_pc, mode_of, with_fetch_counted, with_lock_flag, next_pc, with_value}
 use Rattle.axp_cpu.specs.Following.{value_by, value_shown}
 use Rattle.axp_cpu.specs.Plans.{Plan, End, Want, Unbuilt, along, given}
-use Rattle.axp_cpu.specs.Rows.{address_of, as_longword, as_read, next_plan, plan_of_word, group, load_plan, memory_row, quadword_at, row}
+use Rattle.axp_cpu.specs.Rows.{address_of, as_longword, as_longword_with, as_made, as_read, as_read_with, branch_row, datum_plan, fetch_of, next_plan, plan_of_word, group, load_plan, memory_row, misc_row, operand, operate_row, pal_row, quadword_at, register_plan, row, virtual_ask}
 use Rattle.axp_cpu.specs.Seats.{Seat, is_finished, seat_at_plan, plan_now, wanted_by}
 use Rattle.axp_cpu.specs.Showing.{IsAccessOf, lock_flag, register_value, seat_shown}
-use Rattle.axp_cpu.specs.CpuStates.{at_pc, with_fetch_counted, with_lock_flag, next_pc, with_value}
+use Rattle.axp_cpu.specs.Soundness.{IsEnd}
 use Rattle.axp_cpu.proofs.ActorLemmas.{wanted_parts}
+use Rattle.axp_cpu.proofs.ReachLemmas.{Carries, HasKept, aligned_carries, either, reach_carries}
 use Rattle.axp_cpu.proofs.SeatLemmas.{along-more}
 
 -- the table state that the access leaves
@@ -37,76 +53,237 @@ given_to a (Some v) t = with_value t a v
 abbrev pub table_shown : CpuState → MemOp → ℕ → Access → CpuState
 table_shown t op a x = at_pc (given_to a (register_value op x) (with_lock_flag t (lock_flag op (locked_of t.state)))) (next_pc t)
 
--- an access that is wanted is the one behind the tests, and its value leads on
-tested : (c b : Bool) (w y : Wanted) (k : ℕ → Plan) (v : ℕ) → wanted_by (cond c (cond b (Want y k) Unbuilt) Unbuilt) ≡ Some w → (y ≡ w) × (given v (cond c (cond b (Want y k) Unbuilt) Unbuilt) ≡ k v)
-tested true true w y k v wants = let same : y ≡ w = cc in (same, refl)
-tested true false w y k v wants = cc
-tested false b w y k v wants = cc
+along_unbuilt : (vs : List ℕ) → along vs Unbuilt ≡ Unbuilt
+along_unbuilt [] = refl
+along_unbuilt (v ∷ vs) = along_unbuilt vs
 
-aligned_shown : (size : ℕ) (kind : Kind) (address bytes value : ℕ) (k : ℕ → Plan) (w : Wanted) (x : Access) → wanted_by (aligned_plan size kind address bytes value k) ≡ Some w → x.kind ≡ w.kind
-    → given (value_shown x) (aligned_plan size kind address bytes value k) ≡ k (value_by kind x)
-aligned_shown size kind address bytes value k w x wants same =
-    let leads = tested _ _ w _ k (value_shown x) wants in
-    let is : x.kind ≡ kind = same ∙ ap (λ (y : Wanted). y.kind) (sym leads.0) in
-    leads.1 ∙ ap (λ z. k (value_by z x)) is
+along_end : (vs : List ℕ) (p : Plan) → IsEnd p → along vs p ≡ p
+along_end [] p is = refl
+along_end (v ∷ vs) (End t) is = along_end vs (End t) tt
+along_end (v ∷ vs) (Want t w k) is = absurd is
+along_end (v ∷ vs) Unbuilt is = absurd is
 
-loaded_by : (zero : Bool) (t : CpuState) (p : Plan) (w : Wanted) → wanted_by (cond zero (next_plan t) p) ≡ Some w → (wanted_by p ≡ Some w) × (cond zero (next_plan t) p ≡ p)
-loaded_by true t p w wants = cc
-loaded_by false t p w wants = (wants, refl)
+end_wants : (p : Plan) (w : Wanted) → IsEnd p → wanted_by p ≡ Some w → ⊥
+end_wants (End t) w is wants = cc
+end_wants (Want t w' k) w is wants = absurd is
+end_wants Unbuilt w is wants = absurd is
 
-loaded_shown : (size : ℕ) (t : CpuState) (what : Size) (a address : ℕ) (k : ℕ → Plan) (w : Wanted) (x : Access) → wanted_by (load_plan size t what a address k) ≡ Some w → x.kind ≡ w.kind → given (value_shown x) (load_plan size t what a address k) ≡ k x.value
-loaded_shown size t what a address k w x wants same =
-    let made = loaded_by (eqb a ZERO_REGISTER) t (aligned_plan size Read address (bytes_of what) 0 k) w wants in
-    ap (given (value_shown x)) made.1 ∙ aligned_shown size Read address (bytes_of what) 0 k w x made.0 same
+some_kind : (y w : Wanted) → Some y ≡ Some w → y.kind ≡ w.kind
+some_kind y w e = let same : y ≡ w = cc in ap (λ (z : Wanted). z.kind) same
 
-row_shown : (size : ℕ) (t : CpuState) (op : MemOp) (a base disp : ℕ) (w : Wanted) (x : Access) → wanted_by (memory_row size t op a base disp) ≡ Some w → x.kind ≡ w.kind → given (value_shown x) (memory_row size t op a base disp) ≡ End (table_shown t op a x)
-row_shown size t memory.LDA a base disp w x wants same = cc
-row_shown size t memory.LDAH a base disp w x wants same = cc
-row_shown size t memory.LDBU a base disp w x wants same = loaded_shown size t Byte a (address_of base disp) (as_read t a) w x wants same
-row_shown size t memory.LDWU a base disp w x wants same = loaded_shown size t Word a (address_of base disp) (as_read t a) w x wants same
-row_shown size t memory.LDL a base disp w x wants same = loaded_shown size t Long a (address_of base disp) (as_longword t a) w x wants same
-row_shown size t memory.LDQ a base disp w x wants same = loaded_shown size t Quad a (address_of base disp) (as_read t a) w x wants same
-row_shown size t memory.LDQ_U a base disp w x wants same = loaded_shown size t Quad a (quadword_at (address_of base disp)) (as_read t a) w x wants same
-row_shown size t memory.LDL_L a base disp w x wants same = aligned_shown size Locked (address_of base disp) 4 0 (as_longword (with_lock_flag t true) a) w x wants same
-row_shown size t memory.LDQ_L a base disp w x wants same = aligned_shown size Locked (address_of base disp) 8 0 (as_read (with_lock_flag t true) a) w x wants same
-row_shown size t memory.STB a base disp w x wants same = aligned_shown size Write (address_of base disp) 1 _ (λ v. next_plan t) w x wants same
-row_shown size t memory.STW a base disp w x wants same = aligned_shown size Write (address_of base disp) 2 _ (λ v. next_plan t) w x wants same
-row_shown size t memory.STL a base disp w x wants same = aligned_shown size Write (address_of base disp) 4 _ (λ v. next_plan t) w x wants same
-row_shown size t memory.STQ a base disp w x wants same = aligned_shown size Write (address_of base disp) 8 _ (λ v. next_plan t) w x wants same
-row_shown size t memory.STQ_U a base disp w x wants same = aligned_shown size Write (quadword_at (address_of base disp)) 8 _ (λ v. next_plan t) w x wants same
-row_shown size t memory.STL_C a base disp w x wants same = aligned_shown size Conditional (address_of base disp) 4 _ (as_read (with_lock_flag t false) a) w x wants same
-row_shown size t memory.STQ_C a base disp w x wants same = aligned_shown size Conditional (address_of base disp) 8 _ (as_read (with_lock_flag t false) a) w x wants same
+-- no row wants a fetch
+abbrev FetchesNone : Plan → Type 0
+FetchesNone (End t) = Unit {0}
+FetchesNone (Want t w k) = (w.kind ≡ Fetch → ⊥) × ((v : ℕ) → FetchesNone (k v))
+FetchesNone Unbuilt = Unit {0}
 
--- what follows the word that a group fetched; a look-up leads to nothing that is wanted
-fetched_by : (kseg b c : Bool) (y z w : Wanted) (k : ℕ → Plan) (v : ℕ) → wanted_by (given v (cond kseg (cond b (Want y k) Unbuilt) (cond c (Want z (λ v. Unbuilt)) Unbuilt))) ≡ Some w
-    → given v (cond kseg (cond b (Want y k) Unbuilt) (cond c (Want z (λ v. Unbuilt)) Unbuilt)) ≡ k v
-fetched_by true true c y z w k v wants = refl
-fetched_by true false c y z w k v wants = cc
-fetched_by false b true y z w k v wants = cc
-fetched_by false b false y z w k v wants = cc
+end_fetches_none : (p : Plan) → IsEnd p → FetchesNone p
+end_fetches_none (End t) is = tt
+end_fetches_none (Want t w k) is = absurd is
+end_fetches_none Unbuilt is = tt
 
-group_fetched : (size : ℕ) (t : CpuState) (word : ℕ) (w : Wanted) → wanted_by (given word (group size t)) ≡ Some w → given word (group size t) ≡ plan_of_word size t word
-unfolding group
-group_fetched size t word w wants = fetched_by _ _ _ _ _ w (plan_of_word size t) word wants
+datum_fetches_none : (size : ℕ) (t : CpuState) (kind : Kind) (what : Size) (address value : ℕ) (k : CpuState → ℕ → Plan) → (kind ≡ Fetch → ⊥) → ((y : CpuState) (v : ℕ) → IsEnd (k y v)) → FetchesNone (datum_plan size t kind what address value k)
+datum_fetches_none size t kind what address value k other ends =
+    aligned_carries FetchesNone size t (mode_of t) (virtual_ask kind address (bytes_of what) value) k (λ _. record {
+      unbuilt = tt;
+      entry = λ near below whole next follows. ((λ is. cc), follows);
+      access = λ u kept near below alike. (other, λ v. end_fetches_none (k u v) (ends u v));
+    }) tt
 
-memory_fetched : (size : ℕ) (t : CpuState) (word : ℕ) (op : MemOp) (a b disp : ℕ) → instr_of (word % 2 ^ 32) ≡ Memory op a b disp → plan_of_word size t word ≡ memory_row size (with_fetch_counted t) op a (register t.state b) disp
+loaded_fetches_none : (size : ℕ) (t : CpuState) (what : Size) (a address : ℕ) (k : CpuState → ℕ → Plan) → ((y : CpuState) (v : ℕ) → IsEnd (k y v)) → FetchesNone (load_plan size t what a address k)
+loaded_fetches_none size t what a address k ends =
+    either FetchesNone (eqb a ZERO_REGISTER) (next_plan t) _ (λ _. tt) (λ _. datum_fetches_none size t Read what address 0 k (λ is. cc) ends)
+
+memory_fetches_none : (size : ℕ) (t : CpuState) (op : MemOp) (a base disp : ℕ) → FetchesNone (memory_row size t op a base disp)
+memory_fetches_none size t memory.LDA a base disp = tt
+memory_fetches_none size t memory.LDAH a base disp = tt
+memory_fetches_none size t memory.LDBU a base disp = loaded_fetches_none size t Byte a (address_of base disp) (as_read a) (λ y v. tt)
+memory_fetches_none size t memory.LDWU a base disp = loaded_fetches_none size t Word a (address_of base disp) (as_read a) (λ y v. tt)
+memory_fetches_none size t memory.LDL a base disp = loaded_fetches_none size t Long a (address_of base disp) (as_longword a) (λ y v. tt)
+memory_fetches_none size t memory.LDQ a base disp = loaded_fetches_none size t Quad a (address_of base disp) (as_read a) (λ y v. tt)
+memory_fetches_none size t memory.LDQ_U a base disp = loaded_fetches_none size t Quad a (quadword_at (address_of base disp)) (as_read a) (λ y v. tt)
+memory_fetches_none size t memory.LDL_L a base disp = datum_fetches_none size t Locked Long (address_of base disp) 0 (as_longword_with true a) (λ is. cc) (λ y v. tt)
+memory_fetches_none size t memory.LDQ_L a base disp = datum_fetches_none size t Locked Quad (address_of base disp) 0 (as_read_with true a) (λ is. cc) (λ y v. tt)
+memory_fetches_none size t memory.STB a base disp = datum_fetches_none size t Write Byte (address_of base disp) (low_datum Byte (register t.state a)) as_made (λ is. cc) (λ y v. tt)
+memory_fetches_none size t memory.STW a base disp = datum_fetches_none size t Write Word (address_of base disp) (low_datum Word (register t.state a)) as_made (λ is. cc) (λ y v. tt)
+memory_fetches_none size t memory.STL a base disp = datum_fetches_none size t Write Long (address_of base disp) (low_datum Long (register t.state a)) as_made (λ is. cc) (λ y v. tt)
+memory_fetches_none size t memory.STQ a base disp = datum_fetches_none size t Write Quad (address_of base disp) (low_datum Quad (register t.state a)) as_made (λ is. cc) (λ y v. tt)
+memory_fetches_none size t memory.STQ_U a base disp = datum_fetches_none size t Write Quad (quadword_at (address_of base disp)) (low_datum Quad (register t.state a)) as_made (λ is. cc) (λ y v. tt)
+memory_fetches_none size t memory.STL_C a base disp = datum_fetches_none size t Conditional Long (address_of base disp) (low_datum Long (register t.state a)) (as_read_with false a) (λ is. cc) (λ y v. tt)
+memory_fetches_none size t memory.STQ_C a base disp = datum_fetches_none size t Conditional Quad (address_of base disp) (low_datum Quad (register t.state a)) (as_read_with false a) (λ is. cc) (λ y v. tt)
+
+operate_fetches_none : (t : CpuState) (op : Op) (a b c : ℕ) → FetchesNone (operate_row t op a b c)
+operate_fetches_none t op a b c =
+    either FetchesNone (eqb (operate_opcode op) BYTE_OPCODE) (register_plan t c (bytes.value_of op a b)) _ (λ _. tt)
+    (λ _. either FetchesNone (integer.overflow_of op a b) Unbuilt (register_plan t c (integer.value_of op a b (register t.state c))) (λ _. tt) (λ _. tt))
+
+branch_fetches_none : (t : CpuState) (op : BranchOp) (a disp : ℕ) → FetchesNone (branch_row t op a disp)
+branch_fetches_none t op a disp = search rules
+
+misc_fetches_none : (t : CpuState) (op : MiscOp) (a : ℕ) → FetchesNone (misc_row t op a)
+misc_fetches_none t misc.MB a = ((λ is. cc), λ v. tt)
+misc_fetches_none t misc.WMB a = ((λ is. cc), λ v. tt)
+misc_fetches_none t op a = search rules
+
+pal_fetches_none : (t : CpuState) (op : PalOp) → FetchesNone (pal_row t op)
+pal_fetches_none t pal.IMB = ((λ is. cc), λ v. tt)
+pal_fetches_none t op = search rules
+
+row_fetches_none : (size : ℕ) (t : CpuState) (i : Instr) → FetchesNone (row size t i)
 unfolding row
-memory_fetched size t word op a b disp is = ap (row size (with_fetch_counted t)) is
+row_fetches_none size t (instr.Memory op a b disp) = memory_fetches_none size t op a (register t.state b) disp
+row_fetches_none size t (instr.Branch op a disp) = branch_fetches_none t op a disp
+row_fetches_none size t (instr.Jump kind a b hint) = tt
+row_fetches_none size t (instr.Operate op a b c) = operate_fetches_none t op (register t.state a) (operand t b) c
+row_fetches_none size t (instr.Misc op a b) = misc_fetches_none t op a
+row_fetches_none size t (instr.Pal op) = pal_fetches_none t op
+row_fetches_none size t (instr.Floating word) = tt
+row_fetches_none size t (instr.Reserved word) = tt
 
--- the seat after it
-pub goes_on_shown : (s : Seat) (op : MemOp) (a : ℕ) (x : Access) → IsAccessOf s op a x
-    → seat_shown s x ≡ record { size = s.size; cpus = s.cpus; budget = s.budget; start = table_shown (with_fetch_counted s.start) op a x; values = []; steps = s.steps + 1 }
+given_fetches_none : (v : ℕ) (p : Plan) → FetchesNone p → FetchesNone (given v p)
+given_fetches_none v (End t) none = tt
+given_fetches_none v (Want t w k) none = none.1 v
+given_fetches_none v Unbuilt none = tt
+
+along_fetches_none : (vs : List ℕ) (p : Plan) → FetchesNone p → FetchesNone (along vs p)
+along_fetches_none [] p none = none
+along_fetches_none (v ∷ vs) p none = along_fetches_none vs (given v p) (given_fetches_none v p none)
+
+never_fetched : (p : Plan) (f : Wanted) → FetchesNone p → wanted_by p ≡ Some f → f.kind ≡ Fetch → ⊥
+never_fetched (End t) f none wants is = cc
+never_fetched (Want t w k) f none wants is = let same : w ≡ f = cc in none.0 (ap (λ (x : Wanted). x.kind) same ∙ is)
+never_fetched Unbuilt f none wants is = cc
+
+-- behind the values that led to the fetch, and its word, stands what follows the word
+record GoesBehind (t : CpuState) (k : CpuState → ℕ → Plan) (word : ℕ) (later : List ℕ) (p : Plan) : Type 0 where
+  table : CpuState
+  kept : HasKept t table
+  plan : p ≡ along later (k table word)
+
+fetched_behind : (size : ℕ) (t : CpuState) (word : ℕ) (later es : List ℕ) (f : Wanted) → wanted_by (along es (group size t)) ≡ Some f → f.kind ≡ Fetch → GoesBehind t (plan_of_word size) word later (along (es ++ word ∷ later) (group size t))
+unfolding group
+fetched_behind size t word later es f wants is =
+    reach_carries (λ p. (es : List ℕ) → wanted_by (along es p) ≡ Some f → GoesBehind t (plan_of_word size) word later (along (es ++ word ∷ later) p))
+    size t (mode_of t) (fetch_of t) (plan_of_word size) (record {
+      unbuilt = λ es wants. let none : None ≡ Some f = ap wanted_by (sym (along_unbuilt es)) ∙ wants in cc;
+      entry = λ near below whole next behind es wants. entry_by near next behind es wants;
+      access = λ u kept near below alike es wants. access_by u kept _ es wants;
+    }) es wants where
+      entry_by : (near : ℕ) (next : ℕ → Plan) → ((v : ℕ) (es : List ℕ) → wanted_by (along es (next v)) ≡ Some f → GoesBehind t (plan_of_word size) word later (along (es ++ word ∷ later) (next v))) → (es : List ℕ)
+          → wanted_by (along es (Want t (record { kind = Read; address = near; size = 8; value = 0 }) next)) ≡ Some f → GoesBehind t (plan_of_word size) word later (along (es ++ word ∷ later) (Want t (record { kind = Read; address = near; size = 8; value = 0 }) next))
+      entry_by near next behind [] wants = let same : Read ≡ Fetch = some_kind (record { kind = Read; address = near; size = 8; value = 0 }) f wants ∙ is in cc
+      entry_by near next behind (v ∷ es) wants = behind v es wants
+
+      access_by : (u : CpuState) → HasKept t u → (w : Wanted) (es : List ℕ) → wanted_by (along es (Want u w (plan_of_word size u))) ≡ Some f → GoesBehind t (plan_of_word size) word later (along (es ++ word ∷ later) (Want u w (plan_of_word size u)))
+      access_by u kept w [] wants = record { table = u; kept = kept; plan = refl }
+      access_by u kept w (v ∷ es) wants =
+          absurd (never_fetched (along es (plan_of_word size u v)) f (along_fetches_none es (plan_of_word size u v) (row_fetches_none size (with_fetch_counted u) (instr_of (v % 2 ^ 32)))) wants is)
+
+-- the access that ends its group leads on by the value that it shows
+record EndsIn (t : CpuState) (k : CpuState → ℕ → Plan) (v : ℕ) (p : Plan) : Type 0 where
+  table : CpuState
+  kept : HasKept t table
+  plan : p ≡ k table v
+
+-- a plan to reach an access is never an end, and its last access gives this value
+record LastGives (t : CpuState) (k : CpuState → ℕ → Plan) (kind : Kind) (w : Wanted) (x : Access) (p : Plan) : Type 0 where
+  begun : IsEnd p → ⊥
+  last : (es : List ℕ) → wanted_by (along es p) ≡ Some w → ((v : ℕ) → IsEnd (given v (along es p))) → EndsIn t k (value_by kind x) (given (value_shown x) (along es p))
+
+datum_shown : (size : ℕ) (t : CpuState) (kind : Kind) (what : Size) (address value : ℕ) (k : CpuState → ℕ → Plan) (es : List ℕ) (w : Wanted) (x : Access) → ((y : CpuState) (v : ℕ) → IsEnd (k y v))
+    → wanted_by (along es (datum_plan size t kind what address value k)) ≡ Some w → x.kind ≡ w.kind → ((v : ℕ) → IsEnd (given v (along es (datum_plan size t kind what address value k))))
+    → EndsIn t k (value_by kind x) (given (value_shown x) (along es (datum_plan size t kind what address value k)))
+datum_shown size t kind what address value k es w x ends wants same last =
+    (aligned_carries (LastGives t k kind w x) size t (mode_of t) (virtual_ask kind address (bytes_of what) value) k (λ _. record {
+      unbuilt = unbuilt_gives;
+      entry = λ near below whole next follows. record { begun = λ is. is; last = entry_gives near next follows };
+      access = λ u kept near below alike. record { begun = λ is. is; last = access_gives u kept near };
+    }) unbuilt_gives).last es wants last where
+      unbuilt_gives : LastGives t k kind w x Unbuilt
+      unbuilt_gives = record { begun = λ is. is; last = λ es wants last. let none : None ≡ Some w = ap wanted_by (sym (along_unbuilt es)) ∙ wants in cc }
+
+      entry_gives : (near : ℕ) (next : ℕ → Plan) → ((v : ℕ) → LastGives t k kind w x (next v)) → (es : List ℕ) → wanted_by (along es (Want t (record { kind = Read; address = near; size = 8; value = 0 }) next)) ≡ Some w
+          → ((v : ℕ) → IsEnd (given v (along es (Want t (record { kind = Read; address = near; size = 8; value = 0 }) next)))) → EndsIn t k (value_by kind x) (given (value_shown x) (along es (Want t (record { kind = Read; address = near; size = 8; value = 0 }) next)))
+      entry_gives near next follows [] wants last = absurd ((follows 0).begun (last 0))
+      entry_gives near next follows (v ∷ es) wants last = (follows v).last es wants last
+
+      access_gives : (u : CpuState) → HasKept t u → (near : ℕ) (es : List ℕ) → wanted_by (along es (Want u (record { kind = kind; address = near; size = bytes_of what; value = value }) (k u))) ≡ Some w
+          → ((v : ℕ) → IsEnd (given v (along es (Want u (record { kind = kind; address = near; size = bytes_of what; value = value }) (k u))))) → EndsIn t k (value_by kind x) (given (value_shown x) (along es (Want u (record { kind = kind; address = near; size = bytes_of what; value = value }) (k u))))
+      access_gives u kept near [] wants last =
+          let is : kind ≡ w.kind = some_kind (record { kind = kind; address = near; size = bytes_of what; value = value }) w wants in
+          record { table = u; kept = kept; plan = ap (λ z. k u (value_by z x)) (same ∙ sym is) }
+      access_gives u kept near (v ∷ es) wants last = absurd (end_wants (k u v) w (ends u v) (ap wanted_by (sym (along_end es (k u v) (ends u v))) ∙ wants))
+
+loaded_by : (zero : Bool) (t : CpuState) (p : Plan) (es : List ℕ) (w : Wanted) → wanted_by (along es (cond zero (next_plan t) p)) ≡ Some w → cond zero (next_plan t) p ≡ p
+loaded_by true t p es w wants = absurd (end_wants (next_plan t) w tt (ap wanted_by (sym (along_end es (next_plan t) tt)) ∙ wants))
+loaded_by false t p es w wants = refl
+
+loaded_shown : (size : ℕ) (t : CpuState) (what : Size) (a address : ℕ) (k : CpuState → ℕ → Plan) (es : List ℕ) (w : Wanted) (x : Access) → ((y : CpuState) (v : ℕ) → IsEnd (k y v)) → wanted_by (along es (load_plan size t what a address k)) ≡ Some w → x.kind ≡ w.kind
+    → ((v : ℕ) → IsEnd (given v (along es (load_plan size t what a address k)))) → EndsIn t k x.value (given (value_shown x) (along es (load_plan size t what a address k)))
+loaded_shown size t what a address k es w x ends wants same last =
+    let is = loaded_by (eqb a ZERO_REGISTER) t (datum_plan size t Read what address 0 k) es w wants in
+    let made = datum_shown size t Read what address 0 k es w x ends (subst (λ p. wanted_by (along es p) ≡ Some w) is wants) same (subst (λ p. (v : ℕ) → IsEnd (given v (along es p))) is last) in
+    record { table = made.table; kept = made.kept; plan = ap (λ p. given (value_shown x) (along es p)) is ∙ made.plan }
+
+-- what the instruction's end makes of the table state
+abbrev end_shown : MemOp → ℕ → Access → CpuState → ℕ → Plan
+end_shown op a x t v = End (table_shown t op a x)
+
+row_shown : (size : ℕ) (t : CpuState) (op : MemOp) (a base disp : ℕ) (es : List ℕ) (w : Wanted) (x : Access) → wanted_by (along es (memory_row size t op a base disp)) ≡ Some w → x.kind ≡ w.kind → ((v : ℕ) → IsEnd (given v (along es (memory_row size t op a base disp))))
+    → EndsIn t (end_shown op a x) 0 (given (value_shown x) (along es (memory_row size t op a base disp)))
+row_shown size t memory.LDA a base disp es w x wants same last = absurd (end_wants (memory_row size t memory.LDA a base disp) w tt (ap wanted_by (sym (along_end es (memory_row size t memory.LDA a base disp) tt)) ∙ wants))
+row_shown size t memory.LDAH a base disp es w x wants same last = absurd (end_wants (memory_row size t memory.LDAH a base disp) w tt (ap wanted_by (sym (along_end es (memory_row size t memory.LDAH a base disp) tt)) ∙ wants))
+row_shown size t memory.LDBU a base disp es w x wants same last =
+    let made = loaded_shown size t Byte a (address_of base disp) (as_read a) es w x (λ y v. tt) wants same last in record { table = made.table; kept = made.kept; plan = made.plan }
+row_shown size t memory.LDWU a base disp es w x wants same last =
+    let made = loaded_shown size t Word a (address_of base disp) (as_read a) es w x (λ y v. tt) wants same last in record { table = made.table; kept = made.kept; plan = made.plan }
+row_shown size t memory.LDL a base disp es w x wants same last =
+    let made = loaded_shown size t Long a (address_of base disp) (as_longword a) es w x (λ y v. tt) wants same last in record { table = made.table; kept = made.kept; plan = made.plan }
+row_shown size t memory.LDQ a base disp es w x wants same last =
+    let made = loaded_shown size t Quad a (address_of base disp) (as_read a) es w x (λ y v. tt) wants same last in record { table = made.table; kept = made.kept; plan = made.plan }
+row_shown size t memory.LDQ_U a base disp es w x wants same last =
+    let made = loaded_shown size t Quad a (quadword_at (address_of base disp)) (as_read a) es w x (λ y v. tt) wants same last in record { table = made.table; kept = made.kept; plan = made.plan }
+row_shown size t memory.LDL_L a base disp es w x wants same last =
+    let made = datum_shown size t Locked Long (address_of base disp) 0 (as_longword_with true a) es w x (λ y v. tt) wants same last in record { table = made.table; kept = made.kept; plan = made.plan }
+row_shown size t memory.LDQ_L a base disp es w x wants same last =
+    let made = datum_shown size t Locked Quad (address_of base disp) 0 (as_read_with true a) es w x (λ y v. tt) wants same last in record { table = made.table; kept = made.kept; plan = made.plan }
+row_shown size t memory.STB a base disp es w x wants same last =
+    let made = datum_shown size t Write Byte (address_of base disp) (low_datum Byte (register t.state a)) as_made es w x (λ y v. tt) wants same last in record { table = made.table; kept = made.kept; plan = made.plan }
+row_shown size t memory.STW a base disp es w x wants same last =
+    let made = datum_shown size t Write Word (address_of base disp) (low_datum Word (register t.state a)) as_made es w x (λ y v. tt) wants same last in record { table = made.table; kept = made.kept; plan = made.plan }
+row_shown size t memory.STL a base disp es w x wants same last =
+    let made = datum_shown size t Write Long (address_of base disp) (low_datum Long (register t.state a)) as_made es w x (λ y v. tt) wants same last in record { table = made.table; kept = made.kept; plan = made.plan }
+row_shown size t memory.STQ a base disp es w x wants same last =
+    let made = datum_shown size t Write Quad (address_of base disp) (low_datum Quad (register t.state a)) as_made es w x (λ y v. tt) wants same last in record { table = made.table; kept = made.kept; plan = made.plan }
+row_shown size t memory.STQ_U a base disp es w x wants same last =
+    let made = datum_shown size t Write Quad (quadword_at (address_of base disp)) (low_datum Quad (register t.state a)) as_made es w x (λ y v. tt) wants same last in record { table = made.table; kept = made.kept; plan = made.plan }
+row_shown size t memory.STL_C a base disp es w x wants same last =
+    let made = datum_shown size t Conditional Long (address_of base disp) (low_datum Long (register t.state a)) (as_read_with false a) es w x (λ y v. tt) wants same last in record { table = made.table; kept = made.kept; plan = made.plan }
+row_shown size t memory.STQ_C a base disp es w x wants same last =
+    let made = datum_shown size t Conditional Quad (address_of base disp) (low_datum Quad (register t.state a)) (as_read_with false a) es w x (λ y v. tt) wants same last in record { table = made.table; kept = made.kept; plan = made.plan }
+
+-- the seat after it: the table state has the registers of the start, with the fetch counted
+record ShownAfter (s : Seat) (op : MemOp) (a : ℕ) (x : Access) : Type 0 where
+  table : CpuState
+  registers : table.state ≡ (with_fetch_counted s.start).state
+  seat : seat_shown s x ≡ record { size = s.size; cpus = s.cpus; budget = s.budget; start = table_shown table op a x; values = []; steps = s.steps + 1 }
+
+goes_on_shown : (s : Seat) (op : MemOp) (a : ℕ) (x : Access) → IsAccessOf s op a x → ShownAfter s op a x
+unfolding row
 goes_on_shown s op a x is =
     let v : ℕ = value_shown x in
     let wants : wanted_by (plan_now s) ≡ Some is.access = (wanted_parts s is.access (is_finished s) refl is.wants).1 in
-    let at : plan_now s ≡ given is.word (group s.size s.start) = ap (λ vs. along vs (group s.size s.start)) is.fetched in
-    let row_at : plan_now s ≡ memory_row s.size (with_fetch_counted s.start) op a (register s.start.state is.base) is.displacement = at
-    ∙ group_fetched s.size s.start is.word is.access (subst (λ (p : Plan). wanted_by p ≡ Some is.access) at wants)
-    ∙ memory_fetched s.size s.start is.word op a is.base is.displacement is.stands_for in
-    let ends : along (s.values ++ v ∷ []) (group s.size s.start) ≡ End (table_shown (with_fetch_counted s.start) op a x) = along-more s.values v (group s.size s.start)
-    ∙ ap (given v) row_at
-    ∙ row_shown s.size (with_fetch_counted s.start) op a (register s.start.state is.base) is.displacement is.access x (subst (λ (p : Plan). wanted_by p ≡ Some is.access) row_at wants) is.kind in
-    ap (seat_at_plan s (s.values ++ v ∷ [])) ends
+    let behind = fetched_behind s.size s.start is.word is.later_entries is.entries is.fetch is.fetches is.fetched in
+    let u = with_fetch_counted behind.table in
+    let base = register u.state is.base in
+    let at : plan_now s ≡ along is.later_entries (memory_row s.size u op a base is.displacement) = ap (λ vs. along vs (group s.size s.start)) is.values ∙ behind.plan ∙ ap (λ i. along is.later_entries (row s.size u i)) is.stands_for in
+    let made = row_shown s.size u op a base is.displacement is.later_entries is.access x (subst (λ (p : Plan). wanted_by p ≡ Some is.access) at wants) is.kind (subst (λ (p : Plan). (v : ℕ) → IsEnd (given v p)) at is.ends) in
+    let ends : along (s.values ++ v ∷ []) (group s.size s.start) ≡ End (table_shown made.table op a x) = along-more s.values v (group s.size s.start) ∙ ap (given v) at ∙ made.plan in
+    record {
+      table = made.table;
+      registers = made.kept.0 ∙ ap (λ (y : State). with_fetched y ((fetched_of y + 1) % 2 ^ 32)) behind.kept.0;
+      seat = ap (seat_at_plan s (s.values ++ v ∷ [])) ends;
+    }
 
 -- a register that is written is read back, the others stay
 written : (s : State) (n v : ℕ) (is_zero : Bool) → eqb n ZERO_REGISTER ≡ is_zero → length s.registers ≡ REGISTERS → n < REGISTERS → n ≢ ZERO_REGISTER → register (with_register s n v) n ≡ v
@@ -128,24 +305,29 @@ given_beside : (o : Option ℕ) (t : CpuState) (a pc n : ℕ) → n ≢ a → re
 given_beside None t a pc n other = refl
 given_beside (Some v) t a pc n other = kept_beside t.state a v n (eqb a ZERO_REGISTER) refl other
 
-none_given : (o : Option ℕ) (t : CpuState) (a pc : ℕ) → IfNone o ((n : ℕ) → register (at_pc (given_to a o t) pc).state n ≡ register t.state n)
-none_given None t a pc = λ n. refl
-none_given (Some v) t a pc = tt
+none_given : (o : Option ℕ) (t : CpuState) (a pc : ℕ) (start : State) → ((n : ℕ) → register t.state n ≡ register start n) → IfNone o ((n : ℕ) → register (at_pc (given_to a o t) pc).state n ≡ register start n)
+none_given None t a pc start same = same
+none_given (Some v) t a pc start same = tt
 
 pub register_shown : (s : Seat) (op : MemOp) (a : ℕ) (x : Access) → IsAccessOf s op a x → a ≢ ZERO_REGISTER → IfSome (register_value op x) (λ v. register (seat_shown s x).start.state a ≡ v)
 register_shown s op a x is other =
-    subst (λ (q : Seat). IfSome (register_value op x) (λ v. register q.start.state a ≡ v)) (sym (goes_on_shown s op a x is))
-    (given_read (register_value op x) (with_lock_flag (with_fetch_counted s.start) (lock_flag op (locked_of s.start.state))) a (next_pc s.start) is.registers (ra_small (is.word % 2 ^ 32) op a is.base is.displacement is.stands_for) other)
+    let shown = goes_on_shown s op a x is in
+    let long : length shown.table.state.registers ≡ REGISTERS = ap (λ (y : State). length y.registers) shown.registers ∙ is.registers in
+    subst (λ (q : Seat). IfSome (register_value op x) (λ v. register q.start.state a ≡ v)) (sym shown.seat)
+    (given_read (register_value op x) (with_lock_flag shown.table (lock_flag op (locked_of shown.table.state))) a (next_pc shown.table) long (ra_small (is.word % 2 ^ 32) op a is.base is.displacement is.stands_for) other)
 
 pub others_stay : (s : Seat) (op : MemOp) (a : ℕ) (x : Access) → IsAccessOf s op a x → (n : ℕ) → n ≢ a → register (seat_shown s x).start.state n ≡ register s.start.state n
 others_stay s op a x is n other =
-    ap (λ (q : Seat). register q.start.state n) (goes_on_shown s op a x is)
-    ∙ given_beside (register_value op x) (with_lock_flag (with_fetch_counted s.start) (lock_flag op (locked_of s.start.state))) a (next_pc s.start) n other
+    let shown = goes_on_shown s op a x is in
+    ap (λ (q : Seat). register q.start.state n) shown.seat
+    ∙ given_beside (register_value op x) (with_lock_flag shown.table (lock_flag op (locked_of shown.table.state))) a (next_pc shown.table) n other
+    ∙ ap (λ (y : State). register y n) shown.registers
 
 pub none_stored : (s : Seat) (op : MemOp) (a : ℕ) (x : Access) → IsAccessOf s op a x → IfNone (register_value op x) ((n : ℕ) → register (seat_shown s x).start.state n ≡ register s.start.state n)
 none_stored s op a x is =
-    subst (λ (q : Seat). IfNone (register_value op x) ((n : ℕ) → register q.start.state n ≡ register s.start.state n)) (sym (goes_on_shown s op a x is))
-    (none_given (register_value op x) (with_lock_flag (with_fetch_counted s.start) (lock_flag op (locked_of s.start.state))) a (next_pc s.start))
+    let shown = goes_on_shown s op a x is in
+    subst (λ (q : Seat). IfNone (register_value op x) ((n : ℕ) → register q.start.state n ≡ register s.start.state n)) (sym shown.seat)
+    (none_given (register_value op x) (with_lock_flag shown.table (lock_flag op (locked_of shown.table.state))) a (next_pc shown.table) s.start.state (λ n. ap (λ (y : State). register y n) shown.registers))
 
 given_flag : (o : Option ℕ) (t : CpuState) (a pc : ℕ) (is_zero : Bool) → eqb a ZERO_REGISTER ≡ is_zero → locked_of (at_pc (given_to a o t) pc).state ≡ locked_of t.state
 given_flag None t a pc is_zero e = refl
@@ -154,8 +336,15 @@ given_flag (Some v) t a pc false e = rw e refl
 
 pub flag_shown : (s : Seat) (op : MemOp) (a : ℕ) (x : Access) → IsAccessOf s op a x → locked_of (seat_shown s x).start.state ≡ lock_flag op (locked_of s.start.state)
 flag_shown s op a x is =
-    ap (λ (q : Seat). locked_of q.start.state) (goes_on_shown s op a x is)
-    ∙ given_flag (register_value op x) (with_lock_flag (with_fetch_counted s.start) (lock_flag op (locked_of s.start.state))) a (next_pc s.start) (eqb a ZERO_REGISTER) refl
+    let shown = goes_on_shown s op a x is in
+    ap (λ (q : Seat). locked_of q.start.state) shown.seat
+    ∙ given_flag (register_value op x) (with_lock_flag shown.table (lock_flag op (locked_of shown.table.state))) a (next_pc shown.table) (eqb a ZERO_REGISTER) refl
+    ∙ ap (λ (y : State). lock_flag op (locked_of y)) shown.registers
+
+pub ends_after : (s : Seat) (op : MemOp) (a : ℕ) (x : Access) → IsAccessOf s op a x → (seat_shown s x).values ≡ []
+ends_after s op a x is = ap (λ (q : Seat). q.values) (goes_on_shown s op a x is).seat
 
 pub goes_on_after : (s : Seat) (op : MemOp) (a : ℕ) (x : Access) → IsAccessOf s op a x → pc_of (seat_shown s x).start.state ≡ next_pc s.start
-goes_on_after s op a x is = ap (λ (q : Seat). pc_of q.start.state) (goes_on_shown s op a x is)
+goes_on_after s op a x is =
+    let shown = goes_on_shown s op a x is in
+    ap (λ (q : Seat). pc_of q.start.state) shown.seat ∙ ap (λ (y : State). add (pc_of y) INSTRUCTION_BYTES) shown.registers

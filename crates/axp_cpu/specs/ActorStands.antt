@@ -38,11 +38,11 @@ pub record IsAnswered (p : Processor) (act : Act) (reply : Option Reply) : Type 
 pub record IsSeatedWith (p : Processor) (wanted : Option Wanted) : Type 0 where
   pub actor : Actor
   pub at : IsAt p actor
-  pub wants : wanted ≡ (actor_intent actor).wanted
+  pub wants : (a : Actor) → IsAt p a → wanted ≡ (actor_intent a).wanted
 
 -- the act is built, where this is the access that it wants
 pub record IsMovable (p : Processor) (act : Act) (wanted : Option Wanted) : Type 0 where
   pub actor : Actor
   pub at : IsAt p actor
-  pub wants : wanted ≡ (actor_intent actor).wanted
+  pub wants : (a : Actor) → IsAt p a → wanted ≡ (actor_intent a).wanted
   pub built : is_built act actor ≡ true

@@ -1,9 +1,17 @@
 -- What a group of accesses makes of the table state.
-use Rattle.std.specs.Prelude.{ℕ, zero, suc, ◌+◌, ◌%◌, ◌^◌, Bool}
+use Rattle.std.specs.Prelude.{ℕ, ◌+◌, ◌%◌, ◌^◌, Bool, Option, Some, if◌then◌else◌}
+use Rattle.axp_base.specs.Masks.{has_bit}
 use Rattle.axp_base.specs.Numbers.{add}
 use Rattle.axp_image.specs.declared.limits.TheConstants.{INSTRUCTION_BYTES}
-use Rattle.axp_regs.specs.States.{pc_of, with_pc, with_register, with_locked, fetched_of, with_fetched}
+use Rattle.axp_pte.specs.declared.faults.Mode.{Mode}
+use Rattle.axp_pte.specs.declared.faults.Mode.TheVariants.{Kernel, User}
+use Rattle.axp_regs.specs.States.{pc_of, ps_of, with_pc, with_register, with_locked, fetched_of, with_fetched}
 use Rattle.axp_cpu.specs.declared.cpu_states.CpuState.{CpuState}
+use Rattle.axp_cpu.specs.declared.cpu_states.TheConstants.{MODE_BIT}
+
+-- the mode of the processor: bit 3 of PS says that it is the user's
+abbrev pub mode_of : CpuState → Mode
+mode_of t = if has_bit (ps_of t.state) MODE_BIT then User else Kernel
 
 -- the address of the next instruction
 abbrev pub next_pc : CpuState → ℕ
@@ -25,11 +33,6 @@ with_lock_flag t armed = record t { state = with_locked t.state armed }
 abbrev pub with_fetch_counted : CpuState → CpuState
 with_fetch_counted t = record t { state = with_fetched t.state ((fetched_of t.state + 1) % 2 ^ 32) }
 
--- the count of fetched instructions after so many more
-abbrev pub count_after : ℕ → ℕ → ℕ
-count_after zero count = count
-count_after (suc n) count = (count_after n count + 1) % 2 ^ 32
-
--- with so many instructions more fetched
-abbrev pub counted_by : ℕ → CpuState → CpuState
-counted_by n t = record t { state = with_fetched t.state (count_after n (fetched_of t.state)) }
+-- halted with a code, behind the instruction
+abbrev pub halted_by : CpuState → ℕ → CpuState
+halted_by t code = record t { state = with_pc t.state (next_pc t); halted = Some code }

@@ -1,6 +1,6 @@
 pub mod CpuStates
 pub mod Plans
-pub mod Addresses
+pub mod Translation
 pub mod Rows
 pub mod Refusals
 pub mod Phases

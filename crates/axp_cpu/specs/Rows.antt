@@ -1,7 +1,7 @@
 -- The instruction table: the group of accesses that an instruction is, from the table state at its
 -- start. Registers and program counter change at the group's end alone, the count of fetched
 -- instructions with the fetch. What is not built comes to Unbuilt.
-use Rattle.std.specs.Prelude.{ℕ, ◌+◌, ◌*◌, ◌/◌, ◌%◌, ◌^◌, ◌==◌, true, false, Some, if◌then◌else◌}
+use Rattle.std.specs.Prelude.{ℕ, ◌+◌, ◌*◌, ◌/◌, ◌%◌, ◌^◌, ◌==◌, Bool, true, false, if◌then◌else◌}
 use Rattle.axp_base.specs.Numbers.{add, mul, sign_extended}
 use Rattle.axp_base.specs.Sizes.{bytes_of, low_datum}
 use Rattle.axp_base.specs.declared.sizes.Size.{Size}
@@ -26,15 +26,15 @@ use Rattle.axp_decode.specs.declared.names.PalOp.{PalOp}
 use Rattle.axp_decode.specs.declared.names.PalOp.TheVariants.{HALT, IMB}
 use Rattle.axp_image.specs.declared.limits.TheConstants.{INSTRUCTION_BYTES}
 use Rattle.axp_integer.specs.Rows as integer
-use Rattle.axp_regs.specs.States.{register, pc_of, ptbr_of, fetched_of, offset_of}
+use Rattle.axp_regs.specs.States.{register, pc_of, fetched_of, offset_of}
+use Rattle.axp_regs.specs.declared.asks.Ask.{Ask}
 use Rattle.axp_regs.specs.declared.asks.Kind.{Kind}
 use Rattle.axp_regs.specs.declared.asks.Kind.TheVariants.{Fetch, Read, Write, Locked, Conditional, Barrier, WriteBarrier, CodeBarrier}
 use Rattle.axp_regs.specs.declared.states.TheConstants.{ZERO_REGISTER}
 use Rattle.axp_cpu.specs.declared.cpu_states.CpuState.{CpuState}
-use Rattle.axp_pte.specs.Addresses.{in_kseg}
-use Rattle.axp_cpu.specs.Addresses.{aligned_plan, look_up_plan, memory_plan}
+use Rattle.axp_cpu.specs.Translation.{aligned_plan, reach_plan}
 use Rattle.axp_cpu.specs.Plans.{Plan, End, Want, Unbuilt}
-use Rattle.axp_cpu.specs.CpuStates.{next_pc, at_pc, with_value, with_lock_flag, with_fetch_counted}
+use Rattle.axp_cpu.specs.CpuStates.{mode_of, next_pc, at_pc, halted_by, with_value, with_lock_flag, with_fetch_counted}
 
 -- the instruction ends
 abbrev pub next_plan : CpuState → Plan
@@ -54,35 +54,54 @@ link_plan t n target = register_plan_at t n (next_pc t) target
 
 -- a barrier: an access that names no memory
 abbrev pub barrier_plan : CpuState → Kind → Plan
-barrier_plan t kind = Want (record { kind = kind; address = 0; size = 0; value = 0 }) (λ v. next_plan t)
+barrier_plan t kind = Want t (record { kind = kind; address = 0; size = 0; value = 0 }) (λ v. next_plan t)
 
 -- the processor halts behind the instruction
 abbrev pub halt_plan : CpuState → ℕ → Plan
-halt_plan t code = End (record { state = (at_pc t (next_pc t)).state; halted = Some code })
+halt_plan t code = End (halted_by t code)
+
+-- what an instruction asks for, of a virtual address
+abbrev pub virtual_ask : Kind → ℕ → ℕ → ℕ → Ask
+virtual_ask kind address bytes value = record { kind = kind; address = address; direct = false; size = bytes; value = value }
+
+-- the access of a datum, in the mode of the processor
+abbrev pub datum_plan : ℕ → CpuState → Kind → Size → ℕ → ℕ → (CpuState → ℕ → Plan) → Plan
+datum_plan size t kind what address value k = aligned_plan size t (mode_of t) (virtual_ask kind address (bytes_of what) value) k
 
 -- a load: into R31 it does nothing
-abbrev pub load_plan : ℕ → CpuState → Size → ℕ → ℕ → (ℕ → Plan) → Plan
-load_plan size t what a address k = if a == ZERO_REGISTER then next_plan t else aligned_plan size Read address (bytes_of what) 0 k
+abbrev pub load_plan : ℕ → CpuState → Size → ℕ → ℕ → (CpuState → ℕ → Plan) → Plan
+load_plan size t what a address k = if a == ZERO_REGISTER then next_plan t else datum_plan size t Read what address 0 k
 
 -- Ra becomes the value that was read, or the longword sign-extended
-abbrev pub as_read : CpuState → ℕ → ℕ → Plan
-as_read t a v = register_plan t a v
+abbrev pub as_read : ℕ → CpuState → ℕ → Plan
+as_read a t v = register_plan t a v
 
-abbrev pub as_longword : CpuState → ℕ → ℕ → Plan
-as_longword t a v = register_plan t a (sign_extended 32 v)
+abbrev pub as_longword : ℕ → CpuState → ℕ → Plan
+as_longword a t v = register_plan t a (sign_extended 32 v)
+
+-- the same, and the lock flag becomes so
+abbrev pub as_read_with : Bool → ℕ → CpuState → ℕ → Plan
+as_read_with flag a t v = as_read a (with_lock_flag t flag) v
+
+abbrev pub as_longword_with : Bool → ℕ → CpuState → ℕ → Plan
+as_longword_with flag a t v = as_longword a (with_lock_flag t flag) v
+
+-- the instruction ends with its access
+abbrev pub as_made : CpuState → ℕ → Plan
+as_made t v = next_plan t
 
 -- a store of the low datum of Ra
 abbrev pub store_plan : ℕ → CpuState → Size → ℕ → ℕ → Plan
-store_plan size t what a address = aligned_plan size Write address (bytes_of what) (low_datum what (register t.state a)) (λ _. next_plan t)
+store_plan size t what a address = datum_plan size t Write what address (low_datum what (register t.state a)) as_made
 
 -- a load-locked: also into R31 it makes its access; its end sets the lock flag
-abbrev pub load_locked_plan : ℕ → Size → ℕ → (ℕ → Plan) → Plan
-load_locked_plan size what address k = aligned_plan size Locked address (bytes_of what) 0 k
+abbrev pub load_locked_plan : ℕ → CpuState → Size → ℕ → (CpuState → ℕ → Plan) → Plan
+load_locked_plan size t what address k = datum_plan size t Locked what address 0 k
 
 -- a store-conditional of the low datum of Ra: Ra becomes 1 where it stored, else 0, and the lock flag is
 -- cleared
 abbrev pub store_conditional_plan : ℕ → CpuState → Size → ℕ → ℕ → Plan
-store_conditional_plan size t what a address = aligned_plan size Conditional address (bytes_of what) (low_datum what (register t.state a)) (as_read (with_lock_flag t false) a)
+store_conditional_plan size t what a address = datum_plan size t Conditional what address (low_datum what (register t.state a)) (as_read_with false a)
 
 -- the quadword that has the byte at an address
 abbrev pub quadword_at : ℕ → ℕ
@@ -100,13 +119,13 @@ high_address_of base disp = add base (mul (sign_extended 16 disp) 65536)
 abbrev pub memory_row : ℕ → CpuState → MemOp → ℕ → ℕ → ℕ → Plan
 memory_row size t LDA a base disp = register_plan t a (address_of base disp)
 memory_row size t LDAH a base disp = register_plan t a (high_address_of base disp)
-memory_row size t LDBU a base disp = load_plan size t Byte a (address_of base disp) (as_read t a)
-memory_row size t LDWU a base disp = load_plan size t Word a (address_of base disp) (as_read t a)
-memory_row size t LDL a base disp = load_plan size t Long a (address_of base disp) (as_longword t a)
-memory_row size t LDQ a base disp = load_plan size t Quad a (address_of base disp) (as_read t a)
-memory_row size t LDQ_U a base disp = load_plan size t Quad a (quadword_at (address_of base disp)) (as_read t a)
-memory_row size t LDL_L a base disp = load_locked_plan size Long (address_of base disp) (as_longword (with_lock_flag t true) a)
-memory_row size t LDQ_L a base disp = load_locked_plan size Quad (address_of base disp) (as_read (with_lock_flag t true) a)
+memory_row size t LDBU a base disp = load_plan size t Byte a (address_of base disp) (as_read a)
+memory_row size t LDWU a base disp = load_plan size t Word a (address_of base disp) (as_read a)
+memory_row size t LDL a base disp = load_plan size t Long a (address_of base disp) (as_longword a)
+memory_row size t LDQ a base disp = load_plan size t Quad a (address_of base disp) (as_read a)
+memory_row size t LDQ_U a base disp = load_plan size t Quad a (quadword_at (address_of base disp)) (as_read a)
+memory_row size t LDL_L a base disp = load_locked_plan size t Long (address_of base disp) (as_longword_with true a)
+memory_row size t LDQ_L a base disp = load_locked_plan size t Quad (address_of base disp) (as_read_with true a)
 memory_row size t STB a base disp = store_plan size t Byte a (address_of base disp)
 memory_row size t STW a base disp = store_plan size t Word a (address_of base disp)
 memory_row size t STL a base disp = store_plan size t Long a (address_of base disp)
@@ -184,10 +203,10 @@ row size t (Reserved word) = Unbuilt
 abbrev pub plan_of_word : ℕ → CpuState → ℕ → Plan
 plan_of_word size t v = row size (with_fetch_counted t) (instr_of (v % 2 ^ 32))
 
--- the group that begins at a table state: the fetch of the instruction at the program counter, and its
--- row; outside of the kernel segment the look-up of its page
+-- the fetch of the instruction at the program counter
+abbrev pub fetch_of : CpuState → Ask
+fetch_of t = virtual_ask Fetch (pc_of t.state) INSTRUCTION_BYTES 0
+
+-- the group that begins at a table state: the fetch of an instruction, and its row
 unfoldable pub group : ℕ → CpuState → Plan
-group size t =
-    if in_kseg (pc_of t.state)
-    then memory_plan size Fetch (pc_of t.state) INSTRUCTION_BYTES 0 (plan_of_word size t)
-    else look_up_plan size (ptbr_of t.state) (pc_of t.state)
+group size t = reach_plan size t (mode_of t) (fetch_of t) (plan_of_word size)

@@ -7,9 +7,8 @@ use Rattle.axp_image.specs.Contents.{Contents}
 use Rattle.axp_regs.specs.States.{first_state, locked_of, ps_of, with_pc, with_ptbr, with_register}
 use Rattle.axp_regs.specs.declared.states.State.{State}
 use Rattle.axp_cpu.specs.declared.cpu_states.CpuState.{CpuState}
-use Rattle.axp_cpu.specs.Plans.{Plan, End, Want, Unbuilt, along, fetches, is_built}
+use Rattle.axp_cpu.specs.Plans.{Plan, End, Want, Unbuilt, along, is_built, table_in}
 use Rattle.axp_cpu.specs.Rows.{group}
-use Rattle.axp_cpu.specs.CpuStates.{counted_by}
 
 -- where a processor stands: the size of memory, how many processors there are, the budget of steps, the
 -- table state at the start of its group, the values that the group's accesses gave so far, and the steps
@@ -22,11 +21,14 @@ pub record Seat : Type 0 where
   pub values : List ℕ
   pub steps : ℕ
 
--- the table state at the start: R16 is the processor's number, R30 the image's stack word
+-- the table state at the start: R16 is the processor's number, R30 the image's stack word, and no
+-- translation is kept
 abbrev pub first_table : Contents → ℕ → CpuState
 first_table image p = record {
   state = with_ptbr (with_pc (with_register (with_register (first_state p) 16 p) 30 image.stack) image.entry) image.table;
   halted = None;
+  itb = [];
+  dtb = [];
 }
 
 abbrev pub first_seat : Contents → ℕ → ℕ → ℕ → Seat
@@ -36,9 +38,10 @@ first_seat image cpus budget p = record { size = image.size; cpus = cpus; budget
 abbrev pub plan_now : Seat → Plan
 plan_now s = along s.values (group s.size s.start)
 
--- the table state as it is now: each fetch is counted as it is made, all else changes with the group's end
+-- the table state as it is now: fetches are counted and translations kept as they are made, all else changes
+-- with the group's end
 abbrev pub table_now : Seat → CpuState
-table_now s = counted_by (fetches s.values (group s.size s.start)) s.start
+table_now s = table_in s.start (plan_now s)
 
 -- halted, or with its budget of steps made
 abbrev pub is_finished : Seat → Bool
@@ -47,7 +50,7 @@ is_finished s = is_some s.start.halted || nat_le s.budget s.steps
 -- the access that a plan wants
 abbrev pub wanted_by : Plan → Option Wanted
 wanted_by (End t) = None
-wanted_by (Want w k) = Some w
+wanted_by (Want t w k) = Some w
 wanted_by Unbuilt = None
 
 -- the access that the processor wants; None: it is finished, or comes to what is not built
@@ -57,7 +60,7 @@ wanted s = if is_finished s then None else wanted_by (plan_now s)
 -- all is built that a value of the wanted access leads to
 abbrev pub plan_is_built_after : ℕ → Plan → Bool
 plan_is_built_after v (End t) = false
-plan_is_built_after v (Want w k) = is_built (k v)
+plan_is_built_after v (Want t w k) = is_built (k v)
 plan_is_built_after v Unbuilt = false
 
 abbrev pub is_built_after : Seat → ℕ → Bool
@@ -66,7 +69,7 @@ is_built_after s v = plan_is_built_after v (plan_now s)
 -- after a step that gave the group its values and left this plan
 abbrev pub seat_at_plan : Seat → List ℕ → Plan → Seat
 seat_at_plan s values (End t) = record { size = s.size; cpus = s.cpus; budget = s.budget; start = t; values = []; steps = s.steps + 1 }
-seat_at_plan s values (Want w k) = record { size = s.size; cpus = s.cpus; budget = s.budget; start = s.start; values = values; steps = s.steps + 1 }
+seat_at_plan s values (Want t w k) = record { size = s.size; cpus = s.cpus; budget = s.budget; start = s.start; values = values; steps = s.steps + 1 }
 seat_at_plan s values Unbuilt = record { size = s.size; cpus = s.cpus; budget = s.budget; start = s.start; values = values; steps = s.steps + 1 }
 
 -- after a step whose access gave this value

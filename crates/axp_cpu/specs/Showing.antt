@@ -1,6 +1,6 @@
 -- What a load, a store or a store-conditional makes of the registers, by what its access shows. It is said
 -- without plans.
-use Rattle.std.specs.Prelude.{◌≡◌, ℕ, ◌%◌, ◌^◌, Bool, true, false, if◌then◌else◌, [], ◌∷◌, length, Option, Some, None}
+use Rattle.std.specs.Prelude.{◌≡◌, ℕ, ◌%◌, ◌^◌, Bool, true, false, if◌then◌else◌, ◌∷◌, length, List, ◌++◌, Option, Some, None}
 use Rattle.axp_access.specs.declared.Access.{Access}
 use Rattle.axp_access.specs.declared.Act.TheVariants.{Step}
 use Rattle.axp_access.specs.declared.Outcome.TheVariants as outcome
@@ -10,10 +10,14 @@ use Rattle.axp_decode.specs.Format.{instr_of}
 use Rattle.axp_decode.specs.declared.instructions.Instr.TheVariants.{Memory}
 use Rattle.axp_decode.specs.declared.names.MemOp.{MemOp}
 use Rattle.axp_decode.specs.declared.names.MemOp.TheVariants.{LDBU, LDWU, LDL, LDQ, LDQ_U, LDL_L, LDQ_L, STL_C, STQ_C}
+use Rattle.axp_regs.specs.declared.asks.Kind.TheVariants.{Fetch}
 use Rattle.axp_regs.specs.declared.states.State.{State}
 use Rattle.axp_regs.specs.declared.states.TheConstants.{REGISTERS}
 use Rattle.axp_cpu.specs.Following.{seat_after}
-use Rattle.axp_cpu.specs.Seats.{Seat, wanted}
+use Rattle.axp_cpu.specs.Plans.{along, given}
+use Rattle.axp_cpu.specs.Rows.{group}
+use Rattle.axp_cpu.specs.Seats.{Seat, plan_now, wanted, wanted_by}
+use Rattle.axp_cpu.specs.Soundness.{IsEnd}
 
 -- what Ra becomes: the value that is shown, a longword sign-extended, or whether the store-conditional
 -- succeeded; None: no register changes
@@ -37,17 +41,24 @@ lock_flag STL_C armed = false
 lock_flag STQ_C armed = false
 lock_flag _ armed = armed
 
--- the group's one value so far is the word of an instruction of the memory format with this Ra, and the
--- access is of the kind that it wants
+-- the group made the fetch of an instruction of the memory format with this Ra, behind the reads of its
+-- page's entries where there were any. The access is of the kind that the group now wants, and is that of
+-- the instruction: the group ends with it
 pub record IsAccessOf (s : Seat) (op : MemOp) (a : ℕ) (x : Access) : Type 0 where
-  pub word : ℕ
   pub base : ℕ
   pub displacement : ℕ
+  pub entries : List ℕ
+  pub word : ℕ
+  pub later_entries : List ℕ
+  pub fetch : Wanted
   pub access : Wanted
-  pub fetched : s.values ≡ word ∷ []
+  pub values : s.values ≡ entries ++ word ∷ later_entries
+  pub fetches : wanted_by (along entries (group s.size s.start)) ≡ Some fetch
+  pub fetched : fetch.kind ≡ Fetch
   pub stands_for : instr_of (word % 2 ^ 32) ≡ Memory op a base displacement
   pub wants : wanted s ≡ Some access
   pub kind : x.kind ≡ access.kind
+  pub ends : (v : ℕ) → IsEnd (given v (plan_now s))
   pub registers : length s.start.state.registers ≡ REGISTERS
 
 -- the seat after a Step that shows this access

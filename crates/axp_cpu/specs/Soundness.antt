@@ -35,13 +35,13 @@ IsSoundAs size _ w = ⊥
 -- each access is such, and the program counter is a multiple of an instruction's size
 abbrev pub IsSound : ℕ → Plan → Type 0
 IsSound size (End t) = pc_of t.state % INSTRUCTION_BYTES ≡ 0
-IsSound size (Want w k) = IsSoundAs size w.kind w × ((v : ℕ) → IsSound size (k v))
+IsSound size (Want t w k) = IsSoundAs size w.kind w × ((v : ℕ) → IsSound size (k v))
 IsSound size Unbuilt = Unit {0}
 
 -- the plan is an end
 abbrev pub IsEnd : Plan → Type 0
 IsEnd (End t) = Unit {0}
-IsEnd (Want w k) = ⊥
+IsEnd (Want t w k) = ⊥
 IsEnd Unbuilt = ⊥
 
 -- where the bus tells the value of an access of this kind, its group ends with it, whatever the value
@@ -53,5 +53,5 @@ EndsGroup _ k = Unit {0}
 -- so for each access of a plan
 abbrev pub AnswersEnd : Plan → Type 0
 AnswersEnd (End t) = Unit {0}
-AnswersEnd (Want w k) = EndsGroup w.kind k × ((v : ℕ) → AnswersEnd (k v))
+AnswersEnd (Want t w k) = EndsGroup w.kind k × ((v : ℕ) → AnswersEnd (k v))
 AnswersEnd Unbuilt = Unit {0}

@@ -2,28 +2,33 @@
 use Rattle.std.specs.Prelude.{is_none, ◌≡◌, ℕ, ◌*◌, ◌%◌, ◌^◌, ◌<◌, ◌≤◌, true, false, Option, Some, None}
 use Rattle.axp_access.specs.declared.Wanted.{Wanted}
 use Rattle.axp_image.specs.declared.limits.TheConstants.{INSTRUCTION_BYTES, MAX_MEMORY, PAGE_BYTES}
-use Rattle.axp_regs.specs.States.{pc_of}
-use Rattle.axp_cpu.specs.declared.phases.Continuation.{Continuation}
+use Rattle.axp_regs.specs.States.{pc_of, with_fetched}
+use Rattle.axp_cpu.specs.declared.phases.Stage.{Stage}
 use Rattle.axp_cpu.specs.declared.sequencers.Sequencer.{Sequencer}
 use Rattle.axp_cpu.specs.declared.cpu_states.CpuState.{CpuState}
 use Rattle.axp_base.specs.Lists.{is_empty}
 use Rattle.axp_cpu.specs.Phases.{Fits, after}
 use Rattle.axp_cpu.specs.Plans.{Plan, Want}
 use Rattle.axp_cpu.specs.Rows.{group}
-use Rattle.axp_cpu.specs.Seats.{Seat, is_finished, is_built_after, plan_now, seat_after_value, table_now}
+use Rattle.axp_cpu.specs.Seats.{Seat, is_finished, is_built_after, plan_now, table_now}
 use Rattle.axp_cpu.specs.Soundness.{IsSoundAs}
 
 -- what a processor's group still has to do
-abbrev pub left_by : ℕ → CpuState → Option (Wanted × Continuation) → Plan
+abbrev pub left_by : ℕ → CpuState → Option (Wanted × Stage) → Plan
 left_by size t None = group size t
-left_by size t (Some (w, next)) = Want w (after size t next)
+left_by size t (Some (w, stage)) = Want t w (after size t stage)
 
 abbrev pub plan_left : Sequencer → Plan
 plan_left p = left_by p.size p.table p.making
 
-abbrev pub MakesFit : Option (Wanted × Continuation) → Type 0
-MakesFit None = Unit {0}
-MakesFit (Some (w, next)) = Fits w next
+abbrev pub MakesFit : CpuState → Option (Wanted × Stage) → Type 0
+MakesFit t None = Unit {0}
+MakesFit t (Some (w, stage)) = Fits t w stage
+
+-- the same registers but for the count of fetched instructions, and the same halt code
+pub record HasSameRegisters (t u : CpuState) : Type 0 where
+  pub state : with_fetched u.state 0 ≡ with_fetched t.state 0
+  pub halted : u.halted ≡ t.halted
 
 -- the processor is at this seat
 pub record Stands (p : Sequencer) (s : Seat) : Type 0 where
@@ -32,7 +37,7 @@ pub record Stands (p : Sequencer) (s : Seat) : Type 0 where
   pub budget : p.budget ≡ s.budget
   pub table : p.table ≡ table_now s
   pub plan : plan_left p ≡ plan_now s
-  pub fits : MakesFit p.making
+  pub fits : MakesFit p.table p.making
   pub boundary : is_none p.making ≡ is_empty s.values
   pub steps : p.steps ≡ s.steps
   pub pages : s.size % PAGE_BYTES ≡ 0
@@ -44,18 +49,14 @@ pub record Standing (p : Sequencer) : Type 0 where
   pub seat : Seat
   pub stands : Stands p seat
 
--- and is not finished
-pub record Going (p : Sequencer) : Type 0 where
+-- and all is built that a step leads to whose access gives this value
+pub record IsLed (p : Sequencer) (value : ℕ) : Type 0 where
   pub seat : Seat
   pub stands : Stands p seat
   pub unfinished : is_finished seat ≡ false
+  pub built : is_built_after seat value ≡ true
 
 -- a wanted access lies in memory, and what it stores has its size
 pub record IsMakeable (size : ℕ) (w : Wanted) : Type 0 where
   pub inside : IsSoundAs size w.kind w
   pub small : w.value < 2 ^ (8 * w.size)
-
--- the processor after a step whose access gave this value; None: not all is built that it leads to
-abbrev pub GoesOn : Seat → ℕ → Option Sequencer → Type 0
-GoesOn s v None = is_built_after s v ≡ false
-GoesOn s v (Some p) = (is_built_after s v ≡ true) × Stands p (seat_after_value s v)

@@ -6,31 +6,43 @@ ghost use Rattle.axp_access.specs.declared.Record.{Record};
 ghost use Rattle.axp_access.specs.declared.Wanted.{Wanted};
 ghost use Rattle.axp_cpu.specs.declared.cpu_states.CpuState.{CpuState};
 ghost use Rattle.axp_cpu.specs.Actors.{Actor, actor_intent};
-ghost use Rattle.axp_cpu.specs.Addresses.{look_up_plan};
 ghost use Rattle.axp_cpu.specs.Following.{seat_in};
-ghost use Rattle.axp_cpu.specs.Plans.{given, is_built};
-ghost use Rattle.axp_cpu.specs.Refusals.{is_begun, is_refused};
-ghost use Rattle.axp_cpu.specs.Rows.{group, row};
+ghost use Rattle.axp_cpu.specs.Plans.{Plan, is_built};
+ghost use Rattle.axp_cpu.specs.Refusals.{is_framed, is_reached, is_refused, is_table};
+ghost use Rattle.axp_cpu.specs.Rows.{fetch_of, group, row};
 ghost use Rattle.axp_cpu.specs.Seats.{Seat, is_built_after};
 ghost use Rattle.axp_cpu.specs.Showing.{IsAccessOf, lock_flag, register_value, seat_shown};
 ghost use Rattle.axp_cpu.specs.Showing.{state_shown};
 ghost use Rattle.axp_cpu.specs.Soundness.{AnswersEnd};
-ghost use Rattle.axp_cpu.specs.CpuStates.{next_pc};
+ghost use Rattle.axp_cpu.specs.CpuStates.{mode_of, next_pc};
+ghost use Rattle.axp_cpu.specs.Translation.{first_entry, frame_of, second_entry, third_entry};
+ghost use Rattle.axp_cpu.specs.declared.translation.Level.TheVariants.{Second, Third};
+ghost use Rattle.axp_cpu.specs.declared.translation.MappedAsk.{MappedAsk};
 ghost use Rattle.axp_decode.specs.declared.instructions.Instr.{Instr};
 ghost use Rattle.axp_decode.specs.declared.names.MemOp.{MemOp};
 ghost use Rattle.axp_image.specs.Contents.{Contents};
 ghost use Rattle.axp_line.specs.declared.messages.Reply.{Reply};
 ghost use Rattle.axp_lsu.specs.Going.{value_of};
+ghost use Rattle.axp_pte.specs.Protection.{upper_of};
 ghost use Rattle.axp_regs.specs.States.{locked_of, pc_of, register};
 ghost use Rattle.axp_regs.specs.declared.states.TheConstants.{REGISTERS, ZERO_REGISTER};
 
-/// What is not built: a group that can begin with no access, since its instruction's address is in
-/// the kernel segment and not in memory, or its page cannot be looked up; what a look-up leads to;
-/// and exactly the instructions that `is_refused` lists.
+/// What is not built: a group that can begin with no access, since its instruction's address has a
+/// fault at once or leads outside of memory; an entry of the page tables that leads to no table, to
+/// no page that allows the access, or outside of memory; and exactly the instructions that
+/// `is_refused` lists.
 pub fn what_is_not_built()
-    ensures fetch { (size : ℕ) (t : CpuState) → is_built (group size t) ≡ is_begun size t }
-    ensures look_up { (size v table address : ℕ)
-        → is_built (given v (look_up_plan size table address)) ≡ false }
+    ensures fetch { (size : ℕ) (t : CpuState)
+        → is_built (group size t) ≡ is_reached size t (mode_of t) (fetch_of t) }
+    ensures first_level { (size : ℕ) (t : CpuState) (far : MappedAsk) (k : CpuState → ℕ → Plan)
+        (word : ℕ) → is_built (first_entry size t far k word)
+        ≡ is_table size Second far (upper_of word) }
+    ensures second_level { (size : ℕ) (t : CpuState) (far : MappedAsk) (k : CpuState → ℕ → Plan)
+        (word : ℕ) → is_built (second_entry size t far k word)
+        ≡ is_table size Third far (upper_of word) }
+    ensures third_level { (size : ℕ) (t : CpuState) (far : MappedAsk) (k : CpuState → ℕ → Plan)
+        (word : ℕ) → is_built (third_entry size t far k word)
+        ≡ is_framed size far (frame_of far word) }
     ensures instruction { (size : ℕ) (t : CpuState) (i : Instr)
         → is_built (row size t i) ≡ not (is_refused size t i) }
 {}

@@ -6,12 +6,15 @@
 #![tactic(auto)]
 
 mod cpu_states;
+mod endings;
 mod laws;
 mod phases;
 mod processors;
 mod refusals;
 mod rows;
 mod sequencers;
+mod translation;
+mod walks;
 
 pub use axp_lsu::Ask2;
 pub use laws::{answered_values_end_groups, registers_get_what_is_shown, what_is_not_built};

@@ -1,15 +1,15 @@
 ghost use Rattle.std.specs.Prelude.{◌≡◌, ◌==◌, ◌<◌, ◌≤◌, IfOk, length};
-ghost use Rattle.axp_access.specs.declared.Act.TheVariants.{Step};
 ghost use Rattle.axp_base.specs.declared.processors.TheConstants.{MAX_BUDGET, MAX_CPUS, MIN_CPUS};
 ghost use Rattle.axp_base.specs.Cpus.{cpu_number};
 ghost use Rattle.axp_lsu.specs.Fitting.{ShowsFitting};
 ghost use Rattle.axp_lsu.specs.Within.{IsAskWithin};
 ghost use Rattle.axp_cpu.specs.Actors.{Actor, actor_intent, advanced, first_actor, is_built};
-ghost use Rattle.axp_cpu.specs.Actors.{moved_by, outcome_of, request_of, seat_after, step_built};
+ghost use Rattle.axp_cpu.specs.Actors.{outcome_of, request_of, seat_after, step_built};
 ghost use Rattle.axp_cpu.specs.ActorStands.{IsAnswered, IsAt, IsMovable, IsSeated, IsSeatedWith};
 ghost use Rattle.axp_cpu.specs.Following as following;
 ghost use Rattle.axp_cpu.specs.Seats.{is_finished, table_now};
 ghost use Rattle.axp_cpu.specs.Stands.{Stands};
+ghost use Rattle.axp_regs.specs.States.{with_fetched};
 
 use crate::refusals::Refusal;
 use crate::sequencers::Sequencer;
@@ -51,7 +51,9 @@ impl Processor {
     /// The state as it is now: that at the start of the group of accesses, but for the count of
     /// fetched instructions, which rises with each fetch.
     pub fn state(&self) -> &State
-        ensures { (a : Actor) → IsAt self.now a → result.now ≡ (table_now a.seat).state }
+        ensures now { (a : Actor) → IsAt self.now a → result.now ≡ (table_now a.seat).state }
+        ensures registers { (a : Actor) → IsAt self.now a
+            → with_fetched result.now 0 ≡ with_fetched a.seat.start.state 0 }
     {
         self.sequencer.state()
     }
@@ -128,7 +130,7 @@ impl Processor {
             None => false,
             Some(wanted) => {
                 let value = self.unit.value(&wanted, None);
-                self.sequencer.advanced(value).is_some()
+                self.sequencer.leads_on(value)
             }
         }
     }
@@ -145,38 +147,21 @@ impl Processor {
             → (advanced a act reply).seat ≡ following.seat_after act result a.seat }
     {
         let intent = self.sequencer.intent();
-        let sequencer = self.moved(act, intent.wanted, reply);
-        let outcome = self.unit.advance(act, self.cpu, &intent, reply);
-        self.sequencer = sequencer;
-        outcome
+        self.sequence(act, intent.wanted, reply);
+        self.unit.advance(act, self.cpu, &intent, reply)
     }
 
-    /// The sequencer after an act: a step goes on with the value of the wanted access.
-    fn moved(&self, act: Act, wanted: Option<Wanted>, reply: Option<Reply>) -> Sequencer
-        requires { IsMovable self.now act wanted }
-        ensures { (a : Actor) → IsAt self.now a → Stands result (seat_after act reply a) }
+    /// Moves the sequencer by an act: a step goes on with the value of the wanted access.
+    fn sequence(&mut self, act: Act, wanted: Option<Wanted>, reply: Option<Reply>)
+        requires { IsMovable self.old act wanted }
+        ensures seat { (a : Actor) → IsAt self.old a
+            → Stands self.new.sequencer (seat_after act reply a) }
+        ensures cpu { self.new.cpu ≡ self.old.cpu }
+        ensures unit { self.new.unit ≡ self.old.unit }
     {
-        match act {
-            Act::Step => self.stepped(wanted, reply),
-            _ => self.sequencer,
-        }
-    }
-
-    /// The sequencer after a step; as it is where no access is wanted.
-    fn stepped(&self, wanted: Option<Wanted>, reply: Option<Reply>) -> Sequencer
-        requires { IsMovable self.now Step wanted }
-        ensures { (a : Actor) → IsAt self.now a
-            → Stands result (moved_by (actor_intent a).wanted reply a) }
-    {
-        match wanted {
-            None => self.sequencer,
-            Some(wanted) => {
-                let value = self.unit.value(&wanted, reply);
-                match self.sequencer.advanced(value) {
-                    Some(next) => next,
-                    None => self.sequencer,
-                }
-            }
+        if let (Act::Step, Some(wanted)) = (act, wanted) {
+            let value = self.unit.value(&wanted, reply);
+            self.sequencer.advance(value);
         }
     }
 }

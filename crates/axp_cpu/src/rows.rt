@@ -1,10 +1,9 @@
 //! The rows of the instruction table.
-ghost use Rattle.std.specs.Prelude.{◌≡◌, ◌<◌, ℕ, false};
-ghost use Rattle.axp_access.specs.Kinds.{is_fetch};
+ghost use Rattle.std.specs.Prelude.{◌≡◌, ◌<◌, ◌*◌, ◌^◌, ℕ};
 ghost use Rattle.axp_base.specs.Sizes.{bytes_of};
 ghost use Rattle.axp_cpu.specs.declared.cpu_states.CpuState.{CpuState};
-ghost use Rattle.axp_cpu.specs.Phases.{after, is_instruction, plan_of, FollowFits, PhaseFits};
-ghost use Rattle.axp_cpu.specs.Rows.{address_of, branch_target, branch_row, cycle_counter};
+ghost use Rattle.axp_cpu.specs.Phases.{continued, plan_of, ContinuationFits, PhaseFits};
+ghost use Rattle.axp_cpu.specs.Rows.{address_of, branch_target, branch_row, datum_plan};
 ghost use Rattle.axp_cpu.specs.Rows.{barrier_plan, high_address_of, jump_row, load_locked_plan};
 ghost use Rattle.axp_cpu.specs.Rows.{load_plan, memory_row, misc_row, operand, operate_row};
 ghost use Rattle.axp_cpu.specs.Rows.{pal_row, quadword_at, row, store_conditional_plan, store_plan};
@@ -12,21 +11,23 @@ ghost use Rattle.axp_decode.specs.Format.{FieldsFit, OperandFits};
 ghost use Rattle.axp_regs.specs.declared.states.TheConstants.{REGISTERS};
 
 use crate::cpu_states::CpuState;
-use crate::phases::{Continuation, Phase, align, end, go_to, halt, write, write_and_go};
+use crate::endings::Ending;
+use crate::phases::{Continuation, Phase, Stage};
+use crate::walks::align;
 use axp_access::Wanted;
 use axp_base::{Size, sext};
 use axp_branch::{taken, target};
 use axp_bytes::bytes;
 use axp_decode::{BYTE_OPCODE, BranchOp, Instr, MemOp, MiscOp, Op, Operand, PalOp, opcode_number};
 use axp_integer::operate;
-use axp_regs::{Kind, ZERO_REGISTER};
+use axp_regs::{Ask, Kind, ZERO_REGISTER};
 
 /// The row of an instruction.
 #[tactic(auto, unfolding(crate::specs::Rows::row))]
 pub fn instruct(size: u64, table: &CpuState, instr: Instr) -> Phase
     requires { FieldsFit instr }
     ensures plan { plan_of size table.now result ≡ row size table.now instr }
-    ensures fits { PhaseFits result }
+    ensures fits { PhaseFits table.now result }
 {
     match instr {
         Instr::Memory { op, a, b, disp } => access(size, table, op, a, table.state.get(b), disp),
@@ -35,8 +36,8 @@ pub fn instruct(size: u64, table: &CpuState, instr: Instr) -> Phase
         Instr::Operate { op, a, b, c } => {
             compute(table, op, table.state.get(a), read_operand(table, b), c)
         }
-        Instr::Misc { op, a, .. } => misc(table, op, a),
-        Instr::Pal { op } => call_pal(table, op),
+        Instr::Misc { op, a, .. } => misc(op, a),
+        Instr::Pal { op } => call_pal(op),
         Instr::Floating { .. } | Instr::Reserved { .. } => Phase::NotBuilt,
     }
 }
@@ -45,13 +46,16 @@ pub fn instruct(size: u64, table: &CpuState, instr: Instr) -> Phase
 fn access(size: u64, table: &CpuState, op: MemOp, a: u8, base: u64, disp: u16) -> Phase
     requires { a < REGISTERS }
     ensures plan { plan_of size table.now result ≡ memory_row size table.now op a base disp }
-    ensures fits { PhaseFits result }
+    ensures fits { PhaseFits table.now result }
 {
     let address = displaced(base, disp);
     let loaded = Continuation::Load { a };
     match op {
-        MemOp::LDA => write(table, a, address),
-        MemOp::LDAH => write(table, a, displaced_high(base, disp)),
+        MemOp::LDA => Phase::Ends(Ending::Writes { n: a, value: address }),
+        MemOp::LDAH => Phase::Ends(Ending::Writes {
+            n: a,
+            value: displaced_high(base, disp),
+        }),
         MemOp::LDBU => load(size, table, Size::Byte, a, address, loaded),
         MemOp::LDWU => load(size, table, Size::Word, a, address, loaded),
         MemOp::LDL => load(
@@ -69,22 +73,22 @@ fn access(size: u64, table: &CpuState, op: MemOp, a: u8, base: u64, disp: u16) -
         MemOp::STL => store(size, table, Size::Long, a, address),
         MemOp::STQ => store(size, table, Size::Quad, a, address),
         MemOp::STQ_U => store(size, table, Size::Quad, a, quadword(address)),
-        MemOp::LDL_L => load_locked_plan(
+        MemOp::LDL_L => load_locked(
             size,
             table,
             Size::Long,
             address,
             Continuation::LoadLockedLong { a },
         ),
-        MemOp::LDQ_L => load_locked_plan(
+        MemOp::LDQ_L => load_locked(
             size,
             table,
             Size::Quad,
             address,
             Continuation::LoadLocked { a },
         ),
-        MemOp::STL_C => store_conditional_plan(size, table, Size::Long, a, address),
-        MemOp::STQ_C => store_conditional_plan(size, table, Size::Quad, a, address),
+        MemOp::STL_C => store_conditional(size, table, Size::Long, a, address),
+        MemOp::STQ_C => store_conditional(size, table, Size::Quad, a, address),
     }
 }
 
@@ -109,94 +113,93 @@ fn quadword(address: u64) -> u64
     address & !7
 }
 
-/// The access of a datum that a memory instruction wants.
-fn wanted(kind: Kind, what: Size, address: u64, value: u64) -> Wanted
-    ensures { result ≡ record {
-      kind = kind;
-      address = address;
-      size = bytes_of what;
-      value = value;
-    } }
+/// The access of a datum, and what follows with its value.
+fn reach_datum(
+    size: u64,
+    table: &CpuState,
+    kind: Kind,
+    what: Size,
+    address: u64,
+    value: u64,
+    next: Continuation,
+) -> Phase
+    requires small { value < 2 ^ (8 * bytes_of what) }
+    requires next { ContinuationFits next }
+    ensures plan { plan_of size table.now result
+        ≡ datum_plan size table.now kind what address value (continued size next) }
+    ensures fits { PhaseFits table.now result }
 {
-    Wanted {
+    let ask = Ask {
         kind,
         address,
+        direct: false,
         size: what.bytes(),
         value,
-    }
+    };
+    align(size, table, table.mode(), ask, next)
 }
 
 /// A load, and what follows with its value; into R31 it does nothing.
-fn load(size: u64, table: &CpuState, what: Size, a: u8, address: u64, then: Continuation) -> Phase
-    requires fits { FollowFits then }
-    requires ends { is_instruction then ≡ false }
+fn load(size: u64, table: &CpuState, what: Size, a: u8, address: u64, next: Continuation) -> Phase
+    requires { ContinuationFits next }
     ensures plan { plan_of size table.now result
-        ≡ load_plan size table.now what a address (after size table.now then) }
-    ensures fits { PhaseFits result }
+        ≡ load_plan size table.now what a address (continued size next) }
+    ensures fits { PhaseFits table.now result }
 {
     if a == ZERO_REGISTER {
-        return end(table);
+        return Phase::Ends(Ending::Next);
     }
-    align(size, table, wanted(Kind::Read, what, address, 0), then)
+    reach_datum(size, table, Kind::Read, what, address, 0, next)
 }
 
 /// A store of the low datum of Ra.
 fn store(size: u64, table: &CpuState, what: Size, a: u8, address: u64) -> Phase
     requires { a < REGISTERS }
     ensures plan { plan_of size table.now result ≡ store_plan size table.now what a address }
-    ensures fits { PhaseFits result }
+    ensures fits { PhaseFits table.now result }
 {
     let value = what.low(table.state.get(a));
-    align(
-        size,
-        table,
-        wanted(Kind::Write, what, address, value),
-        Continuation::Finish,
-    )
+    let next = Continuation::Finish;
+    reach_datum(size, table, Kind::Write, what, address, value, next)
 }
 
 /// A load-locked, and what follows with its value; into R31 too it makes its access.
-fn load_locked_plan(
+fn load_locked(
     size: u64,
     table: &CpuState,
     what: Size,
     address: u64,
-    then: Continuation,
+    next: Continuation,
 ) -> Phase
-    requires fits { FollowFits then }
-    requires ends { is_instruction then ≡ false }
+    requires { ContinuationFits next }
     ensures plan { plan_of size table.now result
-        ≡ load_locked_plan size what address (after size table.now then) }
-    ensures fits { PhaseFits result }
+        ≡ load_locked_plan size table.now what address (continued size next) }
+    ensures fits { PhaseFits table.now result }
 {
-    align(size, table, wanted(Kind::Locked, what, address, 0), then)
+    reach_datum(size, table, Kind::Locked, what, address, 0, next)
 }
 
 /// A store-conditional of the low datum of Ra, which tells Ra whether it stored.
-fn store_conditional_plan(size: u64, table: &CpuState, what: Size, a: u8, address: u64) -> Phase
+fn store_conditional(size: u64, table: &CpuState, what: Size, a: u8, address: u64) -> Phase
     requires { a < REGISTERS }
     ensures plan { plan_of size table.now result
         ≡ store_conditional_plan size table.now what a address }
-    ensures fits { PhaseFits result }
+    ensures fits { PhaseFits table.now result }
 {
     let value = what.low(table.state.get(a));
-    align(
-        size,
-        table,
-        wanted(Kind::Conditional, what, address, value),
-        Continuation::StoreConditional { a },
-    )
+    let next = Continuation::StoreConditional { a };
+    reach_datum(size, table, Kind::Conditional, what, address, value, next)
 }
 
 /// The branch format.
 fn branch(table: &CpuState, op: BranchOp, a: u8, disp: u32) -> Phase
     requires { a < REGISTERS }
     ensures plan { (size : ℕ) → plan_of size table.now result ≡ branch_row table.now op a disp }
-    ensures fits { PhaseFits result }
+    ensures fits { PhaseFits table.now result }
 {
     let goal = branch_target(table, op, a, disp);
     match op {
-        BranchOp::BR | BranchOp::BSR => write_and_go(table, a, table.next_pc(), goal),
+        BranchOp::BR | BranchOp::BSR => Phase::Ends(Ending::Links { n: a, pc: goal }),
         BranchOp::BLBC
         | BranchOp::BLBS
         | BranchOp::BEQ
@@ -204,7 +207,7 @@ fn branch(table: &CpuState, op: BranchOp, a: u8, disp: u32) -> Phase
         | BranchOp::BLT
         | BranchOp::BLE
         | BranchOp::BGE
-        | BranchOp::BGT => go_to(table, goal),
+        | BranchOp::BGT => Phase::Ends(Ending::Goes { pc: goal }),
     }
 }
 
@@ -226,10 +229,10 @@ fn jump(table: &CpuState, a: u8, b: u8) -> Phase
     requires a { a < REGISTERS }
     requires b { b < REGISTERS }
     ensures plan { (size : ℕ) → plan_of size table.now result ≡ jump_row table.now a b }
-    ensures fits { PhaseFits result }
+    ensures fits { PhaseFits table.now result }
 {
     let goal = table.state.get(b) & !3;
-    write_and_go(table, a, table.next_pc(), goal)
+    Phase::Ends(Ending::Links { n: a, pc: goal })
 }
 
 /// The second operand of the operate format.
@@ -247,24 +250,25 @@ fn read_operand(table: &CpuState, b: Operand) -> u64
 fn compute(table: &CpuState, op: Op, a: u64, b: u64, c: u8) -> Phase
     requires { c < REGISTERS }
     ensures plan { (size : ℕ) → plan_of size table.now result ≡ operate_row table.now op a b c }
-    ensures fits { PhaseFits result }
+    ensures fits { PhaseFits table.now result }
 {
     if opcode_number(op) == BYTE_OPCODE {
-        return write(table, c, bytes(op, a, b));
+        let value = bytes(op, a, b);
+        return Phase::Ends(Ending::Writes { n: c, value });
     }
     let (value, overflows) = operate(op, a, b, table.state.get(c));
     if overflows {
         Phase::NotBuilt
     } else {
-        write(table, c, value)
+        Phase::Ends(Ending::Writes { n: c, value })
     }
 }
 
 /// The instructions of opcode 18.
-fn misc(table: &CpuState, op: MiscOp, a: u8) -> Phase
+fn misc(op: MiscOp, a: u8) -> Phase
     requires { a < REGISTERS }
-    ensures plan { (size : ℕ) → plan_of size table.now result ≡ misc_row table.now op a }
-    ensures fits { PhaseFits result }
+    ensures plan { (size : ℕ) (t : CpuState) → plan_of size t result ≡ misc_row t op a }
+    ensures fits { (t : CpuState) → PhaseFits t result }
 {
     match op {
         MiscOp::TRAPB
@@ -272,8 +276,8 @@ fn misc(table: &CpuState, op: MiscOp, a: u8) -> Phase
         | MiscOp::FETCH
         | MiscOp::FETCH_M
         | MiscOp::ECB
-        | MiscOp::WH64 => end(table),
-        MiscOp::RPCC => write(table, a, count(table)),
+        | MiscOp::WH64 => Phase::Ends(Ending::Next),
+        MiscOp::RPCC => Phase::Ends(Ending::Counts { n: a }),
         MiscOp::MB => fence(Kind::Barrier),
         MiscOp::WMB => fence(Kind::WriteBarrier),
     }
@@ -281,9 +285,8 @@ fn misc(table: &CpuState, op: MiscOp, a: u8) -> Phase
 
 /// A barrier: an access that names no memory, and then the end.
 fn fence(kind: Kind) -> Phase
-    requires { is_fetch kind ≡ false }
     ensures plan { (size : ℕ) (t : CpuState) → plan_of size t result ≡ barrier_plan t kind }
-    ensures fits { PhaseFits result }
+    ensures fits { (t : CpuState) → PhaseFits t result }
 {
     let barrier = Wanted {
         kind,
@@ -291,23 +294,16 @@ fn fence(kind: Kind) -> Phase
         size: 0,
         value: 0,
     };
-    Phase::Wants(barrier, Continuation::Finish)
-}
-
-/// The cycle counter: the number of fetched instructions, below the offset.
-fn count(table: &CpuState) -> u64
-    ensures { result ≡ cycle_counter table.now }
-{
-    (u64::from(table.state.offset()) << 32) + u64::from(table.state.fetched())
+    Phase::Wants(barrier, Stage::Continues(Continuation::Finish))
 }
 
 /// The PAL calls.
-fn call_pal(table: &CpuState, op: PalOp) -> Phase
-    ensures plan { (size : ℕ) → plan_of size table.now result ≡ pal_row table.now op }
-    ensures fits { PhaseFits result }
+fn call_pal(op: PalOp) -> Phase
+    ensures plan { (size : ℕ) (t : CpuState) → plan_of size t result ≡ pal_row t op }
+    ensures fits { (t : CpuState) → PhaseFits t result }
 {
     match op {
-        PalOp::HALT => halt(table, 1),
+        PalOp::HALT => Phase::Ends(Ending::Halts { code: 1 }),
         PalOp::IMB => fence(Kind::CodeBarrier),
         _ => Phase::NotBuilt,
     }

@@ -1,26 +1,29 @@
 ghost use Rattle.std.specs.Prelude.{◌≡◌, IfSome};
 ghost use Rattle.axp_base.specs.Cpus.{cpu_number};
 ghost use Rattle.axp_cpu.specs.Phases.{plan_of, PhaseFits};
-ghost use Rattle.axp_cpu.specs.Seats.{Seat, first_seat, intent_of, is_finished, table_now, wanted};
-ghost use Rattle.axp_cpu.specs.Stands.{Going, GoesOn, IsMakeable, MakesFit, Standing, Stands};
+ghost use Rattle.axp_cpu.specs.Seats.{Seat, first_seat, intent_of, is_built_after, is_finished};
+ghost use Rattle.axp_cpu.specs.Seats.{seat_after_value, table_now, wanted};
+ghost use Rattle.axp_cpu.specs.Stands.{IsLed, IsMakeable, MakesFit, Standing, Stands};
 ghost use Rattle.axp_cpu.specs.Stands.{plan_left};
+ghost use Rattle.axp_regs.specs.States.{with_fetched};
 
 use crate::cpu_states::CpuState;
-use crate::phases::{Continuation, Phase, begin, resume};
+use crate::phases::{Phase, Stage, begin, leads_on, resume};
 use axp_access::{Intent, Wanted};
 use axp_base::Cpu;
 use axp_image::Image;
 use axp_regs::State;
+use axp_tb::Tb;
 
 /// One processor: its table state, the access that it wants inside of a group, and the number of
 /// steps that it made.
-#[derive(Clone, Copy, Debug)]
+#[derive(Debug, Drop)]
 pub struct Sequencer {
     size: u64,
     cpus: u8,
     budget: u32,
     table: CpuState,
-    making: Option<(Wanted, Continuation)>,
+    making: Option<(Wanted, Stage)>,
     steps: u32,
 }
 
@@ -43,6 +46,8 @@ impl Sequencer {
             table: CpuState {
                 state,
                 halted: None,
+                itb: Tb::empty(),
+                dtb: Tb::empty(),
             },
             making: None,
             steps: 0,
@@ -52,7 +57,9 @@ impl Sequencer {
     /// The state as it is now: that at the start of the group of accesses, but for the count of
     /// fetched instructions, which rises with each fetch.
     pub fn state(&self) -> &State
-        ensures { (s : Seat) → Stands self.now s → result.now ≡ (table_now s).state }
+        ensures now { (s : Seat) → Stands self.now s → result.now ≡ (table_now s).state }
+        ensures registers { (s : Seat) → Stands self.now s
+            → with_fetched result.now 0 ≡ with_fetched s.start.state 0 }
     {
         &self.table.state
     }
@@ -109,43 +116,46 @@ impl Sequencer {
         }
     }
 
-    /// The processor after a step whose access gave this value (0 where it stores); `None` where
-    /// not all is built that the value leads to.
-    pub fn advanced(&self, value: u64) -> Option<Sequencer>
-        requires { Going self.now }
-        ensures { (s : Seat) → Stands self.now s → GoesOn s value result }
+    /// Whether all is built that a step leads to whose access gives this value.
+    pub fn leads_on(&self, value: u64) -> bool
+        requires { Standing self.now }
+        ensures { (s : Seat) → Stands self.now s → result ≡ is_built_after s value }
     {
-        let Phase::Wants(_, then) = self.next() else {
-            return None;
+        match self.next() {
+            Phase::Wants(_, stage) => leads_on(self.size, &self.table, stage, value),
+            Phase::Ends(_) | Phase::NotBuilt => false,
+        }
+    }
+
+    /// Makes a step whose access gave this value, 0 where it gives none.
+    pub fn advance(&mut self, value: u64)
+        requires { IsLed self.old value }
+        ensures { (s : Seat) → Stands self.old s → Stands self.new (seat_after_value s value) }
+    {
+        let Phase::Wants(_, stage) = self.next() else {
+            return;
         };
-        let mut table = self.table;
-        let phase = resume(self.size, &mut table, then, value);
+        let phase = resume(self.size, &mut self.table, stage, value);
+        self.steps += 1;
         match phase {
-            Phase::Wants(wanted, then) => Some(Sequencer {
-                table,
-                making: Some((wanted, then)),
-                steps: self.steps + 1,
-                ..*self
-            }),
-            Phase::Ends(table) => Some(Sequencer {
-                table,
-                making: None,
-                steps: self.steps + 1,
-                ..*self
-            }),
-            Phase::NotBuilt => None,
+            Phase::Wants(wanted, stage) => self.making = Some((wanted, stage)),
+            Phase::Ends(ending) => {
+                self.table.end(ending);
+                self.making = None;
+            }
+            Phase::NotBuilt => {}
         }
     }
 
     /// What its group still has to do.
     fn next(&self) -> Phase
-        requires { MakesFit self.now.making }
+        requires { MakesFit self.now.table self.now.making }
         ensures plan { plan_of self.now.size self.now.table result ≡ plan_left self.now }
-        ensures fits { PhaseFits result }
+        ensures fits { PhaseFits self.now.table result }
     {
         match self.making {
             None => begin(self.size, &self.table),
-            Some((wanted, then)) => Phase::Wants(wanted, then),
+            Some((wanted, stage)) => Phase::Wants(wanted, stage),
         }
     }
 }

@@ -7,7 +7,7 @@ use Rattle.axp_base.specs.declared.lines.Line.{Line}
 use Rattle.axp_line.specs.declared.contents.LineData.{LineData}
 use Rattle.axp_bank.specs.declared.copies.LineCopy.{LineCopy}
 use Rattle.axp_bank.specs.Copies.{line_of, is_of, Whole, is_held, get_of, stamp_of, has_room, put, dropped, held_lines}
-use Rattle.axp_bank.proofs.GetLemmas.{held_get, get_put, get_put_other, get_dropped_other, whole_ascends}
+use Rattle.axp_bank.proofs.HeldCopyLemmas.{held_get, get_put, get_put_other, get_dropped_other, whole_ascends}
 use Rattle.axp_ibank.specs.Code.{bytes_of, code_lines, lines_beside, names_line}
 
 first_some : (o : Option (ℕ × LineData)) → is_some o ≡ is_some (option_map {T = ℕ × LineData} (λ s. s.0) o)

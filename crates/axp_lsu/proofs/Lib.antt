@@ -4,7 +4,7 @@ pub mod ReplyFitLemmas
 pub mod CpuNumberLemmas
 -- the entries of the write buffer
 pub mod EntryLemmas
-pub mod Makes
+pub mod EntryCountLemmas
 -- the lines of memory that are kept
 pub mod LineLemmas
 pub mod HeldLineLemmas

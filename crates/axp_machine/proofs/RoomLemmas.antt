@@ -28,7 +28,7 @@ use Rattle.axp_bus.proofs.QueueLemmas.{printed_few}
 -- a processor's memory has the image's size
 size-moved : (s : Seat) (vs : List ℕ) (p : Plan) → (seat_at_plan s vs p).size ≡ s.size
 size-moved s vs (End t) = refl
-size-moved s vs (Want w k) = refl
+size-moved s vs (Want t w k) = refl
 size-moved s vs Unbuilt = refl
 
 size_by : (o : Option Wanted) (r : Option Reply) (a : Actor) → (moved_by o r a).size ≡ a.seat.size

@@ -36,6 +36,10 @@ abbrev pub direct_of : Mode → ℕ → Result Where MmFault
 direct_of User va = Err Acv
 direct_of Kernel va = Ok (Direct (physical va))
 
+-- the number of the virtual page: bits 42:13
+abbrev pub page_of : Parts → ℕ
+page_of p = p.l1 * 2 ^ 20 + p.l2 * 2 ^ 10 + p.l3
+
 unfoldable pub split_of : ℕ → Mode → Result Where MmFault
 split_of va mode =
     if not (is_extended va) then Err Acv

@@ -1,5 +1,5 @@
 ghost use Rattle.std.specs.Prelude.{◌≡◌, ◌↔◌, ◌⊎◌, ◌%◌, ◌^◌, true, false, Err, Ok, IfErr};
-ghost use Rattle.axp_pte.specs.Addresses.{is_extended, is_kseg, parts_of, split_of};
+ghost use Rattle.axp_pte.specs.Addresses.{is_extended, is_kseg, page_of, parts_of, split_of};
 ghost use Rattle.axp_pte.specs.declared.addresses.Where.TheVariants.{Direct, Mapped};
 ghost use Rattle.axp_pte.specs.declared.faults.MmFault.TheVariants.{Acv};
 ghost use Rattle.axp_pte.specs.declared.faults.Mode.TheVariants.{Kernel, User};
@@ -18,6 +18,15 @@ pub struct Parts {
     pub l3: u16,
     /// Bits 12:0, the byte within the page of 8 KB, below 2^13.
     pub offset: u16,
+}
+
+impl Parts {
+    /// The number of the virtual page, bits 42:13.
+    pub fn page(self) -> u64
+        ensures { result ≡ page_of self }
+    {
+        (u64::from(self.l1) << 20) + (u64::from(self.l2) << 10) + u64::from(self.l3)
+    }
 }
 
 /// Where a virtual address leads.

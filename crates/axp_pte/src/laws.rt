@@ -1,6 +1,6 @@
 //! Laws of addresses and entries, each proved as the contract of a function that does nothing.
-ghost use Rattle.std.specs.Prelude.{ℕ, ◌≡◌, ◌↔◌, ◌%◌, ◌^◌, ◌<◌, ◌≤◌, ◌&&◌, not, true, bit_and};
-ghost use Rattle.axp_pte.specs.Addresses.{address_of, is_extended, is_kseg, parts_of};
+ghost use Rattle.std.specs.Prelude.{ℕ, ◌≡◌, ◌↔◌, ◌/◌, ◌%◌, ◌^◌, ◌<◌, ◌≤◌, ◌&&◌, not, true, bit_and};
+ghost use Rattle.axp_pte.specs.Addresses.{address_of, is_extended, is_kseg, page_of, parts_of};
 ghost use Rattle.axp_base.specs.Masks.{has_bit};
 ghost use Rattle.axp_pte.specs.Entries.{is_named, named_bits};
 ghost use Rattle.axp_pte.specs.Protection.{allows};
@@ -9,13 +9,15 @@ ghost use Rattle.axp_pte.specs.declared.faults.Mode.TheVariants.{Kernel, User};
 ghost use Rattle.axp_pte.specs.declared.faults.Way.TheVariants.{Fetch, Load, Store};
 
 /// The parts of an address, put together again, are its low 43 bits, and each part is within its
-/// range. Two extended addresses with the same parts are the same.
+/// range; the page's number is the bits above the offset. Two extended addresses with the same
+/// parts are the same.
 pub fn parts_make_the_address()
     ensures whole { (va : ℕ) → address_of (parts_of va) ≡ va % 2 ^ 43 }
     ensures l1 { (va : ℕ) → (parts_of va).l1 < 2 ^ 10 }
     ensures l2 { (va : ℕ) → (parts_of va).l2 < 2 ^ 10 }
     ensures l3 { (va : ℕ) → (parts_of va).l3 < 2 ^ 10 }
     ensures offset { (va : ℕ) → (parts_of va).offset < 2 ^ 13 }
+    ensures page { (va : ℕ) → page_of (parts_of va) ≡ va / 2 ^ 13 % 2 ^ 30 }
     ensures one_address { (a b : ℕ) → is_extended a ≡ true → is_extended b ≡ true
         → parts_of a ≡ parts_of b → a ≡ b }
 {}

@@ -10,7 +10,7 @@ use Rattle.axp_access.specs.declared.Record.{Record}
 use Rattle.axp_bank.specs.Copies.{Whole, copy_of, dropped, get_of, has_room, invalidated, is_held, put, refreshed}
 use Rattle.axp_bank.specs.declared.copies.LineCopy.{LineCopy}
 use Rattle.axp_bank.proofs.BankLemmas.{get_none, refreshed_none, whole_dropped, whole_refreshed}
-use Rattle.axp_bank.proofs.GetLemmas.{get_dropped, get_dropped_other, get_put, get_put_other, get_refreshed, get_refreshed_other, held_get, invalidated_absent, invalidated_kept, invalidated_older, invalidated_other, whole_invalidated, whole_put}
+use Rattle.axp_bank.proofs.HeldCopyLemmas.{get_dropped, get_dropped_other, get_put, get_put_other, get_refreshed, get_refreshed_other, held_get, invalidated_absent, invalidated_kept, invalidated_older, invalidated_other, whole_invalidated, whole_put}
 use Rattle.axp_line.specs.declared.contents.LineData.{LineData}
 use Rattle.axp_lsu.specs.Keeping.{LocalMemory, copies_of, data_copies, with_copies}
 use Rattle.axp_model.specs.Late.{code_held, held}

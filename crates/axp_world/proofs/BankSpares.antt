@@ -9,7 +9,7 @@ use Rattle.axp_base.specs.declared.lines.TheConstants.{LINE_BYTES}
 use Rattle.axp_bank.specs.Copies.{line_of, is_of, Above, Ascending, Whole, is_held, shown, get_of, spared}
 use Rattle.axp_bank.specs.declared.copies.LineCopy.{LineCopy}
 use Rattle.axp_bank.proofs.BankLemmas.{above_none, get_none}
-use Rattle.axp_bank.proofs.GetLemmas.{comes, goes}
+use Rattle.axp_bank.proofs.HeldCopyLemmas.{comes, goes}
 use Rattle.axp_line.specs.declared.contents.LineData.{LineData}
 use Rattle.axp_line.specs.BusReply.{PortState, gone, is_late}
 use Rattle.axp_laws.specs.LateLaws.{is_among, IsAscending}

@@ -24,7 +24,7 @@ use Rattle.axp_lsu.specs.Going as going
 use Rattle.axp_lsu.specs.Going.{after_access, after_line, after_late, after_drain, after_barrier, after_fill, fill_outcome, drain_outcome, after_act, outcome_by, poll_outcome, after_stored, step_outcome, after_step, take_outcome}
 use Rattle.axp_lsu.specs.Keeping.{LocalMemory}
 use Rattle.axp_lsu.specs.declared.asks.Ask2.{Ask2}
-use Rattle.axp_lsu.proofs.Makes.{brought-buffer, delivered-buffer, fenced-buffer, filled-buffer, rewritten-buffer, with_copies-buffer}
+use Rattle.axp_lsu.proofs.EntryCountLemmas.{brought-buffer, delivered-buffer, fenced-buffer, filled-buffer, rewritten-buffer, with_copies-buffer}
 use Rattle.axp_model.specs.Legal.{is_timely}
 use Rattle.axp_laws.proofs.RunFacts.{Fitting}
 use Rattle.axp_wbuf.specs.Drains.{oldest_group, without}

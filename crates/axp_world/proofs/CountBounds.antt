@@ -23,7 +23,7 @@ use Rattle.axp_cpu.specs.Seats.{Seat, seat_at_plan}
 use Rattle.axp_world.specs.Worlds.{reply_for}
 use Rattle.axp_world.proofs.AskedActs.{IsAllowed, allowed, is_asked}
 use Rattle.axp_world.proofs.CountCalls.{turned, turned_most}
-use Rattle.axp_lsu.proofs.Makes.{filled-buffer}
+use Rattle.axp_lsu.proofs.EntryCountLemmas.{filled-buffer}
 use Rattle.axp_world.proofs.CountKept.{copies_same, delivered_same, drained_one, since_after, since_is, stepped_one}
 use Rattle.axp_world.proofs.AskedQuiet.{IsQuiet, aside_quiet, is_aside}
 use Rattle.axp_world.proofs.CountTallies.{Tally, counted, counts_steps, total, with_dropped}
@@ -88,7 +88,7 @@ pub record IsBounded (most : ℕ) (a : Actor) (t : Tally) (own : ℕ) : Type 0 w
 -- a Step is counted, and no other act
 moved_steps : (s : Seat) (values : List ℕ) (plan : Plan) → ((seat_at_plan s values plan).budget ≡ s.budget) × ((seat_at_plan s values plan).steps ≡ s.steps + 1)
 moved_steps s values (End t) = (refl, refl)
-moved_steps s values (Want w k) = (refl, refl)
+moved_steps s values (Want t w k) = (refl, refl)
 moved_steps s values Unbuilt = (refl, refl)
 
 step_moves : (o : Option Wanted) (r : Option Reply) (a : Actor) → step_built o a ≡ true → ((moved_by o r a).budget ≡ a.seat.budget) × ((moved_by o r a).steps ≡ a.seat.steps + 1)

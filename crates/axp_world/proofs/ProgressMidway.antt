@@ -21,12 +21,12 @@ WantsWithin s = is_empty s.values ≡ false → is_some (wanted_by (plan_now s))
 -- a plan goes on
 given_built : (v : ℕ) (p : Plan) → plan_is_built_after v p ≡ true → is_built (given v p) ≡ true
 given_built v (End t) built = cc
-given_built v (Want w k) built = built
+given_built v (Want t w k) built = built
 given_built v Unbuilt built = cc
 
 moved_wants : (s : Seat) (vs : List ℕ) (p : Plan) → along vs (group s.size s.start) ≡ p → is_built p ≡ true → WantsWithin (seat_at_plan s vs p)
 moved_wants s vs (End t) is built = λ within. cc
-moved_wants s vs (Want w k) is built = λ within. ap (λ (x : Plan). is_some (wanted_by x)) is
+moved_wants s vs (Want t w k) is built = λ within. ap (λ (x : Plan). is_some (wanted_by x)) is
 moved_wants s vs Unbuilt is built = cc
 
 stepped_wants : (s : Seat) (v : ℕ) → is_built_after s v ≡ true → WantsWithin (seat_after_value s v)

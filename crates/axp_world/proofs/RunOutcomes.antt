@@ -4,7 +4,7 @@ use Rattle.std.specs.Prelude.{Ok}
 use mathlib.Core.Bool.{Bool-set}
 use Rattle.std.proofs.lemmas.Bool.{and_parts, not-true, lt-ltb, false≢true}
 use Rattle.axp_bank.specs.Copies.{get_of, has_older, is_older}
-use Rattle.axp_bank.proofs.GetLemmas.{held_get}
+use Rattle.axp_bank.proofs.HeldCopyLemmas.{held_get}
 use Rattle.axp_base.specs.Cpus.{cpu_by, cpu_number}
 use Rattle.axp_base.specs.Lines.{line_number, line_at, line_by, line_numbered, line_of}
 use Rattle.axp_base.specs.declared.lines.Bank.{Bank}

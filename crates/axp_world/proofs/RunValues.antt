@@ -3,7 +3,7 @@ use Rattle.std.proofs.Common.{true, false, ℕ, zero, suc, ◌+◌, ◌*◌, ◌
 use Rattle.std.specs.Option.{option_map, option_or}
 use Rattle.std.proofs.lemmas.Bool.{false≢true}
 use Rattle.axp_bank.specs.Copies.{get_of, stamp_of}
-use Rattle.axp_bank.proofs.GetLemmas.{held_get}
+use Rattle.axp_bank.proofs.HeldCopyLemmas.{held_get}
 use Rattle.axp_base.specs.Cpus.{cpu_number}
 use Rattle.axp_base.specs.Lines.{line_number, line_at, line_of}
 use Rattle.axp_base.specs.Parts.{number_at, part}

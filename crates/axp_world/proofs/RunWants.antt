@@ -45,7 +45,7 @@ first_seated image cpus budget n valid = record { pages = valid.whole_pages; mos
 
 moved_seated : (s : Seat) (values : List ℕ) (p : Plan) → IsSeated s → IsSound s.size p → IsSeated (seat_at_plan s values p)
 moved_seated s values (End t) seated sound = record { pages = seated.pages; most = seated.most; pc = sound }
-moved_seated s values (Want w k) seated sound = record { pages = seated.pages; most = seated.most; pc = seated.pc }
+moved_seated s values (Want t w k) seated sound = record { pages = seated.pages; most = seated.most; pc = seated.pc }
 moved_seated s values Unbuilt seated sound = record { pages = seated.pages; most = seated.most; pc = seated.pc }
 
 wanted_seated : (o : Option Wanted) (r : Option Reply) (a : Actor) → IsSeated a.seat → IsSeated (moved_by o r a)
@@ -125,7 +125,7 @@ WantsWell o = WantsInLine o × WantsTarget o × (wants_poll o ≡ false)
 
 plan_wants : (size : ℕ) (p : Plan) → size ≤ MAX_MEMORY → IsSound size p → WantsWell (wanted_by p)
 plan_wants size (End t) most sound = (tt, tt, refl)
-plan_wants size (Want w k) most sound = (kind_in_line w.kind size w most sound.0, kind_target w.kind size w refl sound.0, kind_no_poll w.kind size w sound.0)
+plan_wants size (Want t w k) most sound = (kind_in_line w.kind size w most sound.0, kind_target w.kind size w refl sound.0, kind_no_poll w.kind size w sound.0)
 plan_wants size Unbuilt most sound = (tt, tt, refl)
 
 seat_wants : (s : Seat) → IsSeated s → WantsWell (wanted s)

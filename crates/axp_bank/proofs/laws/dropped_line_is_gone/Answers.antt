@@ -1,4 +1,4 @@
-use Rattle.axp_bank.proofs.GetLemmas.{held_dropped, get_dropped_other}
+use Rattle.axp_bank.proofs.HeldCopyLemmas.{held_dropped, get_dropped_other}
 use Rattle.axp_bank.proofs.laws.dropped_line_is_gone.Goals as goal
 
 pub returns-clause-line : goal.returns-clause-line

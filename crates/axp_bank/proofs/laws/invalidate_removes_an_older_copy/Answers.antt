@@ -1,4 +1,4 @@
-use Rattle.axp_bank.proofs.GetLemmas.{invalidated_older, invalidated_kept, invalidated_absent, invalidated_other, invalidated_told}
+use Rattle.axp_bank.proofs.HeldCopyLemmas.{invalidated_older, invalidated_kept, invalidated_absent, invalidated_other, invalidated_told}
 use Rattle.axp_bank.proofs.laws.invalidate_removes_an_older_copy.Goals as goal
 
 pub returns-clause-older : goal.returns-clause-older

@@ -1,4 +1,4 @@
-use Rattle.axp_bank.proofs.GetLemmas.{lines_held, lines_stamps, lines_ascend}
+use Rattle.axp_bank.proofs.HeldCopyLemmas.{lines_held, lines_stamps, lines_ascend}
 use Rattle.axp_bank.proofs.laws.lines_are_the_held_ones.Goals as goal
 
 pub returns-clause-held : goal.returns-clause-held

@@ -1,5 +1,5 @@
 use Rattle.axp_bank.proofs.BankLemmas.{whole_empty, whole_refreshed, whole_dropped}
-use Rattle.axp_bank.proofs.GetLemmas.{whole_ascends, whole_put, whole_invalidated}
+use Rattle.axp_bank.proofs.HeldCopyLemmas.{whole_ascends, whole_put, whole_invalidated}
 use Rattle.axp_bank.proofs.laws.lines_stay_distinct_and_few.Goals as goal
 
 pub returns-clause-distinct : goal.returns-clause-distinct

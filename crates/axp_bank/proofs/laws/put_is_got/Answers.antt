@@ -1,4 +1,4 @@
-use Rattle.axp_bank.proofs.GetLemmas.{get_put, get_put_other, put_no_room, room_of_held, room_of_few, no_room_full}
+use Rattle.axp_bank.proofs.HeldCopyLemmas.{get_put, get_put_other, put_no_room, room_of_held, room_of_few, no_room_full}
 use Rattle.axp_bank.proofs.laws.put_is_got.Goals as goal
 
 pub returns-clause-line : goal.returns-clause-line

@@ -1,5 +1,5 @@
 use Rattle.axp_bank.proofs.BankLemmas.{refreshed_none}
-use Rattle.axp_bank.proofs.GetLemmas.{get_refreshed, get_refreshed_other, held_refreshed}
+use Rattle.axp_bank.proofs.HeldCopyLemmas.{get_refreshed, get_refreshed_other, held_refreshed}
 use Rattle.axp_bank.proofs.laws.refresh_changes_a_held_line.Goals as goal
 
 pub returns-clause-line : goal.returns-clause-line

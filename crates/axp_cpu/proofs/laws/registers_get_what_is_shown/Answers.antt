@@ -1,7 +1,5 @@
-use Rattle.std.proofs.Common.{ap}
-use Rattle.axp_cpu.specs.Seats.{Seat}
 use Rattle.axp_cpu.proofs.RegisterLemmas.{seat_in_has}
-use Rattle.axp_cpu.proofs.ShowingLemmas.{flag_shown, goes_on_after, goes_on_shown, none_stored, others_stay, register_shown}
+use Rattle.axp_cpu.proofs.ShowingLemmas.{ends_after, flag_shown, goes_on_after, none_stored, others_stay, register_shown}
 use Rattle.axp_cpu.proofs.laws.registers_get_what_is_shown.Goals as goal
 
 pub returns-clause-register : goal.returns-clause-register
@@ -17,7 +15,7 @@ pub returns-clause-flag : goal.returns-clause-flag
 returns-clause-flag c = flag_shown
 
 pub returns-clause-ends : goal.returns-clause-ends
-returns-clause-ends c = λ s op a x is. ap (λ (q : Seat). q.values) (goes_on_shown s op a x is)
+returns-clause-ends c = ends_after
 
 pub returns-clause-next : goal.returns-clause-next
 returns-clause-next c = goes_on_after

@@ -1,11 +1,8 @@
-use Rattle.axp_cpu.proofs.RefusalLemmas.{group_built, looked_up_leads, row_built}
+use Rattle.axp_cpu.proofs.RefusalLemmas.{group_built, row_built}
 use Rattle.axp_cpu.proofs.laws.what_is_not_built.Goals as goal
 
 pub returns-clause-fetch : goal.returns-clause-fetch
 returns-clause-fetch c = group_built
-
-pub returns-clause-look_up : goal.returns-clause-look_up
-returns-clause-look_up c = looked_up_leads
 
 pub returns-clause-instruction : goal.returns-clause-instruction
 returns-clause-instruction c = row_built

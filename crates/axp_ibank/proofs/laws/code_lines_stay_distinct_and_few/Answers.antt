@@ -1,5 +1,5 @@
 use Rattle.axp_bank.proofs.BankLemmas.{whole_empty, whole_dropped}
-use Rattle.axp_bank.proofs.GetLemmas.{whole_ascends, whole_put}
+use Rattle.axp_bank.proofs.HeldCopyLemmas.{whole_ascends, whole_put}
 use Rattle.axp_ibank.proofs.laws.code_lines_stay_distinct_and_few.Goals as goal
 
 pub returns-clause-distinct : goal.returns-clause-distinct

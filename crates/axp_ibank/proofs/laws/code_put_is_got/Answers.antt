@@ -1,4 +1,4 @@
-use Rattle.axp_bank.proofs.GetLemmas.{put_no_room, room_of_held, room_of_few, no_room_full}
+use Rattle.axp_bank.proofs.HeldCopyLemmas.{put_no_room, room_of_held, room_of_few, no_room_full}
 use Rattle.axp_ibank.proofs.CodeLemmas.{bytes_put, stamp_put, bytes_put_other, stamp_put_other}
 use Rattle.axp_ibank.proofs.laws.code_put_is_got.Goals as goal
 

@@ -1,4 +1,4 @@
-use Rattle.axp_bank.proofs.GetLemmas.{held_dropped}
+use Rattle.axp_bank.proofs.HeldCopyLemmas.{held_dropped}
 use Rattle.axp_ibank.proofs.CodeLemmas.{bytes_dropped_other, stamp_dropped_other}
 use Rattle.axp_ibank.proofs.laws.dropped_code_line_is_gone.Goals as goal
 

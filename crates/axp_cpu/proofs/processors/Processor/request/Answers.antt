@@ -6,7 +6,7 @@ pub is_built-requires : goal.is_built-requires
 is_built-requires c = record {
   actor = c.requires.actor;
   at = c.requires.at;
-  wants = ap (λ i. i.wanted) (c.intent-intent.ensures.value c.requires.actor.seat c.requires.at.seat);
+  wants = λ a at. ap (λ i. i.wanted) (c.intent-intent.ensures.value a.seat at.seat);
 }
 
 pub returns-then-is_built-clause-within : goal.returns-then-is_built-clause-within

@@ -2,7 +2,7 @@ use Rattle.std.proofs.Common.{◌+◌, ◌≤◌, sym, subst}
 use Rattle.axp_lsu.specs.Keeping.{LocalMemory}
 use Rattle.axp_lsu.specs.Within.{IsKeptWithin}
 use Rattle.axp_lsu.proofs.KeptRangeLemmas.{advanced_within}
-use Rattle.axp_lsu.proofs.Makes.{advanced_few}
+use Rattle.axp_lsu.proofs.EntryCountLemmas.{advanced_few}
 use Rattle.axp_lsu.proofs.units.Lsu.advance.Goals as goal
 
 pub returns-clause-within : goal.returns-clause-within

@@ -1,0 +1,163 @@
+-- What holds of every plan by which an access comes to its physical address: at once, by a translation that
+-- is kept, or by a walk.
+use Rattle.std.proofs.Common.{◌≡◌, ◌⊎◌, ℕ, ◌+◌, ◌*◌, ◌%◌, ◌^◌, ◌<◌, Bool, true, false, cond, not, eqb, ltb, Option, Some, None, arith, refl, sym, ap, ◌∙◌, subst, inl, inr}
+use Rattle.std.proofs.lemmas.Bool.{ltb-true, eqb-true}
+use Rattle.std.specs.Prelude.{Result, Ok, Err}
+use Rattle.axp_access.specs.declared.Wanted.{Wanted}
+use Rattle.axp_base.specs.Masks.{IsSize}
+use Rattle.axp_base.specs.declared.parts.TheConstants.{QUADWORD_BYTES}
+use Rattle.axp_image.specs.declared.limits.TheConstants.{PAGE_BYTES}
+use Rattle.axp_pte.specs.Addresses.{direct_of, is_extended, is_kseg, parts_of, physical, split_of}
+use Rattle.axp_pte.specs.Entries.{pte_of, pte_word}
+use Rattle.axp_pte.specs.Protection.{upper_of}
+use Rattle.axp_pte.specs.declared.addresses.Parts.{Parts}
+use Rattle.axp_pte.specs.declared.addresses.Where.{Where}
+use Rattle.axp_pte.specs.declared.addresses.Where.TheVariants.{Direct, Mapped}
+use Rattle.axp_pte.specs.declared.entries.Pte.{Pte}
+use Rattle.axp_pte.specs.declared.faults.MmFault.{MmFault}
+use Rattle.axp_pte.specs.declared.faults.MmFault.TheVariants.{Acv}
+use Rattle.axp_pte.specs.declared.faults.Mode.{Mode}
+use Rattle.axp_pte.specs.declared.faults.Mode.TheVariants.{Kernel, User}
+use Rattle.axp_pte.specs.declared.faults.Way.{Way}
+use Rattle.axp_pte.specs.declared.faults.Way.TheVariants as way
+use Rattle.axp_regs.specs.States.{ptbr_of}
+use Rattle.axp_regs.specs.declared.asks.Ask.{Ask}
+use Rattle.axp_regs.specs.declared.asks.Kind.TheVariants.{Read}
+use Rattle.axp_cpu.specs.declared.cpu_states.CpuState.{CpuState}
+use Rattle.axp_cpu.specs.declared.translation.Level.{Level}
+use Rattle.axp_cpu.specs.declared.translation.Level.TheVariants as level
+use Rattle.axp_cpu.specs.declared.translation.MappedAsk.{MappedAsk}
+use Rattle.axp_cpu.specs.Plans.{Plan, Want, Unbuilt}
+use Rattle.axp_cpu.specs.Translation.{aligned_plan, entry_address, entry_kept, entry_plan, first_entry, frame_of, frame_plan, framed_by, index_at, kept_plan, mapped_plan, physical_plan, reach_plan, second_entry, split_plan, third_entry, walk_plan, way_of, with_kept, with_page_kept}
+
+-- nothing changed but the translations that are kept
+abbrev pub HasKept : CpuState → CpuState → Type 0
+HasKept t u = (u.state ≡ t.state) × (u.halted ≡ t.halted)
+
+-- a part of the virtual address stays a part of the physical one
+abbrev pub IsAlignedAs : ℕ → ℕ → Type 0
+IsAlignedAs far near = (n : ℕ) → IsSize n → far % n ≡ 0 → near % n ≡ 0
+
+-- what is read of the page tables, and the access itself
+abbrev pub entry_wanted : ℕ → Wanted
+entry_wanted address = record { kind = Read; address = address; size = QUADWORD_BYTES; value = 0 }
+
+abbrev pub wanted_at : Ask → ℕ → Wanted
+wanted_at ask address = record { kind = ask.kind; address = address; size = ask.size; value = ask.value }
+
+-- what a property of plans must have: it holds of what is not built, of the read of an entry where it holds
+-- of all that follows, and of the access itself
+pub record Carries (P : Plan → Type 0) (size : ℕ) (t : CpuState) (ask : Ask) (k : CpuState → ℕ → Plan) : Type 0 where
+  pub unbuilt : P Unbuilt
+  pub entry : (address : ℕ) → address < size → address % 8 ≡ 0 → (next : ℕ → Plan) → ((v : ℕ) → P (next v)) → P (Want t (entry_wanted address) next)
+  pub access : (u : CpuState) → HasKept t u → (address : ℕ) → address < size → IsAlignedAs ask.address address → P (Want u (wanted_at ask address) (k u))
+
+kept_stays : (w : Way) (page : ℕ) (pte : Pte) (t : CpuState) → HasKept t (with_kept w page pte t)
+kept_stays way.Fetch page pte t = (refl, refl)
+kept_stays way.Load page pte t = (refl, refl)
+kept_stays way.Store page pte t = (refl, refl)
+
+-- where an address leads
+direct_by : (extended kseg : Bool) (va : ℕ) (mode : Mode) (a : ℕ) → cond (not extended) (Err Acv) (cond kseg (direct_of mode va) (Ok (Mapped (parts_of va)))) ≡ Ok (Direct a) → a ≡ physical va
+direct_by true true va User a e = cc
+direct_by true true va Kernel a e = cc
+direct_by true false va mode a e = cc
+direct_by false kseg va mode a e = cc
+
+pub direct_is : (va : ℕ) (mode : Mode) (a : ℕ) → split_of va mode ≡ Ok (Direct a) → a ≡ physical va
+unfolding split_of
+direct_is va mode a e = direct_by (is_extended va) (is_kseg va) va mode a e
+
+mapped_by : (extended kseg : Bool) (va : ℕ) (mode : Mode) (parts : Parts) → cond (not extended) (Err Acv) (cond kseg (direct_of mode va) (Ok (Mapped (parts_of va)))) ≡ Ok (Mapped parts) → parts ≡ parts_of va
+mapped_by true true va User parts e = cc
+mapped_by true true va Kernel parts e = cc
+mapped_by true false va mode parts e = cc
+mapped_by false kseg va mode parts e = cc
+
+pub mapped_is : (va : ℕ) (mode : Mode) (parts : Parts) → split_of va mode ≡ Ok (Mapped parts) → parts ≡ parts_of va
+unfolding split_of
+mapped_is va mode parts e = mapped_by (is_extended va) (is_kseg va) va mode parts e
+
+-- a physical address is as aligned as its virtual one
+low_aligned : (a n : ℕ) → IsSize n → a % n ≡ 0 → physical a % n ≡ 0
+low_aligned a n (inl e) h = rw e (omega arith)
+low_aligned a n (inr (inl e)) h = let k = rw e at h in rw e (omega arith)
+low_aligned a n (inr (inr (inl e))) h = let k = rw e at h in rw e (omega arith)
+low_aligned a n (inr (inr (inr e))) h = let k = rw e at h in rw e (omega arith)
+
+framed_aligned : (frame a n : ℕ) → IsSize n → a % n ≡ 0 → (frame * PAGE_BYTES + a % 2 ^ 13) % n ≡ 0
+framed_aligned frame a n (inl e) h = rw e (omega arith)
+framed_aligned frame a n (inr (inl e)) h = let k = rw e at h in rw e (omega arith)
+framed_aligned frame a n (inr (inr (inl e))) h = let k = rw e at h in rw e (omega arith)
+framed_aligned frame a n (inr (inr (inr e))) h = let k = rw e at h in rw e (omega arith)
+
+pub entry_aligned : (table index : ℕ) → entry_address table index % 8 ≡ 0
+entry_aligned table index = low (table * PAGE_BYTES + QUADWORD_BYTES * index) (whole table index) where
+  whole : (m n : ℕ) → (m * PAGE_BYTES + QUADWORD_BYTES * n) % 8 ≡ 0
+  whole m n = omega arith
+
+  low : (n : ℕ) → n % 8 ≡ 0 → n % 2 ^ 64 % 8 ≡ 0
+  low n e = omega arith
+
+-- the steps to the access, each by what it may come to
+placed_by : (P : Plan → Type 0) (size : ℕ) (t u : CpuState) (ask : Ask) (k : CpuState → ℕ → Plan) (address : ℕ) (below : Bool) → ltb address size ≡ below → Carries P size t ask k → HasKept t u → IsAlignedAs ask.address address
+    → P (cond below (Want u (wanted_at ask address) (k u)) Unbuilt)
+placed_by P size t u ask k address true is c kept aligned = c.access u kept address (ltb-true address size is) aligned
+placed_by P size t u ask k address false is c kept aligned = c.unbuilt
+
+placed_carries : (P : Plan → Type 0) (size : ℕ) (t u : CpuState) (ask : Ask) (k : CpuState → ℕ → Plan) (address : ℕ) → Carries P size t ask k → HasKept t u → IsAlignedAs ask.address address → P (physical_plan size u ask address k)
+placed_carries P size t u ask k address c kept aligned = placed_by P size t u ask k address (ltb address size) refl c kept aligned
+
+entry_by : (P : Plan → Type 0) (size : ℕ) (t : CpuState) (ask : Ask) (k : CpuState → ℕ → Plan) (next : ℕ → Plan) (index table : ℕ) (below : Bool) → ltb (entry_address table index) size ≡ below → Carries P size t ask k → ((v : ℕ) → P (next v))
+    → P (cond below (Want t (entry_wanted (entry_address table index)) next) Unbuilt)
+entry_by P size t ask k next index table true is c follows = c.entry (entry_address table index) (ltb-true (entry_address table index) size is) (entry_aligned table index) next follows
+entry_by P size t ask k next index table false is c follows = c.unbuilt
+
+entry_carries : (P : Plan → Type 0) (size : ℕ) (t : CpuState) (ask : Ask) (k : CpuState → ℕ → Plan) (next : ℕ → Plan) (index table : ℕ) → Carries P size t ask k → ((v : ℕ) → P (next v)) → P (entry_plan size t next index table)
+entry_carries P size t ask k next index table c follows = entry_by P size t ask k next index table (ltb (entry_address table index) size) refl c follows
+
+framed_carries : (P : Plan → Type 0) (o : Result ℕ MmFault) (next : ℕ → Plan) → P Unbuilt → ((frame : ℕ) → P (next frame)) → P (framed_by o next)
+framed_carries P (Ok frame) next unbuilt follows = follows frame
+framed_carries P (Err fault) next unbuilt follows = unbuilt
+
+-- the walk, for an address of these parts
+pub third_carries : (P : Plan → Type 0) (size : ℕ) (t : CpuState) (far : MappedAsk) (k : CpuState → ℕ → Plan) → far.parts ≡ parts_of far.ask.address → Carries P size t far.ask k → (v : ℕ) → P (third_entry size t far k v)
+third_carries P size t far k is c v =
+    framed_carries P (frame_of far v) (frame_plan size (with_page_kept far v t) far k) c.unbuilt (λ frame.
+      placed_carries P size t (with_page_kept far v t) far.ask k (frame * PAGE_BYTES + far.parts.offset) c (kept_stays (way_of far.ask.kind) _ (pte_of v) t)
+      (rw is (framed_aligned frame far.ask.address)))
+
+pub second_carries : (P : Plan → Type 0) (size : ℕ) (t : CpuState) (far : MappedAsk) (k : CpuState → ℕ → Plan) → far.parts ≡ parts_of far.ask.address → Carries P size t far.ask k → (v : ℕ) → P (second_entry size t far k v)
+second_carries P size t far k is c v =
+    framed_carries P (upper_of v) _ c.unbuilt (λ table. entry_carries P size t far.ask k (third_entry size t far k) (index_at level.Third far.parts) table c (third_carries P size t far k is c))
+
+pub first_carries : (P : Plan → Type 0) (size : ℕ) (t : CpuState) (far : MappedAsk) (k : CpuState → ℕ → Plan) → far.parts ≡ parts_of far.ask.address → Carries P size t far.ask k → (v : ℕ) → P (first_entry size t far k v)
+first_carries P size t far k is c v =
+    framed_carries P (upper_of v) _ c.unbuilt (λ table. entry_carries P size t far.ask k (second_entry size t far k) (index_at level.Second far.parts) table c (second_carries P size t far k is c))
+
+kept_carries : (P : Plan → Type 0) (size : ℕ) (t : CpuState) (far : MappedAsk) (k : CpuState → ℕ → Plan) (o : Option Pte) → far.parts ≡ parts_of far.ask.address → Carries P size t far.ask k → P (kept_plan size t far k o)
+kept_carries P size t far k (Some pte) is c =
+    framed_carries P (frame_of far (pte_word pte)) (frame_plan size t far k) c.unbuilt (λ frame.
+      placed_carries P size t t far.ask k (frame * PAGE_BYTES + far.parts.offset) c (refl, refl) (rw is (framed_aligned frame far.ask.address)))
+kept_carries P size t far k None is c =
+    entry_carries P size t far.ask k (first_entry size t far k) (index_at level.First far.parts) (ptbr_of t.state) c (first_carries P size t far k is c)
+
+split_carries : (P : Plan → Type 0) (size : ℕ) (t : CpuState) (mode : Mode) (ask : Ask) (k : CpuState → ℕ → Plan) (o : Result Where MmFault) → split_of ask.address mode ≡ o → Carries P size t ask k → P (split_plan size t mode ask k o)
+split_carries P size t mode ask k (Ok (Direct a)) is c =
+    placed_carries P size t t ask k a c (refl, refl) (λ n sized h. rw (direct_is ask.address mode a is) (low_aligned ask.address n sized h))
+split_carries P size t mode ask k (Ok (Mapped parts)) is c =
+    let far : MappedAsk = record { ask = ask; mode = mode; parts = parts } in
+    kept_carries P size t far k (entry_kept t far) (mapped_is ask.address mode parts is) c
+split_carries P size t mode ask k (Err fault) is c = c.unbuilt
+
+pub reach_carries : (P : Plan → Type 0) (size : ℕ) (t : CpuState) (mode : Mode) (ask : Ask) (k : CpuState → ℕ → Plan) → Carries P size t ask k → P (reach_plan size t mode ask k)
+reach_carries P size t mode ask k c = split_carries P size t mode ask k (split_of ask.address mode) refl c
+
+-- a plan behind a test
+pub either : (P : Plan → Type 0) (tested : Bool) (p q : Plan) → (tested ≡ true → P p) → (tested ≡ false → P q) → P (cond tested p q)
+either P true p q left right = left refl
+either P false p q left right = right refl
+
+pub aligned_carries : (P : Plan → Type 0) (size : ℕ) (t : CpuState) (mode : Mode) (ask : Ask) (k : CpuState → ℕ → Plan) → (ask.address % ask.size ≡ 0 → Carries P size t ask k) → P Unbuilt → P (aligned_plan size t mode ask k)
+aligned_carries P size t mode ask k c unbuilt =
+    either P (eqb (ask.address % ask.size) 0) (reach_plan size t mode ask k) Unbuilt (λ passed. reach_carries P size t mode ask k (c (eqb-true (ask.address % ask.size) 0 passed))) (λ _. unbuilt)
