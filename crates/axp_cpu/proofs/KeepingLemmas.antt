@@ -25,7 +25,7 @@ use Rattle.axp_decode.specs.declared.names.PalOp.TheVariants as pal
 use Rattle.axp_regs.specs.States.{register, with_register}
 use Rattle.axp_regs.specs.declared.asks.Ask.{Ask}
 use Rattle.axp_regs.specs.declared.asks.Kind.{Kind}
-use Rattle.axp_regs.specs.declared.asks.Kind.TheVariants.{Conditional, Fetch, Locked, Read, Write}
+use Rattle.axp_regs.specs.declared.asks.Kind.TheVariants.{Conditional, Locked, Read, Write}
 use Rattle.axp_regs.specs.declared.states.State.{State}
 use Rattle.axp_regs.specs.declared.states.TheConstants.{ZERO_REGISTER}
 use Rattle.axp_cpu.specs.declared.cpu_states.CpuState.{CpuState}

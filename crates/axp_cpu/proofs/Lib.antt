@@ -1,5 +1,6 @@
 -- plans: the access by which an address is reached, and what every plan keeps
 pub mod ReachLemmas
+pub mod TranslationLemmas
 pub mod PlanLemmas
 pub mod KeepingLemmas
 pub mod TableLemmas

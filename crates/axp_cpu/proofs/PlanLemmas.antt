@@ -1,5 +1,5 @@
 -- Every plan of the instruction table is sound.
-use Rattle.std.proofs.Common.{◌≡◌, ◌⊎◌, ℕ, ◌+◌, ◌*◌, ◌/◌, ◌%◌, ◌^◌, ◌<◌, ◌≤◌, Bool, true, false, cond, eqb, List, [], ◌∷◌, arith, rules, refl, inl, inr}
+use Rattle.std.proofs.Common.{◌≡◌, ◌⊎◌, ℕ, ◌+◌, ◌%◌, ◌^◌, ◌<◌, ◌≤◌, Bool, true, false, cond, eqb, List, [], ◌∷◌, arith, rules, refl, inl, inr}
 use Rattle.axp_access.specs.declared.Wanted.{Wanted}
 use Rattle.axp_base.specs.Masks.{IsSize}
 use Rattle.axp_base.specs.Numbers.{sign_extended}
@@ -34,8 +34,9 @@ use Rattle.axp_cpu.specs.declared.cpu_states.CpuState.{CpuState}
 use Rattle.axp_cpu.specs.Plans.{Plan, End, Want, Unbuilt, given, along}
 use Rattle.axp_cpu.specs.Rows.{group, plan_of_word, barrier_plan, row, memory_row, branch_row, branch_target, operate_row, misc_row, pal_row, next_plan, register_plan, load_plan, as_read, as_read_with, as_longword, as_longword_with, as_made, address_of, quadword_at, operand, datum_plan, fetch_of, virtual_ask}
 use Rattle.axp_cpu.specs.Soundness.{IsSound, IsSoundAs}
+use Rattle.axp_cpu.specs.Translation.{wanted_at}
 use Rattle.axp_cpu.specs.CpuStates.{mode_of, with_fetch_counted, next_pc}
-use Rattle.axp_cpu.proofs.ReachLemmas.{Carries, HasKept, aligned_carries, either, reach_carries, wanted_at}
+use Rattle.axp_cpu.proofs.ReachLemmas.{Carries, HasKept, aligned_carries, either, reach_carries}
 
 -- the end of an aligned part of whole pages lies in them
 part_within : (n a size : ℕ) → IsSize n → a % n ≡ 0 → a < size → size % PAGE_BYTES ≡ 0 → a + n ≤ size
@@ -208,7 +209,7 @@ unfolding group
 group_sound size t pages h =
     reach_carries (IsSound size) size t (mode_of t) (fetch_of t) (plan_of_word size)
     (reached_sound size t (fetch_of t) (plan_of_word size) pages asks_fetch h
-      (λ u kept v. row_sound size (with_fetch_counted u) (instr_of (v % 2 ^ 32)) pages (rw kept.0 h)))
+    (λ u kept v. row_sound size (with_fetch_counted u) (instr_of (v % 2 ^ 32)) pages (rw kept.0 h)))
 
 given_sound : (size v : ℕ) (p : Plan) → IsSound size p → IsSound size (given v p)
 given_sound size v (End t) sound = sound

@@ -1,9 +1,8 @@
 -- What holds of every plan by which an access comes to its physical address: at once, by a translation that
 -- is kept, or by a walk.
-use Rattle.std.proofs.Common.{◌≡◌, ◌⊎◌, ℕ, ◌+◌, ◌*◌, ◌%◌, ◌^◌, ◌<◌, Bool, true, false, cond, not, eqb, ltb, Option, Some, None, arith, refl, sym, ap, ◌∙◌, subst, inl, inr}
+use Rattle.std.proofs.Common.{◌≡◌, ℕ, ◌+◌, ◌*◌, ◌%◌, ◌^◌, ◌<◌, Bool, true, false, cond, not, eqb, ltb, Option, Some, None, arith, refl, inl, inr}
 use Rattle.std.proofs.lemmas.Bool.{ltb-true, eqb-true}
 use Rattle.std.specs.Prelude.{Result, Ok, Err}
-use Rattle.axp_access.specs.declared.Wanted.{Wanted}
 use Rattle.axp_base.specs.Masks.{IsSize}
 use Rattle.axp_base.specs.declared.parts.TheConstants.{QUADWORD_BYTES}
 use Rattle.axp_image.specs.declared.limits.TheConstants.{PAGE_BYTES}
@@ -22,13 +21,11 @@ use Rattle.axp_pte.specs.declared.faults.Way.{Way}
 use Rattle.axp_pte.specs.declared.faults.Way.TheVariants as way
 use Rattle.axp_regs.specs.States.{ptbr_of}
 use Rattle.axp_regs.specs.declared.asks.Ask.{Ask}
-use Rattle.axp_regs.specs.declared.asks.Kind.TheVariants.{Read}
 use Rattle.axp_cpu.specs.declared.cpu_states.CpuState.{CpuState}
-use Rattle.axp_cpu.specs.declared.translation.Level.{Level}
 use Rattle.axp_cpu.specs.declared.translation.Level.TheVariants as level
 use Rattle.axp_cpu.specs.declared.translation.MappedAsk.{MappedAsk}
 use Rattle.axp_cpu.specs.Plans.{Plan, Want, Unbuilt}
-use Rattle.axp_cpu.specs.Translation.{aligned_plan, entry_address, entry_kept, entry_plan, first_entry, frame_of, frame_plan, framed_by, index_at, kept_plan, mapped_plan, physical_plan, reach_plan, second_entry, split_plan, third_entry, walk_plan, way_of, with_kept, with_page_kept}
+use Rattle.axp_cpu.specs.Translation.{aligned_plan, entry_address, entry_wanted, wanted_at, entry_kept, entry_plan, first_entry, frame_of, frame_plan, framed_by, index_at, kept_plan, physical_plan, reach_plan, second_entry, split_plan, third_entry, way_of, with_kept, with_page_kept}
 
 -- nothing changed but the translations that are kept
 abbrev pub HasKept : CpuState → CpuState → Type 0
@@ -37,13 +34,6 @@ HasKept t u = (u.state ≡ t.state) × (u.halted ≡ t.halted)
 -- a part of the virtual address stays a part of the physical one
 abbrev pub IsAlignedAs : ℕ → ℕ → Type 0
 IsAlignedAs far near = (n : ℕ) → IsSize n → far % n ≡ 0 → near % n ≡ 0
-
--- what is read of the page tables, and the access itself
-abbrev pub entry_wanted : ℕ → Wanted
-entry_wanted address = record { kind = Read; address = address; size = QUADWORD_BYTES; value = 0 }
-
-abbrev pub wanted_at : Ask → ℕ → Wanted
-wanted_at ask address = record { kind = ask.kind; address = address; size = ask.size; value = ask.value }
 
 -- what a property of plans must have: it holds of what is not built, of the read of an entry where it holds
 -- of all that follows, and of the access itself
@@ -124,8 +114,8 @@ framed_carries P (Err fault) next unbuilt follows = unbuilt
 pub third_carries : (P : Plan → Type 0) (size : ℕ) (t : CpuState) (far : MappedAsk) (k : CpuState → ℕ → Plan) → far.parts ≡ parts_of far.ask.address → Carries P size t far.ask k → (v : ℕ) → P (third_entry size t far k v)
 third_carries P size t far k is c v =
     framed_carries P (frame_of far v) (frame_plan size (with_page_kept far v t) far k) c.unbuilt (λ frame.
-      placed_carries P size t (with_page_kept far v t) far.ask k (frame * PAGE_BYTES + far.parts.offset) c (kept_stays (way_of far.ask.kind) _ (pte_of v) t)
-      (rw is (framed_aligned frame far.ask.address)))
+    placed_carries P size t (with_page_kept far v t) far.ask k (frame * PAGE_BYTES + far.parts.offset) c (kept_stays (way_of far.ask.kind) _ (pte_of v) t)
+    (rw is (framed_aligned frame far.ask.address)))
 
 pub second_carries : (P : Plan → Type 0) (size : ℕ) (t : CpuState) (far : MappedAsk) (k : CpuState → ℕ → Plan) → far.parts ≡ parts_of far.ask.address → Carries P size t far.ask k → (v : ℕ) → P (second_entry size t far k v)
 second_carries P size t far k is c v =
@@ -138,7 +128,7 @@ first_carries P size t far k is c v =
 kept_carries : (P : Plan → Type 0) (size : ℕ) (t : CpuState) (far : MappedAsk) (k : CpuState → ℕ → Plan) (o : Option Pte) → far.parts ≡ parts_of far.ask.address → Carries P size t far.ask k → P (kept_plan size t far k o)
 kept_carries P size t far k (Some pte) is c =
     framed_carries P (frame_of far (pte_word pte)) (frame_plan size t far k) c.unbuilt (λ frame.
-      placed_carries P size t t far.ask k (frame * PAGE_BYTES + far.parts.offset) c (refl, refl) (rw is (framed_aligned frame far.ask.address)))
+    placed_carries P size t t far.ask k (frame * PAGE_BYTES + far.parts.offset) c (refl, refl) (rw is (framed_aligned frame far.ask.address)))
 kept_carries P size t far k None is c =
     entry_carries P size t far.ask k (first_entry size t far k) (index_at level.First far.parts) (ptbr_of t.state) c (first_carries P size t far k is c)
 

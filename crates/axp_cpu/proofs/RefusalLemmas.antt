@@ -33,7 +33,7 @@ use Rattle.axp_pte.specs.declared.addresses.Where.TheVariants.{Direct, Mapped}
 use Rattle.axp_pte.specs.declared.entries.Pte.{Pte}
 use Rattle.axp_pte.specs.declared.faults.MmFault.{MmFault}
 use Rattle.axp_pte.specs.declared.faults.Mode.{Mode}
-use Rattle.axp_cpu.specs.Translation.{entry_address, entry_kept, entry_plan, first_entry, frame_of, frame_plan, framed_by, index_at, kept_plan, reach_plan, second_entry, split_plan, third_entry, with_page_kept}
+use Rattle.axp_cpu.specs.Translation.{entry_address, entry_kept, entry_plan, entry_wanted, first_entry, frame_of, frame_plan, framed_by, index_at, kept_plan, reach_plan, second_entry, split_plan, third_entry, wanted_at, with_page_kept}
 use Rattle.axp_cpu.specs.declared.translation.Level.{Level}
 use Rattle.axp_cpu.specs.declared.translation.Level.TheVariants as level
 use Rattle.axp_cpu.specs.declared.translation.MappedAsk.{MappedAsk}
@@ -41,7 +41,6 @@ use Rattle.axp_cpu.specs.Plans.{Plan, Want, Unbuilt, is_built}
 use Rattle.axp_cpu.specs.CpuStates.{mode_of, with_fetch_counted}
 use Rattle.axp_cpu.specs.Refusals.{datum_refused, is_accessible, is_framed, is_kept_reached, is_reached, is_refused, is_split_reached, is_table, load_refused, memory_refused, pal_refused}
 use Rattle.axp_cpu.specs.Rows.{address_of, as_longword, as_longword_with, as_made, as_read, as_read_with, branch_row, datum_plan, fetch_of, group, load_plan, memory_row, misc_row, next_plan, operand, operate_row, pal_row, plan_of_word, quadword_at, register_plan, row, virtual_ask}
-use Rattle.axp_cpu.proofs.ReachLemmas.{entry_wanted, wanted_at}
 
 wants_if : (tested : Bool) (t : CpuState) (w : Wanted) (k : ℕ → Plan) → is_built (cond tested (Want t w k) Unbuilt) ≡ tested
 wants_if true t w k = refl

@@ -28,7 +28,6 @@ use Rattle.axp_integer.specs.Rows as integer
 use Rattle.axp_regs.specs.States.{fetched_of, locked_of, pc_of, register, with_fetched, with_register}
 use Rattle.axp_base.specs.Numbers.{add}
 use Rattle.axp_image.specs.declared.limits.TheConstants.{INSTRUCTION_BYTES}
-use Rattle.axp_regs.specs.declared.asks.Ask.{Ask}
 use Rattle.axp_regs.specs.declared.asks.Kind.{Kind}
 use Rattle.axp_regs.specs.declared.asks.Kind.TheVariants.{Fetch, Read, Write, Locked, Conditional}
 use Rattle.axp_regs.specs.declared.states.State.{State}
@@ -42,7 +41,7 @@ use Rattle.axp_cpu.specs.Seats.{Seat, is_finished, seat_at_plan, plan_now, wante
 use Rattle.axp_cpu.specs.Showing.{IsAccessOf, lock_flag, register_value, seat_shown}
 use Rattle.axp_cpu.specs.Soundness.{IsEnd}
 use Rattle.axp_cpu.proofs.ActorLemmas.{wanted_parts}
-use Rattle.axp_cpu.proofs.ReachLemmas.{Carries, HasKept, aligned_carries, either, reach_carries}
+use Rattle.axp_cpu.proofs.ReachLemmas.{HasKept, aligned_carries, either, reach_carries}
 use Rattle.axp_cpu.proofs.SeatLemmas.{along-more}
 
 -- the table state that the access leaves

@@ -1,5 +1,5 @@
 -- Until its end a group changes no register but the count of fetched instructions.
-use Rattle.std.proofs.Common.{◌≡◌, ℕ, ◌%◌, ◌^◌, Bool, true, false, cond, eqb, ltb, List, [], ◌∷◌, Option, Some, None, refl, sym, ap, ◌∙◌, rules}
+use Rattle.std.proofs.Common.{◌≡◌, ℕ, ◌%◌, ◌^◌, Bool, true, false, cond, eqb, List, [], ◌∷◌, Option, Some, None, refl, ap, ◌∙◌, rules}
 use Rattle.std.specs.Prelude.{Result, Ok, Err}
 use Rattle.axp_access.specs.declared.Wanted.{Wanted}
 use Rattle.axp_base.specs.Sizes.{bytes_of, low_datum}
@@ -39,7 +39,7 @@ use Rattle.axp_cpu.specs.Plans.{Plan, End, Want, Unbuilt, along, given, table_in
 use Rattle.axp_cpu.specs.Rows.{address_of, as_longword, as_longword_with, as_made, as_read, as_read_with, branch_row, datum_plan, fetch_of, group, load_plan, memory_row, misc_row, next_plan, operand, operate_row, pal_row, plan_of_word, quadword_at, register_plan, row, virtual_ask}
 use Rattle.axp_cpu.specs.Seats.{Seat, plan_now, table_now}
 use Rattle.axp_cpu.specs.Stands.{HasSameRegisters}
-use Rattle.axp_cpu.specs.Translation.{entry_kept, frame_of, frame_plan, framed_by, kept_plan, reach_plan, split_plan}
+use Rattle.axp_cpu.specs.Translation.{entry_kept, frame_of, frame_plan, framed_by, kept_plan, split_plan}
 use Rattle.axp_cpu.proofs.ReachLemmas.{Carries, HasKept, aligned_carries, either, reach_carries}
 
 -- while a plan wants accesses, it is in tables that have the registers of this one

@@ -1,5 +1,5 @@
 -- What a group of accesses makes of the table state.
-use Rattle.std.specs.Prelude.{ℕ, ◌+◌, ◌%◌, ◌^◌, Bool, Option, Some, if◌then◌else◌}
+use Rattle.std.specs.Prelude.{ℕ, ◌+◌, ◌%◌, ◌^◌, Bool, Some, if◌then◌else◌}
 use Rattle.axp_base.specs.Masks.{has_bit}
 use Rattle.axp_base.specs.Numbers.{add}
 use Rattle.axp_image.specs.declared.limits.TheConstants.{INSTRUCTION_BYTES}

@@ -1,7 +1,6 @@
 -- What a phase of the code still has to do, as a plan.
-use Rattle.std.specs.Prelude.{◌≡◌, ℕ, ◌*◌, ◌%◌, ◌<◌, ◌^◌, None, Result, Ok, Err, false, true}
+use Rattle.std.specs.Prelude.{◌≡◌, ℕ, ◌*◌, ◌<◌, ◌^◌, None, Result, Ok, Err, false, true}
 use Rattle.axp_access.specs.declared.Wanted.{Wanted}
-use Rattle.axp_decode.specs.Format.{instr_of}
 use Rattle.axp_pte.specs.declared.faults.MmFault.{MmFault}
 use Rattle.axp_regs.specs.declared.asks.Ask.{Ask}
 use Rattle.axp_regs.specs.declared.states.TheConstants.{REGISTERS}

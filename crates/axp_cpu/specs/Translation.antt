@@ -47,11 +47,18 @@ with_kept way.Fetch page pte t = record t { itb = with_put t.itb page (asn_of t.
 with_kept way.Load page pte t = record t { dtb = with_put t.dtb page (asn_of t.state) pte }
 with_kept way.Store page pte t = record t { dtb = with_put t.dtb page (asn_of t.state) pte }
 
+-- an access at its physical address, and the read of a page-table entry
+abbrev pub wanted_at : Ask → ℕ → Wanted
+wanted_at ask address = record { kind = ask.kind; address = address; size = ask.size; value = ask.value }
+
+abbrev pub entry_wanted : ℕ → Wanted
+entry_wanted address = record { kind = Read; address = address; size = QUADWORD_BYTES; value = 0 }
+
 -- the access at its physical address, which must lie in memory; k goes on from the table state then
 abbrev pub physical_plan : ℕ → CpuState → Ask → ℕ → (CpuState → ℕ → Plan) → Plan
 physical_plan size t ask address k =
     if nat_lt address size
-    then Want t (record { kind = ask.kind; address = address; size = ask.size; value = ask.value }) (k t)
+    then Want t (wanted_at ask address) (k t)
     else Unbuilt
 
 -- a frame, or the fault that comes in its place
@@ -85,7 +92,7 @@ index_at level.Third parts = parts.l3
 abbrev pub entry_plan : ℕ → CpuState → (ℕ → Plan) → ℕ → ℕ → Plan
 entry_plan size t k index table =
     if nat_lt (entry_address table index) size
-    then Want t (record { kind = Read; address = entry_address table index; size = QUADWORD_BYTES; value = 0 }) k
+    then Want t (entry_wanted (entry_address table index)) k
     else Unbuilt
 
 -- what follows the entry of level 3: the access, with the entry kept

@@ -17,7 +17,11 @@ mod translation;
 mod walks;
 
 pub use axp_lsu::Ask2;
-pub use laws::{answered_values_end_groups, registers_get_what_is_shown, what_is_not_built};
+pub use laws::{
+    accesses_need_their_right, answered_values_end_groups, groups_change_registers_at_their_end,
+    kept_translations_lead_where_walks_led, registers_get_what_is_shown, walks_go_by_three_entries,
+    what_is_not_built,
+};
 pub use processors::Processor;
 pub use refusals::Refusal;
 pub use sequencers::Sequencer;

@@ -51,7 +51,10 @@ fn access(size: u64, table: &CpuState, op: MemOp, a: u8, base: u64, disp: u16) -
     let address = displaced(base, disp);
     let loaded = Continuation::Load { a };
     match op {
-        MemOp::LDA => Phase::Ends(Ending::Writes { n: a, value: address }),
+        MemOp::LDA => Phase::Ends(Ending::Writes {
+            n: a,
+            value: address,
+        }),
         MemOp::LDAH => Phase::Ends(Ending::Writes {
             n: a,
             value: displaced_high(base, disp),
@@ -164,13 +167,7 @@ fn store(size: u64, table: &CpuState, what: Size, a: u8, address: u64) -> Phase
 }
 
 /// A load-locked, and what follows with its value; into R31 too it makes its access.
-fn load_locked(
-    size: u64,
-    table: &CpuState,
-    what: Size,
-    address: u64,
-    next: Continuation,
-) -> Phase
+fn load_locked(size: u64, table: &CpuState, what: Size, address: u64, next: Continuation) -> Phase
     requires { ContinuationFits next }
     ensures plan { plan_of size table.now result
         ≡ load_locked_plan size table.now what address (continued size next) }

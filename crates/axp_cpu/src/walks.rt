@@ -125,7 +125,7 @@ fn place(size: u64, ask: Ask, address: u64, next: Continuation) -> Phase
 fn read_entry(size: u64, walk: Walk, table: u64) -> Phase
     ensures plan { (t : CpuState) → plan_of size t result
         ≡ entry_plan size t (walked size t walk.far walk.next walk.level)
-            (index_at walk.level walk.far.parts) table }
+        (index_at walk.level walk.far.parts) table }
     ensures fits { (t : CpuState) → WalkFits t walk.far walk.next → PhaseFits t result }
 {
     let address = entry_address(table, walk.index());
@@ -175,7 +175,7 @@ pub fn follow(size: u64, walk: Walk, word: u64) -> Phase
 fn descend(size: u64, walk: Walk, level: Level, word: u64) -> Phase
     ensures plan { (t : CpuState) → plan_of size t result
         ≡ framed_by (upper_of word) (entry_plan size t (walked size t walk.far walk.next level)
-            (index_at level walk.far.parts)) }
+        (index_at level walk.far.parts)) }
     ensures fits { (t : CpuState) → WalkFits t walk.far walk.next → PhaseFits t result }
 {
     match upper(Pte::of(word)) {

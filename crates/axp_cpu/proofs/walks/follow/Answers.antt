@@ -1,4 +1,4 @@
-use Rattle.std.proofs.Common.{◌≡◌, ◌∙◌, ap}
+use Rattle.std.proofs.Common.{◌∙◌, ap}
 use Rattle.axp_cpu.specs.Phases.{continued, kept_by}
 use Rattle.axp_cpu.specs.Translation.{frame_of, frame_plan, framed_by}
 use Rattle.axp_cpu.proofs.WalkLemmas.{kept_framed}

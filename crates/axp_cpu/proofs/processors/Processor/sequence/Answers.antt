@@ -1,5 +1,4 @@
-use Rattle.std.proofs.Common.{refl, sym, subst}
-use Rattle.axp_access.specs.declared.Act.TheVariants as act
+use Rattle.std.proofs.Common.{sym, subst}
 use Rattle.axp_cpu.specs.ActorStands.{IsMovable}
 use Rattle.axp_cpu.specs.Actors.{seat_after}
 use Rattle.axp_cpu.specs.Stands.{Stands}

@@ -1,4 +1,3 @@
-use Rattle.std.proofs.Common.{◌∙◌}
 use Rattle.axp_cpu.proofs.SeatLemmas.{goes_on, goes_to_end}
 use Rattle.axp_cpu.proofs.sequencers.Sequencer.advance.Goals as goal
 
