@@ -9,16 +9,12 @@ mod plans;
 mod privilege;
 mod returns;
 
-pub use buffers::{
-    ALL_ENTRIES, DATA_PAGE, INSTRUCTION_PAGE, PAGE_IN_BOTH, PROCESS_ENTRIES,
-};
+pub use buffers::{ALL_ENTRIES, DATA_PAGE, INSTRUCTION_PAGE, PAGE_IN_BOTH, PROCESS_ENTRIES};
 pub use contexts::{
     ASN_PLACE, BLOCK_BYTES, COUNTER_PLACE, FEN_PLACE, PTBR_PLACE, SP_PLACE, UNIQUE_PLACE, USP_PLACE,
 };
 pub use finishing::finish;
-pub use plans::{
-    CONSOLE_SERVICE, HALTED, KERNEL_SYSTEM_CALL, MOST_ASKS, PalEnd, PalPlan, plan,
-};
+pub use plans::{CONSOLE_SERVICE, HALTED, KERNEL_SYSTEM_CALL, MOST_ASKS, PalEnd, PalPlan, plan};
 pub use privilege::FIRST_UNPRIVILEGED;
 pub use returns::USER_STATUS;
 
