@@ -8,7 +8,7 @@ use Rattle.axp_regs.specs.declared.asks.Kind.TheVariants.{Read, Write}
 use Rattle.axp_regs.specs.declared.states.State.{State}
 use Rattle.axp_regs.specs.States.{register, with_register, usp_of, with_usp, with_ptbr, pcbb_of, with_pcbb, with_asn, offset_of, with_offset, unique_of, with_unique, with_fen, fetched_of}
 use Rattle.axp_trap.specs.declared.registers.TheConstants.{A0, SP, V0}
-use Rattle.axp_pal.specs.declared.contexts.TheConstants.{BLOCK_BYTES, SP_PLACE, USP_PLACE, PTBR_PLACE, COUNTER_PLACE, UNIQUE_PLACE, FEN_PLACE}
+use Rattle.axp_pal.specs.declared.contexts.TheConstants.{BLOCK_BYTES, CONTEXT_WRITES, SP_PLACE, USP_PLACE, PTBR_PLACE, COUNTER_PLACE, UNIQUE_PLACE, FEN_PLACE}
 
 -- the block that a number leads to: its seven low bits are cleared
 abbrev pub block_of : ℕ → ℕ
@@ -45,9 +45,9 @@ context_asks s =
     ∷ read_from (new_block s) FEN_PLACE
     ∷ []
 
--- the quadword of the new block at a place: its reads come after four writes
+-- the quadword of the new block at a place: its reads come after the writes
 abbrev pub quadword : List ℕ → ℕ → ℕ
-quadword values n = slice_index values (4 + n)
+quadword values n = slice_index values (CONTEXT_WRITES + n)
 
 -- the offset with which the counter goes on from the low half of a quadword
 abbrev pub offset_for : ℕ → ℕ → ℕ

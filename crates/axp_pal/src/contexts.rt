@@ -1,5 +1,5 @@
 //! The process control block, to and from which swpctx swaps the context of a process.
-ghost use Rattle.std.specs.Prelude.{◌≡◌, ◌++◌, ◌+◌, ◌≤◌, length};
+ghost use Rattle.std.specs.Prelude.{◌≡◌, length};
 ghost use Rattle.axp_pal.specs.Contexts.{block_of, context_asks, counter_of, offset_for};
 ghost use Rattle.axp_pal.specs.Contexts.{read_from, switched, written_to};
 ghost use Rattle.axp_pal.specs.declared.plans.TheConstants.{MOST_ASKS};
@@ -31,6 +31,9 @@ pub const UNIQUE_PLACE: u64 = 32;
 
 /// Where in a block the quadword lies whose bit 0 enables floating instructions, in bytes.
 pub const FEN_PLACE: u64 = 40;
+
+/// How many writes swpctx makes before its reads.
+pub(crate) const CONTEXT_WRITES: usize = 4;
 
 /// The physical address of the block that a number leads to.
 fn block_at(address: u64) -> u64
@@ -108,16 +111,17 @@ pub(crate) fn swap(state: &mut State, values: &[u64])
     requires { length values.now ≡ MOST_ASKS }
     ensures { state.new ≡ switched state.old values.now }
 {
+    let block = &values[CONTEXT_WRITES..];
     let old = state.pcbb();
     let new = block_at(state.get(A0));
     let fetched = state.fetched();
     state.set(V0, old);
     state.set_pcbb(new);
-    state.set(SP, values[4]);
-    state.set_usp(values[5]);
-    state.set_ptbr(values[6]);
-    state.set_asn((values[7] >> 32) as u32);
-    state.set_offset(offset_after(values[7], fetched));
-    state.set_unique(values[8]);
-    state.set_fen(values[9] & 1 == 1);
+    state.set(SP, block[0]);
+    state.set_usp(block[1]);
+    state.set_ptbr(block[2]);
+    state.set_asn((block[3] >> 32) as u32);
+    state.set_offset(offset_after(block[3], fetched));
+    state.set_unique(block[4]);
+    state.set_fen(block[5] & 1 == 1);
 }

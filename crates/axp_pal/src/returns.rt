@@ -1,5 +1,5 @@
 //! The returns from the operating system: retsys from a call of it, rti from any other entry.
-ghost use Rattle.std.specs.Prelude.{◌≡◌, ◌+◌, length};
+ghost use Rattle.std.specs.Prelude.{◌≡◌, length};
 ghost use Rattle.axp_pal.specs.Returns.{read_at, returned, return_asks, system_return_asks};
 ghost use Rattle.axp_pal.specs.Returns.{system_returned, to_kernel, to_user, with_return};
 ghost use Rattle.axp_trap.specs.declared.frames.TheConstants.{FRAME_WORDS};
