@@ -49,11 +49,11 @@ put_back xs ys whole h =
     let long_four : length four ≡ 32 = length-set three 17 (get_or xs 17 0) ∙ long_three in
     let long_five : length five ≡ 32 = length-set four 18 (get_or xs 18 0) ∙ long_four in
     ext_get_or 0 five xs (long_five ∙ sym whole) (λ i _.
-      step 18 i xs four (omega (arith, long_four)) (λ a.
-      step 17 i xs three (omega (arith, long_three)) (λ b.
-      step 16 i xs two (omega (arith, long_two)) (λ c.
-      step 29 i xs one (omega (arith, long_one)) (λ d.
-      step 30 i xs ys (omega (arith, long)) (λ e. h.others i c b a d e))))))
+    step 18 i xs four (omega (arith, long_four)) (λ a.
+    step 17 i xs three (omega (arith, long_three)) (λ b.
+    step 16 i xs two (omega (arith, long_two)) (λ c.
+    step 29 i xs one (omega (arith, long_one)) (λ d.
+    step 30 i xs ys (omega (arith, long)) (λ e. h.others i c b a d e))))))
 
 -- the registers of an entry, and the user's stack pointer
 abbrev argued : ℕ → Option ℕ → List ℕ → List ℕ
@@ -195,10 +195,10 @@ call_back s whole mode even small =
     let long_three : length three ≡ 32 = length-set two 30 (get_or xs 30 0) ∙ long_two in
     let long_four : length four ≡ 32 = length-set three 29 (get_or xs 29 0) ∙ long_three in
     let back : four ≡ xs =
-        ext_get_or 0 four xs (long_four ∙ sym whole) (λ i _.
-          step 29 i xs three (omega (arith, long_three)) (λ d.
-          step 30 i xs two (omega (arith, long_two)) (λ e.
-          get_or-set_other one 29 i (kgp_of s) 0 d ∙ get_or-set_other xs 30 i (frame_address s) 0 e))) in
+    ext_get_or 0 four xs (long_four ∙ sym whole) (λ i _.
+    step 29 i xs three (omega (arith, long_three)) (λ d.
+    step 30 i xs two (omega (arith, long_two)) (λ e.
+    get_or-set_other one 29 i (kgp_of s) 0 d ∙ get_or-set_other xs 30 i (frame_address s) 0 e))) in
     same s four _ 8 _ (register s SP) back (aligned (pc_of s) even)
     (ap (λ x. add x 48) (stack_of Sys s whole ∙ ap (λ m. sub (kernel_stack_in m s) 48) mode) ∙ back_up (ksp_of s) small)
 

@@ -8,13 +8,15 @@ ghost use Rattle.axp_decode.specs.declared.names.PalOp.{PalOp};
 ghost use Rattle.axp_decode.specs.declared.names.PalOp.TheVariants.{SWPCTX, TBI, WRENT, SWPIPL};
 ghost use Rattle.axp_decode.specs.declared.names.PalOp.TheVariants.{WRUSP, RDUSP, WRVAL, RDVAL};
 ghost use Rattle.axp_decode.specs.declared.names.PalOp.TheVariants.{RDUNIQUE, WRUNIQUE, RDPS};
-ghost use Rattle.axp_decode.specs.declared.names.PalOp.TheVariants.{RETSYS, RTI, WHAMI};
+ghost use Rattle.axp_decode.specs.declared.names.PalOp.TheVariants.{RETSYS, RTI, WHAMI, WRKGP};
+ghost use Rattle.axp_decode.specs.declared.names.PalOp.TheVariants.{WRVPTPTR, WRFEN};
 ghost use Rattle.axp_pte.specs.declared.faults.Mode.TheVariants.{Kernel, User};
-ghost use Rattle.axp_regs.specs.declared.asks.Ask.{Ask};
+ghost use Rattle.axp_regs.specs.declared.asks.Kind.TheVariants.{Console, Signal};
 ghost use Rattle.axp_regs.specs.declared.states.State.{State};
 ghost use Rattle.axp_regs.specs.States.{register, entry_of, number_of, pc_of, ps_of, ksp_of};
 ghost use Rattle.axp_regs.specs.States.{usp_of, ptbr_of, pcbb_of, asn_of, unique_of, fen_of};
-ghost use Rattle.axp_regs.specs.States.{sysvalue_of, locked_of, fetched_of, with_locked};
+ghost use Rattle.axp_regs.specs.States.{sysvalue_of, locked_of, fetched_of, kgp_of, vptptr_of};
+ghost use Rattle.axp_regs.specs.States.{offset_of, with_locked};
 ghost use Rattle.axp_regs.specs.States.{with_ps, with_usp};
 ghost use Rattle.axp_tb.specs.Buffers.{without_page, without_process};
 ghost use Rattle.axp_tb.specs.declared.entries.TbEntry.{TbEntry};
@@ -150,6 +152,55 @@ pub fn values_are_read_into_v0()
         → register (finished SWPIPL s values) V0 ≡ interrupt_level (ps_of s) }
 {}
 
+/// A call changes no other register than v0, SP, GP and the arguments; GP and the arguments by a
+/// return alone, and v0 only where it gives a value.
+#[tactic(auto, unfolding(crate::specs::Calls::finished))]
+pub fn calls_keep_registers()
+    ensures others { (op : PalOp) (s : State) (values : List ℕ) (n : ℕ) → n ≢ V0 → n ≢ A0
+        → n ≢ A1 → n ≢ A2 → n ≢ GP → n ≢ SP → register (finished op s values) n ≡ register s n }
+    ensures arguments { (op : PalOp) (s : State) (values : List ℕ) (n : ℕ) → n ≢ V0 → n ≢ SP
+        → op ≢ RTI → op ≢ RETSYS → register (finished op s values) n ≡ register s n }
+    ensures value { (op : PalOp) (s : State) (values : List ℕ) → op ≢ SWPCTX → op ≢ RDVAL
+        → op ≢ SWPIPL → op ≢ RDPS → op ≢ RDUSP → op ≢ WHAMI → op ≢ RDUNIQUE
+        → register (finished op s values) V0 ≡ register s V0 }
+{}
+
+/// Each internal register has the calls that change it: a write takes a0, of which FEN is bit 0,
+/// and swpctx what a context has. No call changes the processor's number or the count of fetched
+/// instructions.
+#[tactic(auto, unfolding(crate::specs::Calls::finished))]
+pub fn internals_change_by_their_calls()
+    ensures global { (s : State) (values : List ℕ)
+        → kgp_of (finished WRKGP s values) ≡ register s A0 }
+    ensures table_address { (s : State) (values : List ℕ)
+        → vptptr_of (finished WRVPTPTR s values) ≡ register s A0 }
+    ensures floating { (s : State) (values : List ℕ)
+        → fen_of (finished WRFEN s values) ≡ has_bit (register s A0) 0 }
+    ensures global_kept { (op : PalOp) (s : State) (values : List ℕ) → op ≢ WRKGP
+        → kgp_of (finished op s values) ≡ kgp_of s }
+    ensures table_address_kept { (op : PalOp) (s : State) (values : List ℕ) → op ≢ WRVPTPTR
+        → vptptr_of (finished op s values) ≡ vptptr_of s }
+    ensures floating_kept { (op : PalOp) (s : State) (values : List ℕ) → op ≢ WRFEN → op ≢ SWPCTX
+        → fen_of (finished op s values) ≡ fen_of s }
+    ensures unique_kept { (op : PalOp) (s : State) (values : List ℕ) → op ≢ WRUNIQUE → op ≢ SWPCTX
+        → unique_of (finished op s values) ≡ unique_of s }
+    ensures sysvalue_kept { (op : PalOp) (s : State) (values : List ℕ) → op ≢ WRVAL
+        → sysvalue_of (finished op s values) ≡ sysvalue_of s }
+    ensures context_kept { (op : PalOp) (s : State) (values : List ℕ) → op ≢ SWPCTX
+        → (ptbr_of (finished op s values) ≡ ptbr_of s)
+        × (pcbb_of (finished op s values) ≡ pcbb_of s)
+        × (asn_of (finished op s values) ≡ asn_of s)
+        × (offset_of (finished op s values) ≡ offset_of s) }
+    ensures entries_kept { (op : PalOp) (s : State) (values : List ℕ) (n : ℕ) → op ≢ WRENT
+        → entry_of (finished op s values) n ≡ entry_of s n }
+    ensures fetched { (op : PalOp) (s : State) (values : List ℕ)
+        → fetched_of (finished op s values) ≡ fetched_of s }
+    ensures number { (op : PalOp) (s : State) (values : List ℕ)
+        → number_of (finished op s values) ≡ number_of s }
+    ensures whole { (op : PalOp) (s : State) (values : List ℕ) → IsWhole s
+        → IsWhole (finished op s values) }
+{}
+
 /// wrent writes the address of the entry that a1 names, with its two low bits cleared; where there
 /// is no such entry, it does nothing.
 #[tactic(auto, unfolding(crate::specs::Calls::finished))]
@@ -169,6 +220,10 @@ pub fn accesses_are_within_bounds()
     ensures few { (op : PalOp) (s : State) (cpus : ℕ) → length (asks_of op s cpus) ≤ MOST_ASKS }
     ensures direct { (op : PalOp) (s : State) (cpus : ℕ) → op ≢ RTI → op ≢ RETSYS
         → All (λ ask. ask.direct ≡ true) (asks_of op s cpus) }
+    ensures signal { (op : PalOp) (s : State) (cpus : ℕ)
+        → All (λ ask. ask.kind ≡ Signal → ask.value < cpus) (asks_of op s cpus) }
+    ensures console { (op : PalOp) (s : State) (cpus : ℕ)
+        → All (λ ask. ask.kind ≡ Console → ask.value < 2 ^ 8) (asks_of op s cpus) }
 {}
 
 /// swpctx saves SP, USP, the counter and the unique value to the block that PCBB names, and reads
