@@ -40,7 +40,7 @@ at_once end = record { asks = []; end = end }
 abbrev pub faults : ℕ → Row
 faults code = at_once (Enters (If code))
 
--- an access that names no memory
+-- an access that names no memory, so that there is nothing to translate
 abbrev pub bare_ask : Kind → ℕ → Ask
 bare_ask kind value = record { kind = kind; address = 0; direct = true; size = 0; value = value }
 

@@ -3,12 +3,13 @@
 use Rattle.std.specs.Prelude.{ℕ, ◌+◌, ◌-◌, ◌*◌, ◌/◌, ◌%◌, ◌^◌, List, ◌∷◌, [], true, slice_index}
 use Rattle.axp_base.specs.Masks.{has_bit}
 use Rattle.axp_base.specs.Numbers.{add}
+use Rattle.axp_base.specs.declared.parts.TheConstants.{QUADWORD_BYTES}
 use Rattle.axp_regs.specs.declared.asks.Ask.{Ask}
 use Rattle.axp_regs.specs.declared.asks.Kind.TheVariants.{Read, Write}
 use Rattle.axp_regs.specs.declared.states.State.{State}
 use Rattle.axp_regs.specs.States.{register, with_register, usp_of, with_usp, with_ptbr, pcbb_of, with_pcbb, with_asn, offset_of, with_offset, unique_of, with_unique, with_fen, fetched_of}
 use Rattle.axp_trap.specs.declared.registers.TheConstants.{A0, SP, V0}
-use Rattle.axp_pal.specs.declared.contexts.TheConstants.{BLOCK_BYTES, CONTEXT_WRITES, SP_PLACE, USP_PLACE, PTBR_PLACE, COUNTER_PLACE, UNIQUE_PLACE, FEN_PLACE}
+use Rattle.axp_pal.specs.declared.contexts.TheConstants.{BLOCK_BYTES, CONTEXT_WRITES, COUNTER_BYTES, SP_PLACE, USP_PLACE, PTBR_PLACE, COUNTER_PLACE, UNIQUE_PLACE, FEN_PLACE}
 
 -- the block that a number leads to: its seven low bits are cleared
 abbrev pub block_of : ℕ → ℕ
@@ -29,14 +30,14 @@ abbrev pub written_to : ℕ → ℕ → ℕ → ℕ → Ask
 written_to block place size value = record { kind = Write; address = add block place; direct = true; size = size; value = value }
 
 abbrev pub read_from : ℕ → ℕ → Ask
-read_from block place = record { kind = Read; address = add block place; direct = true; size = 8; value = 0 }
+read_from block place = record { kind = Read; address = add block place; direct = true; size = QUADWORD_BYTES; value = 0 }
 
 abbrev pub context_asks : State → List Ask
 context_asks s =
-    written_to (old_block s) SP_PLACE 8 (register s SP)
-    ∷ written_to (old_block s) USP_PLACE 8 (usp_of s)
-    ∷ written_to (old_block s) COUNTER_PLACE 4 (counter_of s)
-    ∷ written_to (old_block s) UNIQUE_PLACE 8 (unique_of s)
+    written_to (old_block s) SP_PLACE QUADWORD_BYTES (register s SP)
+    ∷ written_to (old_block s) USP_PLACE QUADWORD_BYTES (usp_of s)
+    ∷ written_to (old_block s) COUNTER_PLACE COUNTER_BYTES (counter_of s)
+    ∷ written_to (old_block s) UNIQUE_PLACE QUADWORD_BYTES (unique_of s)
     ∷ read_from (new_block s) SP_PLACE
     ∷ read_from (new_block s) USP_PLACE
     ∷ read_from (new_block s) PTBR_PLACE

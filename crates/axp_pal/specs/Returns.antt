@@ -2,19 +2,20 @@
 -- lies where the stack pointer is.
 use Rattle.std.specs.Prelude.{ℕ, ◌*◌, ◌/◌, ◌%◌, ◌^◌, List, ◌∷◌, [], false, slice_index}
 use Rattle.axp_base.specs.Numbers.{add}
+use Rattle.axp_base.specs.declared.parts.TheConstants.{QUADWORD_BYTES}
 use Rattle.axp_pte.specs.declared.faults.Mode.{Mode}
 use Rattle.axp_pte.specs.declared.faults.Mode.TheVariants.{Kernel, User}
 use Rattle.axp_regs.specs.declared.asks.Ask.{Ask}
 use Rattle.axp_regs.specs.declared.asks.Kind.TheVariants.{Read}
 use Rattle.axp_regs.specs.declared.states.State.{State}
 use Rattle.axp_regs.specs.States.{register, with_register, with_pc, with_ps, with_ksp, usp_of, with_locked}
-use Rattle.axp_trap.specs.declared.frames.TheConstants.{FRAME_BYTES, WORD_BYTES, PS_SLOT, PC_SLOT, GP_SLOT, A0_SLOT, A1_SLOT, A2_SLOT}
+use Rattle.axp_trap.specs.declared.frames.TheConstants.{FRAME_BYTES, PS_SLOT, PC_SLOT, GP_SLOT, A0_SLOT, A1_SLOT, A2_SLOT}
 use Rattle.axp_trap.specs.declared.registers.TheConstants.{A0, A1, A2, GP, SP}
 use Rattle.axp_trap.specs.Status.{mode_of}
 use Rattle.axp_pal.specs.declared.returns.TheConstants.{USER_STATUS}
 
 abbrev pub read_at : ℕ → ℕ → Ask
-read_at frame slot = record { kind = Read; address = add frame slot; direct = false; size = WORD_BYTES; value = 0 }
+read_at frame slot = record { kind = Read; address = add frame slot; direct = false; size = QUADWORD_BYTES; value = 0 }
 
 abbrev pub system_return_asks : State → List Ask
 system_return_asks s =

@@ -5,6 +5,7 @@ ghost use Rattle.axp_pal.specs.Contexts.{read_from, switched, written_to};
 ghost use Rattle.axp_pal.specs.declared.plans.TheConstants.{MOST_ASKS};
 
 use crate::MOST_ASKS;
+use axp_base::QUADWORD_BYTES;
 use axp_regs::{Ask, Kind, State};
 use axp_trap::{A0, Asks, SP, V0};
 
@@ -22,6 +23,9 @@ pub const PTBR_PLACE: u64 = 16;
 
 /// Where in a block the counter lies, in bytes: the low half of a quadword.
 pub const COUNTER_PLACE: u64 = 24;
+
+/// How many bytes the counter takes.
+const COUNTER_BYTES: u8 = 4;
 
 /// Where in a block the address space number lies, in bytes: the high half of that quadword.
 pub const ASN_PLACE: u64 = 28;
@@ -70,7 +74,7 @@ fn reading_of(block: u64, place: u64) -> Ask
         kind: Kind::Read,
         address: block.wrapping_add(place),
         direct: true,
-        size: 8,
+        size: QUADWORD_BYTES as u8,
         value: 0,
     }
 }
@@ -85,10 +89,10 @@ pub(crate) fn swap_asks(state: &State) -> Asks<MOST_ASKS>
     Asks::first(
         MOST_ASKS,
         [
-            write_to(old, SP_PLACE, 8, state.get(SP)),
-            write_to(old, USP_PLACE, 8, state.usp()),
-            write_to(old, COUNTER_PLACE, 4, counter(state)),
-            write_to(old, UNIQUE_PLACE, 8, state.unique()),
+            write_to(old, SP_PLACE, QUADWORD_BYTES as u8, state.get(SP)),
+            write_to(old, USP_PLACE, QUADWORD_BYTES as u8, state.usp()),
+            write_to(old, COUNTER_PLACE, COUNTER_BYTES, counter(state)),
+            write_to(old, UNIQUE_PLACE, QUADWORD_BYTES as u8, state.unique()),
             reading_of(new, SP_PLACE),
             reading_of(new, USP_PLACE),
             reading_of(new, PTBR_PLACE),

@@ -1,5 +1,4 @@
 ghost use Rattle.std.specs.Prelude.{◌≡◌};
-ghost use Rattle.axp_regs.specs.States.{register};
 ghost use Rattle.axp_pal.specs.Calls.{data_buffer, finished, instruction_buffer, IsAnswered};
 ghost use Rattle.axp_pal.specs.Calls.{with_entry_address};
 

@@ -1,6 +1,6 @@
 //! Laws of the calls, each proved as the contract of a function that does nothing.
-ghost use Rattle.std.specs.Prelude.{ℕ, List, ◌≡◌, ◌≢◌, ◌<◌, ◌≤◌, ◌+◌, ◌-◌, ◌*◌, ◌/◌, ◌%◌, ◌^◌};
-ghost use Rattle.std.specs.Prelude.{◌∷◌, [], All, drop, length, map, slice_index, true, false, nat_lt};
+ghost use Rattle.std.specs.Prelude.{ℕ, List, ◌≡◌, ◌≢◌, ◌<◌, ◌≤◌, ◌-◌, ◌*◌, ◌/◌, ◌%◌, ◌^◌};
+ghost use Rattle.std.specs.Prelude.{◌∷◌, [], All, drop, length, map, slice_index, true, false};
 ghost use Rattle.axp_base.specs.Masks.{has_bit};
 ghost use Rattle.axp_base.specs.Numbers.{add};
 ghost use Rattle.axp_decode.specs.Table.{pal_number};
@@ -9,7 +9,9 @@ ghost use Rattle.axp_decode.specs.declared.names.PalOp.TheVariants.{SWPCTX, TBI,
 ghost use Rattle.axp_decode.specs.declared.names.PalOp.TheVariants.{WRUSP, RDUSP, WRVAL, RDVAL};
 ghost use Rattle.axp_decode.specs.declared.names.PalOp.TheVariants.{RDUNIQUE, WRUNIQUE, RDPS};
 ghost use Rattle.axp_decode.specs.declared.names.PalOp.TheVariants.{RETSYS, RTI, WHAMI, WRKGP};
-ghost use Rattle.axp_decode.specs.declared.names.PalOp.TheVariants.{WRVPTPTR, WRFEN};
+ghost use Rattle.axp_decode.specs.declared.names.PalOp.TheVariants.{WRVPTPTR, WRFEN, CSERVE};
+ghost use Rattle.axp_decode.specs.declared.names.PalOp.TheVariants.{HALT, BPT, BUGCHK, GENTRAP};
+ghost use Rattle.axp_decode.specs.declared.names.PalOp.TheVariants.{CALLSYS};
 ghost use Rattle.axp_pte.specs.declared.faults.Mode.TheVariants.{Kernel, User};
 ghost use Rattle.axp_regs.specs.declared.asks.Kind.TheVariants.{Console, Signal};
 ghost use Rattle.axp_regs.specs.declared.states.State.{State};
@@ -33,7 +35,7 @@ ghost use Rattle.axp_pal.specs.declared.buffers.TheConstants.{PAGE_IN_BOTH};
 ghost use Rattle.axp_pal.specs.declared.contexts.TheConstants.{BLOCK_BYTES, SP_PLACE, USP_PLACE};
 ghost use Rattle.axp_pal.specs.declared.contexts.TheConstants.{PTBR_PLACE, COUNTER_PLACE};
 ghost use Rattle.axp_pal.specs.declared.contexts.TheConstants.{ASN_PLACE, UNIQUE_PLACE, FEN_PLACE};
-ghost use Rattle.axp_pal.specs.declared.plans.PalEnd.TheVariants.{Ends, Enters};
+ghost use Rattle.axp_pal.specs.declared.plans.PalEnd.TheVariants.{Ends, Enters, Halts};
 ghost use Rattle.axp_pal.specs.declared.plans.TheConstants.{CONSOLE_SERVICE, HALTED, MOST_ASKS};
 ghost use Rattle.axp_pal.specs.declared.plans.TheConstants.{KERNEL_SYSTEM_CALL};
 ghost use Rattle.axp_pal.specs.declared.privilege.TheConstants.{FIRST_UNPRIVILEGED};
@@ -45,13 +47,14 @@ ghost use Rattle.axp_pal.specs.Invalidations.{page_of};
 
 /// The limits, the codes and the places of a process control block, as numbers.
 pub fn numbers_are_these()
-    ensures calls { FIRST_UNPRIVILEGED ≡ 0x40 × MOST_ASKS ≡ 10 × CONSOLE_SERVICE ≡ 1 }
-    ensures halts { HALTED ≡ 1 × KERNEL_SYSTEM_CALL ≡ 3 }
+    ensures calls { (FIRST_UNPRIVILEGED ≡ 0x40) × (MOST_ASKS ≡ 10) × (CONSOLE_SERVICE ≡ 1) }
+    ensures halts { (HALTED ≡ 1) × (KERNEL_SYSTEM_CALL ≡ 3) }
     ensures status { USER_STATUS ≡ 8 }
-    ensures block { BLOCK_BYTES ≡ 128 × SP_PLACE ≡ 0 × USP_PLACE ≡ 8 × PTBR_PLACE ≡ 16 }
-    ensures block_end { COUNTER_PLACE ≡ 24 × ASN_PLACE ≡ 28 × UNIQUE_PLACE ≡ 32 × FEN_PLACE ≡ 40 }
-    ensures buffers { ALL_ENTRIES ≡ 2 ^ 64 - 2 × PROCESS_ENTRIES ≡ 2 ^ 64 - 1 }
-    ensures pages { INSTRUCTION_PAGE ≡ 1 × DATA_PAGE ≡ 2 × PAGE_IN_BOTH ≡ 3 }
+    ensures block { (BLOCK_BYTES ≡ 128) × (SP_PLACE ≡ 0) × (USP_PLACE ≡ 8) × (PTBR_PLACE ≡ 16) }
+    ensures block_end { (COUNTER_PLACE ≡ 24) × (ASN_PLACE ≡ 28) × (UNIQUE_PLACE ≡ 32)
+        × (FEN_PLACE ≡ 40) }
+    ensures buffers { (ALL_ENTRIES ≡ 2 ^ 64 - 2) × (PROCESS_ENTRIES ≡ 2 ^ 64 - 1) }
+    ensures pages { (INSTRUCTION_PAGE ≡ 1) × (DATA_PAGE ≡ 2) × (PAGE_IN_BOTH ≡ 3) }
 {}
 
 /// Every call with a function below 0x40 is privileged: from user mode it makes no access and
@@ -67,6 +70,26 @@ pub fn privileged_calls_are_reserved_in_user_mode()
         → asks_of op s cpus ≡ (row_of op s cpus).asks }
     ensures other_end { (op : PalOp) (s : State) (cpus : ℕ) → 0x40 ≤ pal_number op
         → end_of op s cpus ≡ (row_of op s cpus).end }
+{}
+
+/// Which calls do not end: halt and, in kernel mode, callsys halt the processor; callsys from user
+/// mode, the calls of traps and an unknown service enter the operating system. These make no
+/// access.
+#[tactic(auto, unfolding(crate::specs::Calls::row_of))]
+pub fn calls_that_do_not_end()
+    ensures halt { (s : State) (cpus : ℕ) → mode_of (ps_of s) ≡ Kernel
+        → end_of HALT s cpus ≡ Halts 1 }
+    ensures system_call { (s : State) (cpus : ℕ) → mode_of (ps_of s) ≡ User
+        → end_of CALLSYS s cpus ≡ Enters Sys }
+    ensures kernel_system_call { (s : State) (cpus : ℕ) → mode_of (ps_of s) ≡ Kernel
+        → end_of CALLSYS s cpus ≡ Halts 3 }
+    ensures breakpoint { (s : State) (cpus : ℕ) → end_of BPT s cpus ≡ Enters (If 0) }
+    ensures bugcheck { (s : State) (cpus : ℕ) → end_of BUGCHK s cpus ≡ Enters (If 1) }
+    ensures trap { (s : State) (cpus : ℕ) → end_of GENTRAP s cpus ≡ Enters (If 2) }
+    ensures unknown_service { (s : State) (cpus : ℕ) → register s A0 ≢ 1
+        → end_of CSERVE s cpus ≡ Enters (If 4) }
+    ensures no_access { (op : PalOp) (s : State) (cpus : ℕ) → end_of op s cpus ≢ Ends
+        → asks_of op s cpus ≡ [] }
 {}
 
 /// In user mode no call changes the status, so an entry alone raises the mode. In kernel mode

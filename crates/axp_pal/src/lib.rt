@@ -17,10 +17,10 @@ pub use contexts::{
 pub use finishing::finish;
 pub use laws::{
     accesses_are_within_bounds, buffers_change_by_tbi, calls_keep_registers, calls_keep_the_status,
-    contexts_go_on_from_their_blocks, contexts_lie_in_their_blocks, entries_return,
-    entry_addresses_are_written, internals_change_by_their_calls, numbers_are_these,
-    privileged_calls_are_reserved_in_user_mode, returns_go_back, stacks_change_with_the_mode,
-    system_calls_return, values_are_read_into_v0,
+    calls_that_do_not_end, contexts_go_on_from_their_blocks, contexts_lie_in_their_blocks,
+    entries_return, entry_addresses_are_written, internals_change_by_their_calls,
+    numbers_are_these, privileged_calls_are_reserved_in_user_mode, returns_go_back,
+    stacks_change_with_the_mode, system_calls_return, values_are_read_into_v0,
 };
 pub use plans::{CONSOLE_SERVICE, HALTED, KERNEL_SYSTEM_CALL, MOST_ASKS, PalEnd, PalPlan, plan};
 pub use privilege::FIRST_UNPRIVILEGED;

@@ -78,7 +78,7 @@ fn faults(code: u64) -> PalPlan
     at_once(PalEnd::Enters(Cause::If { code }))
 }
 
-/// An access that names no memory.
+/// An access that names no memory, so that there is nothing to translate.
 fn bare(kind: Kind, value: u64) -> Ask
     ensures { result ≡ bare_ask kind value }
 {
@@ -112,7 +112,7 @@ fn serve_console(state: &State) -> PalPlan
     }
 }
 
-/// The plan of wripir: a signal to another processor, where there is one of that number.
+/// The plan of wripir: a signal to the processor of the number in a0, where there is one.
 fn signal(state: &State, cpus: u8) -> PalPlan
     ensures asks { result.asks.items ≡ signal_asks state.now cpus }
     ensures end { result.end ≡ Ends }

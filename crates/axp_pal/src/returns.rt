@@ -5,11 +5,12 @@ ghost use Rattle.axp_pal.specs.Returns.{system_returned, to_kernel, to_user, wit
 ghost use Rattle.axp_trap.specs.declared.frames.TheConstants.{FRAME_WORDS};
 
 use crate::MOST_ASKS;
+use axp_base::QUADWORD_BYTES;
 use axp_pte::Mode;
 use axp_regs::{Ask, Kind, State};
 use axp_trap::{
     A0, A0_SLOT, A1, A1_SLOT, A2, A2_SLOT, Asks, FRAME_BYTES, FRAME_WORDS, GP, GP_SLOT, PC_SLOT,
-    PS_SLOT, SP, WORD_BYTES, mode,
+    PS_SLOT, SP, mode,
 };
 
 /// The status to which user mode returns: interrupt level 0.
@@ -23,7 +24,7 @@ fn reload(frame: u64, slot: u64) -> Ask
         kind: Kind::Read,
         address: frame.wrapping_add(slot),
         direct: false,
-        size: WORD_BYTES,
+        size: QUADWORD_BYTES as u8,
         value: 0,
     }
 }

@@ -182,14 +182,15 @@ fn pointers(state: &State) -> [u64; 7] {
 #[test]
 fn a_call_of_the_operating_system_returns(rt: HostRuntime) {
     let mut state = state_at(8, 0xA0, 0xA1);
+    state.set_entry(5, 0xFFFF_FC00_0000_3000);
     enter(Cause::Sys, &mut state);
     assert_eq!(rt;
         pointers(&state),
-        [0, 0x7FD0, 0x1000, 0x8000, 0x77, 0x77, 0]
+        [0, 0x7FD0, 0x1000, 0x8000, 0x77, 0x77, 0xFFFF_FC00_0000_3000]
     );
     state.set(V0, 0xB1);
     state.set_locked(true);
-    finish_at(PalOp::RETSYS, &mut state, &[0x2_0007, 0x11]);
+    finish_at(PalOp::RETSYS, &mut state, &[0x2_0004, 0x11]);
     assert_eq!(rt;
         pointers(&state),
         [8, 0x1000, 0x1000, 0x8000, 0x11, 0x77, 0x2_0004]

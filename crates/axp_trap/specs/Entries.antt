@@ -28,8 +28,8 @@ way_code Store = 1
 abbrev pub row : ℕ → Option ℕ → Option ℕ → Option ℕ → Option ℕ → ℕ → EntryRow
 row number a0 a1 a2 level words = record { number = number; a0 = a0; a1 = a1; a2 = a2; level = level; words = words }
 
--- the entry's number, what a0, a1, a2 and the interrupt level become where they change, and how many words
--- of the frame are saved
+-- the entry's number, what a0, a1, a2 and the interrupt level become where they change, and how many
+-- words of the frame are saved
 unfoldable pub row_of : Cause → EntryRow
 row_of (Int code) = row 0 (Some code) (Some 0) (Some 0) (Some INTERRUPT_LEVEL) FRAME_WORDS
 row_of (Arith mask) = row 1 (Some INTEGER_OVERFLOW) (Some mask) None None FRAME_WORDS

@@ -1,6 +1,7 @@
 -- The frame that an entry saves on the kernel stack.
 use Rattle.std.specs.Prelude.{ℕ, List, ◌∷◌, [], false, take}
 use Rattle.axp_base.specs.Numbers.{add, sub}
+use Rattle.axp_base.specs.declared.parts.TheConstants.{QUADWORD_BYTES}
 use Rattle.axp_pte.specs.declared.faults.Mode.{Mode}
 use Rattle.axp_pte.specs.declared.faults.Mode.TheVariants.{Kernel, User}
 use Rattle.axp_regs.specs.declared.asks.Ask.{Ask}
@@ -8,7 +9,7 @@ use Rattle.axp_regs.specs.declared.asks.Kind.TheVariants.{Write}
 use Rattle.axp_regs.specs.declared.states.State.{State}
 use Rattle.axp_regs.specs.States.{register, pc_of, ps_of, ksp_of}
 use Rattle.axp_trap.specs.declared.causes.Cause.{Cause}
-use Rattle.axp_trap.specs.declared.frames.TheConstants.{FRAME_BYTES, WORD_BYTES, PS_SLOT, PC_SLOT, GP_SLOT, A0_SLOT, A1_SLOT, A2_SLOT}
+use Rattle.axp_trap.specs.declared.frames.TheConstants.{FRAME_BYTES, PS_SLOT, PC_SLOT, GP_SLOT, A0_SLOT, A1_SLOT, A2_SLOT}
 use Rattle.axp_trap.specs.declared.registers.TheConstants.{A0, A1, A2, GP, SP}
 use Rattle.axp_trap.specs.Entries.{row_of}
 use Rattle.axp_trap.specs.Status.{mode_of}
@@ -24,7 +25,7 @@ frame_address s = sub (kernel_stack_in (mode_of (ps_of s)) s) FRAME_BYTES
 
 -- the write of one word of a frame
 abbrev pub saved_at : ℕ → ℕ → ℕ → Ask
-saved_at address slot value = record { kind = Write; address = add address slot; direct = false; size = WORD_BYTES; value = value }
+saved_at address slot value = record { kind = Write; address = add address slot; direct = false; size = QUADWORD_BYTES; value = value }
 
 -- the words of a whole frame
 abbrev pub whole_frame : ℕ → State → List Ask

@@ -3,17 +3,15 @@ ghost use Rattle.axp_trap.specs.Frames.{frame_address, frame_of, saved_at};
 
 use crate::entries::row;
 use crate::{A0, A1, A2, Asks, Cause, GP, SP, mode};
+use axp_base::QUADWORD_BYTES;
 use axp_pte::Mode;
 use axp_regs::{Ask, Kind, State};
 
 /// How many bytes a frame takes on the kernel stack.
 pub const FRAME_BYTES: u64 = 48;
 
-/// How many words a frame has.
+/// How many words a frame has, each a quadword.
 pub const FRAME_WORDS: usize = 6;
-
-/// How many bytes a word of a frame has.
-pub const WORD_BYTES: u8 = 8;
 
 /// Where in a frame the processor status lies, in bytes.
 pub const PS_SLOT: u64 = 0;
@@ -53,7 +51,7 @@ fn save(address: u64, slot: u64, value: u64) -> Ask
         kind: Kind::Write,
         address: address.wrapping_add(slot),
         direct: false,
-        size: WORD_BYTES,
+        size: QUADWORD_BYTES as u8,
         value,
     }
 }

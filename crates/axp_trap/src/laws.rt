@@ -33,23 +33,23 @@ ghost use Rattle.axp_trap.specs.Status.{interrupt_level, mode_of, with_level};
 /// The numbers of registers, the places of a frame's words, and the bit of the mode.
 pub fn numbers_are_these()
     ensures v0 { V0 ≡ 0 }
-    ensures arguments { A0 ≡ 16 × A1 ≡ 17 × A2 ≡ 18 }
-    ensures pointers { GP ≡ 29 × SP ≡ 30 }
-    ensures frame { FRAME_BYTES ≡ 48 × FRAME_WORDS ≡ 6 }
-    ensures first_slots { PS_SLOT ≡ 0 × PC_SLOT ≡ 8 × GP_SLOT ≡ 16 }
-    ensures argument_slots { A0_SLOT ≡ 24 × A1_SLOT ≡ 32 × A2_SLOT ≡ 40 }
-    ensures status { MODE_BIT ≡ 3 × INTERRUPT_LEVEL ≡ 5 }
+    ensures arguments { (A0 ≡ 16) × (A1 ≡ 17) × (A2 ≡ 18) }
+    ensures pointers { (GP ≡ 29) × (SP ≡ 30) }
+    ensures frame { (FRAME_BYTES ≡ 48) × (FRAME_WORDS ≡ 6) }
+    ensures first_slots { (PS_SLOT ≡ 0) × (PC_SLOT ≡ 8) × (GP_SLOT ≡ 16) }
+    ensures argument_slots { (A0_SLOT ≡ 24) × (A1_SLOT ≡ 32) × (A2_SLOT ≡ 40) }
+    ensures status { (MODE_BIT ≡ 3) × (INTERRUPT_LEVEL ≡ 5) }
 {}
 
 /// The codes by which an entry tells what raised it.
 pub fn codes_are_these()
-    ensures interrupts { INTERPROCESSOR ≡ 0 × CLOCK ≡ 1 }
+    ensures interrupts { (INTERPROCESSOR ≡ 0) × (CLOCK ≡ 1) }
     ensures arithmetic { INTEGER_OVERFLOW ≡ 2 ^ 6 }
-    ensures calls { BREAKPOINT ≡ 0 × BUGCHECK ≡ 1 × GENERATED_TRAP ≡ 2 }
-    ensures instructions { FLOATING_DISABLED ≡ 3 × RESERVED_INSTRUCTION ≡ 4 }
-    ensures faults { fault_code Tnv ≡ 0 × fault_code Acv ≡ 1 × fault_code For ≡ 2
-        × fault_code Foe ≡ 3 × fault_code Fow ≡ 4 }
-    ensures ways { way_code Fetch ≡ 2 ^ 64 - 1 × way_code Load ≡ 0 × way_code Store ≡ 1 }
+    ensures calls { (BREAKPOINT ≡ 0) × (BUGCHECK ≡ 1) × (GENERATED_TRAP ≡ 2) }
+    ensures instructions { (FLOATING_DISABLED ≡ 3) × (RESERVED_INSTRUCTION ≡ 4) }
+    ensures faults { (fault_code Tnv ≡ 0) × (fault_code Acv ≡ 1) × (fault_code For ≡ 2)
+        × (fault_code Foe ≡ 3) × (fault_code Fow ≡ 4) }
+    ensures ways { (way_code Fetch ≡ 2 ^ 64 - 1) × (way_code Load ≡ 0) × (way_code Store ≡ 1) }
 {}
 
 /// Of a status whose mode or level is set, the other one stays.

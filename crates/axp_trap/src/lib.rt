@@ -17,8 +17,7 @@ pub use causes::{
 };
 pub use entries::{INTERRUPT_LEVEL, enter};
 pub use frames::{
-    A0_SLOT, A1_SLOT, A2_SLOT, FRAME_BYTES, FRAME_WORDS, GP_SLOT, PC_SLOT, PS_SLOT, WORD_BYTES,
-    frame,
+    A0_SLOT, A1_SLOT, A2_SLOT, FRAME_BYTES, FRAME_WORDS, GP_SLOT, PC_SLOT, PS_SLOT, frame,
 };
 pub use laws::{
     codes_are_these, entries_end_in_kernel_mode, entries_go_to_their_addresses,

@@ -4,9 +4,9 @@ use axp_regs::{Kind, State};
 use std::process::Abort;
 use std::test::*;
 
-/// The address of the entry of this number.
+/// The address of the entry of this number; that of entSys is FFFFFC0000003000.
 fn address(n: u8) -> u64 {
-    0xFFFF_FC00_0000_3000 + u64::from(n) * 0x100
+    0xFFFF_FC00_0000_3500_u64.wrapping_sub(u64::from(n) * 0x100)
 }
 
 /// A state with this status, whose two stack pointers, global pointers and arguments all differ.

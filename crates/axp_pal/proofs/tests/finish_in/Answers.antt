@@ -1,4 +1,4 @@
-use Rattle.std.proofs.Common.{arith, sym, ◌∙◌, ap, length}
+use Rattle.std.proofs.Common.{sym, ◌∙◌, ap, length}
 use Rattle.axp_pal.proofs.tests.finish_in.Goals as goal
 
 pub finish-requires : goal.finish-requires
