@@ -1,0 +1,4 @@
+pub mod Contexts
+pub mod Returns
+pub mod Invalidations
+pub mod Calls

@@ -1,0 +1,5 @@
+pub mod Status
+pub mod Entries
+pub mod Frames
+pub mod Entering
+pub mod Keeping
