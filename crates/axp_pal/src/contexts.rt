@@ -5,9 +5,10 @@ ghost use Rattle.axp_pal.specs.Contexts.{read_from, switched, written_to};
 ghost use Rattle.axp_pal.specs.declared.plans.TheConstants.{MOST_ASKS};
 
 use crate::MOST_ASKS;
+use arrayvec::ArrayVec;
 use axp_base::QUADWORD_BYTES;
 use axp_regs::{Ask, Kind, State};
-use axp_trap::{A0, Asks, SP, V0};
+use axp_trap::{A0, SP, V0};
 
 /// How many bytes a process control block takes; it lies at a multiple of them.
 pub const BLOCK_BYTES: u64 = 128;
@@ -81,13 +82,13 @@ fn reading_of(block: u64, place: u64) -> Ask
 
 /// The accesses of swpctx: the old context is written to its block, and the new one read from its
 /// own.
-pub(crate) fn swap_asks(state: &State) -> Asks<MOST_ASKS>
+pub(crate) fn swap_asks(state: &State) -> ArrayVec<Ask, MOST_ASKS>
     ensures { result.items ≡ context_asks state.now }
 {
     let old = state.pcbb();
     let new = block_at(state.get(A0));
-    Asks::first(
-        MOST_ASKS,
+    ArrayVec::from_array_in(
+        (),
         [
             write_to(old, SP_PLACE, QUADWORD_BYTES as u8, state.get(SP)),
             write_to(old, USP_PLACE, QUADWORD_BYTES as u8, state.usp()),

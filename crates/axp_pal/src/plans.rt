@@ -9,12 +9,11 @@ ghost use Rattle.axp_pal.specs.declared.plans.PalEnd.TheVariants.{Ends, Enters};
 use crate::contexts::swap_asks;
 use crate::privilege::is_privileged_call;
 use crate::returns::{read_call_frame, read_frame};
+use arrayvec::ArrayVec;
 use axp_decode::PalOp;
 use axp_pte::Mode;
 use axp_regs::{Ask, Kind, State};
-use axp_trap::{
-    A0, A1, Asks, BREAKPOINT, BUGCHECK, Cause, GENERATED_TRAP, RESERVED_INSTRUCTION, mode,
-};
+use axp_trap::{A0, A1, BREAKPOINT, BUGCHECK, Cause, GENERATED_TRAP, RESERVED_INSTRUCTION, mode};
 
 /// How many accesses a call makes at most.
 pub const MOST_ASKS: usize = 10;
@@ -43,13 +42,13 @@ pub enum PalEnd {
 #[derive(Debug, Drop)]
 pub struct PalPlan {
     /// The accesses.
-    pub asks: Asks<MOST_ASKS>,
+    pub asks: ArrayVec<Ask, MOST_ASKS>,
     /// The end.
     pub end: PalEnd,
 }
 
 /// The call makes these accesses and ends.
-fn ends(asks: Asks<MOST_ASKS>) -> PalPlan
+fn ends(asks: ArrayVec<Ask, MOST_ASKS>) -> PalPlan
     ensures asks { result.asks ≡ asks }
     ensures end { result.end ≡ Ends }
 {
@@ -65,7 +64,7 @@ fn at_once(end: PalEnd) -> PalPlan
     ensures end { result.end ≡ end }
 {
     PalPlan {
-        asks: Asks::new(),
+        asks: ArrayVec::new(),
         end,
     }
 }
@@ -92,10 +91,10 @@ fn bare(kind: Kind, value: u64) -> Ask
 }
 
 /// The list of one access.
-fn one(ask: Ask) -> Asks<MOST_ASKS>
+fn one(ask: Ask) -> ArrayVec<Ask, MOST_ASKS>
     ensures { result.items ≡ ask ∷ [] }
 {
-    let mut asks = Asks::new();
+    let mut asks = ArrayVec::new();
     asks.push(ask);
     asks
 }

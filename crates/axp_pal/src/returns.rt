@@ -5,12 +5,13 @@ ghost use Rattle.axp_pal.specs.Returns.{system_returned, to_kernel, to_user, wit
 ghost use Rattle.axp_trap.specs.declared.frames.TheConstants.{FRAME_WORDS};
 
 use crate::MOST_ASKS;
+use arrayvec::ArrayVec;
 use axp_base::QUADWORD_BYTES;
 use axp_pte::Mode;
 use axp_regs::{Ask, Kind, State};
 use axp_trap::{
-    A0, A0_SLOT, A1, A1_SLOT, A2, A2_SLOT, Asks, FRAME_BYTES, FRAME_WORDS, GP, GP_SLOT, PC_SLOT,
-    PS_SLOT, SP, mode,
+    A0, A0_SLOT, A1, A1_SLOT, A2, A2_SLOT, FRAME_BYTES, FRAME_WORDS, GP, GP_SLOT, PC_SLOT, PS_SLOT,
+    SP, mode,
 };
 
 /// The status to which user mode returns: interrupt level 0.
@@ -30,22 +31,22 @@ fn reload(frame: u64, slot: u64) -> Ask
 }
 
 /// The accesses of retsys: reads of the program counter and the global pointer.
-pub(crate) fn read_call_frame(state: &State) -> Asks<MOST_ASKS>
+pub(crate) fn read_call_frame(state: &State) -> ArrayVec<Ask, MOST_ASKS>
     ensures { result.items ≡ system_return_asks state.now }
 {
     let frame = state.get(SP);
-    let mut asks = Asks::new();
+    let mut asks = ArrayVec::new();
     asks.push(reload(frame, PC_SLOT));
     asks.push(reload(frame, GP_SLOT));
     asks
 }
 
 /// The accesses of rti: reads of the whole frame.
-pub(crate) fn read_frame(state: &State) -> Asks<MOST_ASKS>
+pub(crate) fn read_frame(state: &State) -> ArrayVec<Ask, MOST_ASKS>
     ensures { result.items ≡ return_asks state.now }
 {
     let frame = state.get(SP);
-    let mut asks = Asks::new();
+    let mut asks = ArrayVec::new();
     asks.push(reload(frame, PS_SLOT));
     asks.push(reload(frame, PC_SLOT));
     asks.push(reload(frame, GP_SLOT));

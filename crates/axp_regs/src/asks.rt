@@ -1,7 +1,8 @@
 /// The kinds of access.
-#[derive(Clone, Copy, Debug, PartialEq, Eq)]
+#[derive(Clone, Copy, Debug, Default, PartialEq, Eq)]
 pub enum Kind {
     /// The fetch of an instruction's word.
+    #[default]
     Fetch,
     /// A plain read of data.
     Read,
@@ -26,7 +27,7 @@ pub enum Kind {
 }
 
 /// An access as an instruction asks for it, before its address is translated.
-#[derive(Clone, Copy, Debug, PartialEq, Eq)]
+#[derive(Clone, Copy, Debug, Default, PartialEq, Eq)]
 pub struct Ask {
     /// What it does.
     pub kind: Kind,

@@ -2,7 +2,8 @@ ghost use Rattle.std.specs.Prelude.{◌≡◌};
 ghost use Rattle.axp_trap.specs.Frames.{frame_address, frame_of, saved_at};
 
 use crate::entries::row;
-use crate::{A0, A1, A2, Asks, Cause, GP, SP, mode};
+use crate::{A0, A1, A2, Cause, GP, SP, mode};
+use arrayvec::ArrayVec;
 use axp_base::QUADWORD_BYTES;
 use axp_pte::Mode;
 use axp_regs::{Ask, Kind, State};
@@ -60,12 +61,12 @@ fn save(address: u64, slot: u64, value: u64) -> Ask
 /// global pointer and the three arguments; a call of the operating system saves the first three
 /// alone. The state is that in which the entry is raised, with the program counter that is to be
 /// saved. Neither alignment nor rights are tested.
-pub fn frame(cause: Cause, state: &State) -> Asks<FRAME_WORDS>
+pub fn frame(cause: Cause, state: &State) -> ArrayVec<Ask, FRAME_WORDS>
     ensures { result.items ≡ frame_of cause state.now }
 {
     let address = address_of_frame(state);
-    Asks::first(
-        row(cause).words,
+    let mut asks = ArrayVec::from_array_in(
+        (),
         [
             save(address, PS_SLOT, state.ps()),
             save(address, PC_SLOT, state.pc()),
@@ -74,5 +75,7 @@ pub fn frame(cause: Cause, state: &State) -> Asks<FRAME_WORDS>
             save(address, A1_SLOT, state.get(A1)),
             save(address, A2_SLOT, state.get(A2)),
         ],
-    )
+    );
+    asks.truncate(row(cause).words);
+    asks
 }

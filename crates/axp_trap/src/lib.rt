@@ -2,7 +2,6 @@
 //! and the state in which the operating system begins. `specs/` has the tables.
 #![tactic(auto)]
 
-mod asks;
 mod causes;
 mod entries;
 mod frames;
@@ -10,7 +9,6 @@ mod laws;
 mod registers;
 mod status;
 
-pub use asks::Asks;
 pub use causes::{
     BREAKPOINT, BUGCHECK, CLOCK, Cause, FLOATING_DISABLED, GENERATED_TRAP, INTEGER_OVERFLOW,
     INTERPROCESSOR, RESERVED_INSTRUCTION,
