@@ -14,3 +14,6 @@ mod logs;
 pub use buses::{BusSeat, BusSeats, CALLS_PER_STEP, Shared, SharedBus};
 pub use laws::{limits_are_these, right_answers_fit};
 pub use logs::{BusLog, BusStart};
+
+#[cfg(test)]
+mod tests;

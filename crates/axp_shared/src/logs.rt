@@ -34,7 +34,6 @@ pub struct BusLog {
     ghost size: { length bus.memory ≡ image.value.size },
     ghost room: { bus.room ≡ calls.room },
     ghost small: { calls.room < 2 ^ 32 },
-    ghost stands: { Stands bus (byte_in image.value.segments) (reverse calls.items) }
-        by { Stands-prop bus (byte_in image.value.segments) (reverse calls.items) },
+    ghost stands: { Stands bus (byte_in image.value.segments) (reverse calls.items) } by { Stands-prop bus (byte_in image.value.segments) (reverse calls.items) },
     ghost right: { EachRight IsBusAnswer (start_of image.value (length bus.ports)) calls.items },
 }

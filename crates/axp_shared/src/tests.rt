@@ -1,0 +1,151 @@
+// Threads share the bus of a page of zeros.
+ghost use Rattle.std.specs.Prelude.{◌≡◌, ◌≤◌, All, IfOk, length};
+ghost use Rattle.axp_ticket.specs.Seats.{AreAllThere};
+ghost use Rattle.axp_shared.specs.Asking.{HasAsked, IsReady, MayAskOften};
+ghost use Rattle.axp_shared.specs.Buses.{AreSeatsOfBus, bus_start};
+
+use crate::{BusSeat, BusSeats, SharedBus};
+use axp_base::{Bank, Line, NoMemory, span};
+use axp_image::{Image, read_image};
+use axp_line::{LineData, Reply, Request};
+use std::alloc::Global;
+use std::sync::Wait;
+use std::test::*;
+use std::thread;
+use std::thread::Threads;
+use std::time::Instant;
+
+mod sharing;
+
+use sharing::{bus_is_send, bus_is_sync, seats_are_send};
+
+// An image of one page, with no segment.
+const PAGE: [u8; 40] = [
+    0x41, 0x58, 0x50, 0x49, 1, 0, 0, 0, // magic, version, count
+    0, 0x20, 0, 0, 0, 0, 0, 0, // size
+    0, 0, 0, 0, 0, 0xFC, 0xFF, 0xFF, // entry
+    0, 0, 0, 0, 0, 0, 0, 0, // stack
+    0, 0, 0, 0, 0, 0, 0, 0, // table
+];
+
+// So many fills of line 0, and the position of the last.
+fn fill_often<R: Wait>(rt: &R, bus: &SharedBus, seat: BusSeat, times: u32) -> (BusSeat, u32)
+    requires seat { IsReady bus.now seat }
+    requires often { MayAskOften bus.now times }
+    ensures { HasAsked bus.now seat result.0 times }
+{
+    let mut seat = seat;
+    let mut last = 0;
+    for _n in 0..times {
+        let line = Line::of(0);
+        let (next, position, _reply) = bus.turn(rt, seat, Request::Fill { line });
+        seat = next;
+        last = position;
+    }
+    (seat, last)
+}
+
+fn both<R: Threads + Wait + Sync>(
+    rt: &R,
+    bus: &SharedBus,
+    one: BusSeat,
+    other: BusSeat,
+    times: u32,
+) -> (BusSeat, BusSeat)
+    requires one { IsReady bus.now one }
+    requires other { IsReady bus.now other }
+    requires often { MayAskOften bus.now times }
+    ensures one { HasAsked bus.now one result.0 times }
+    ensures other { HasAsked bus.now other result.1 times }
+{
+    let (one, other) = thread::join(
+        rt,
+        || fill_often(rt, bus, one, times),
+        || fill_often(rt, bus, other, times),
+    );
+    (one.0, other.0)
+}
+
+#[test]
+fn two_threads_fill(rt: HostRuntime) -> Result<(), Fail> {
+    let image = read_image(rt.alloc(), &PAGE)?.ok_or("a page")?;
+    assert_eq!(rt; image.size(), 0x2000);
+    let (bus, mut seats) = SharedBus::open(rt.alloc(), &image, 2, 8)?;
+    let one = bus.next(&mut seats).unwrap();
+    let other = bus.next(&mut seats).unwrap();
+    let third = bus.next(&mut seats);
+    assert!(rt; third.is_none());
+    let (one, other) = both(&rt, &bus, one, other, 100);
+    bus.give(&mut seats, one);
+    bus.give(&mut seats, other);
+    let calls = bus.close(seats);
+    assert_eq!(rt; calls.len(), 200);
+    let zeros = Reply::Line {
+        turn: 0,
+        bytes: LineData::zero(),
+    };
+    let mut of_the_other = 0_u32;
+    for n in 0..calls.len() {
+        let call = calls.get(n);
+        assert_eq!(rt; call.answer, zeros);
+        assert!(rt; matches!(call.ask, Request::Fill { line } if line == Line::of(0)));
+        of_the_other = of_the_other.wrapping_add(u32::from(call.cpu.number()));
+    }
+    assert_eq!(rt; of_the_other, 100);
+    Ok(())
+}
+
+// The seats of all eight processors.
+fn eight_seats(
+    alloc: Global,
+    bus: &SharedBus,
+    seats: &mut BusSeats,
+) -> Result<Vec<BusSeat>, NoMemory>
+    requires seats { AreSeatsOfBus bus.now seats.old }
+    requires all_there { AreAllThere seats.old }
+    requires eight { (bus_start bus.now).cpus ≡ 8 }
+    ensures { IfOk result (λ v. All (IsReady bus.now) v.items) }
+{
+    let mut all = Vec::with_capacity(alloc, 8)?;
+    for _n in 0..8u8 {
+        let seat = bus.next(seats).unwrap();
+        all.push_reserved(seat);
+    }
+    Ok(all)
+}
+
+// So many fills of each seat, each in a thread of its own; the greatest position.
+fn fill_side_by_side<R: Threads + Wait + Sync>(
+    rt: &R,
+    bus: &SharedBus,
+    seats: Vec<BusSeat>,
+    times: u32,
+) -> Result<u32, NoMemory>
+    requires ready { All (IsReady bus.now) seats.items }
+    requires often { MayAskOften bus.now times }
+{
+    let lasts = thread::map_vec(
+        rt,
+        seats,
+        &|seat: BusSeat| -> u32
+            requires { IsReady bus.now seat × MayAskOften bus.now times }
+        { fill_often(rt, bus, seat, times).1 },
+    )?;
+    Ok(lasts.iter().copied().max().unwrap_or(0))
+}
+
+// A seat that waits sleeps: eight threads take about as long as one that makes all their calls, where
+// threads that spin would take a thousand times as long on fewer processors.
+#[test]
+fn eight_threads_sleep_while_they_wait(rt: HostRuntime) -> Result<(), Fail> {
+    let image = read_image(rt.alloc(), &PAGE)?.ok_or("a page")?;
+    assert_eq!(rt; image.size(), 0x2000);
+    let (bus, mut seats) = SharedBus::open(rt.alloc(), &image, 8, 1000)?;
+    let all = eight_seats(rt.alloc(), &bus, &mut seats)?;
+    let start = Instant::now(&rt).ok().ok_or("a clock")?;
+    let last = fill_side_by_side(&rt, &bus, all, 1_000)?;
+    let eight = start.elapsed(&rt).ok().ok_or("a clock")?;
+    assert_eq!(rt; last, 7_999);
+    assert!(rt; eight.as_secs() < 10);
+    Ok(())
+}
