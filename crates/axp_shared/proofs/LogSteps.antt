@@ -1,5 +1,5 @@
 -- A bus that stands for its calls, and one call more.
-use Rattle.std.proofs.Common.{◌≡◌, ℕ, ◌+◌, ◌<◌, ◌≤◌, List, [], ◌∷◌, ◌++◌, length, reverse, sym, ap, ◌∙◌, subst, arith, length-append}
+use Rattle.std.proofs.Common.{◌≡◌, ℕ, ◌<◌, ◌≤◌, List, [], ◌∷◌, ◌++◌, length, reverse, sym, ap, ◌∙◌, subst, arith, length-append}
 use Rattle.std.proofs.lemmas.List.{length-reverse, reverse-append}
 use Rattle.axp_bus.specs.Buses.{State}
 use Rattle.axp_bus.specs.BusStands.{Stands}

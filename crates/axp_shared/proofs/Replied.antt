@@ -1,11 +1,11 @@
 -- Where each call of a list is right after those before it, the bus answers so.
-use Rattle.std.proofs.Common.{◌≡◌, ℕ, ◌+◌, ◌<◌, ◌^◌, List, [], ◌∷◌, ◌++◌, length, reverse, sym, subst, ap, arith, append_assoc, append-nil}
+use Rattle.std.proofs.Common.{ℕ, ◌<◌, ◌^◌, List, [], ◌∷◌, ◌++◌, reverse, sym, subst, ap, arith, append_assoc, append-nil}
 use Rattle.std.proofs.lemmas.List.{length-reverse, reverse-append}
 use Rattle.axp_bus.specs.ReplyLaws.{Answers, turn_of}
 use Rattle.axp_bus.proofs.ReplyLemmas.{answers_fit, reply_turn, turns_most}
 use Rattle.axp_call.specs.Calls.{AllRight, RightAfter}
 use Rattle.axp_line.specs.BusCalls.{BusCall}
-use Rattle.axp_line.specs.BusReply.{AreReplied, bus_reply, port_state}
+use Rattle.axp_line.specs.BusReply.{AreReplied, port_state}
 use Rattle.axp_line.specs.declared.messages.Reply.{Reply}
 use Rattle.axp_line.specs.declared.messages.Request.{Request}
 use Rattle.axp_shared.specs.Answers.{IsBusAnswer, start_memory}

@@ -1,5 +1,5 @@
 // Threads share the bus of a page of zeros.
-ghost use Rattle.std.specs.Prelude.{◌≡◌, ◌≤◌, All, IfOk, length};
+ghost use Rattle.std.specs.Prelude.{◌≡◌, ◌≤◌, All, IfOk, OnOk};
 ghost use Rattle.axp_ticket.specs.Seats.{AreAllThere};
 ghost use Rattle.axp_shared.specs.Asking.{HasAsked, IsReady, MayAskOften};
 ghost use Rattle.axp_shared.specs.Buses.{AreSeatsOfBus, bus_start};
@@ -104,7 +104,8 @@ fn eight_seats(
     requires seats { AreSeatsOfBus bus.now seats.old }
     requires all_there { AreAllThere seats.old }
     requires eight { (bus_start bus.now).cpus ≡ 8 }
-    ensures { IfOk result (λ v. All (IsReady bus.now) v.items) }
+    ensures ready { IfOk result (λ v. All (IsReady bus.now) v.items) }
+    ensures seats { OnOk result (AreSeatsOfBus bus.now seats.new) }
 {
     let mut all = Vec::with_capacity(alloc, 8)?;
     for _n in 0..8u8 {
@@ -134,18 +135,68 @@ fn fill_side_by_side<R: Threads + Wait + Sync>(
     Ok(lasts.iter().copied().max().unwrap_or(0))
 }
 
-// A seat that waits sleeps: eight threads take about as long as one that makes all their calls, where
-// threads that spin would take a thousand times as long on fewer processors.
+// A seat that waits sleeps. Eight threads need a tenth of a second; where each looks again and again
+// until it has its turn, half a minute on four processors.
 #[test]
 fn eight_threads_sleep_while_they_wait(rt: HostRuntime) -> Result<(), Fail> {
     let image = read_image(rt.alloc(), &PAGE)?.ok_or("a page")?;
     assert_eq!(rt; image.size(), 0x2000);
-    let (bus, mut seats) = SharedBus::open(rt.alloc(), &image, 8, 1000)?;
+    let (bus, mut seats) = SharedBus::open(rt.alloc(), &image, 8, 200)?;
     let all = eight_seats(rt.alloc(), &bus, &mut seats)?;
+    assert!(rt; bus.next(&mut seats).is_none());
     let start = Instant::now(&rt).ok().ok_or("a clock")?;
-    let last = fill_side_by_side(&rt, &bus, all, 1_000)?;
-    let eight = start.elapsed(&rt).ok().ok_or("a clock")?;
-    assert_eq!(rt; last, 7_999);
-    assert!(rt; eight.as_secs() < 10);
+    let last = fill_side_by_side(&rt, &bus, all, 2_000)?;
+    let took = start.elapsed(&rt).ok().ok_or("a clock")?;
+    assert_eq!(rt; last, 15_999);
+    assert!(rt; took.as_secs() < 10);
     Ok(())
+}
+
+// The last quadword of line 1 is written, with the other bytes at 0.
+fn written() -> LineData {
+    let mut line = LineData::zero();
+    line.set(56, 8, 0x0123_4567_89AB_CDEF);
+    line
+}
+
+#[test]
+fn replies_know_the_calls_before(rt: HostRuntime) -> Result<(), Fail> {
+    let image = read_image(rt.alloc(), &PAGE)?.ok_or("a page")?;
+    assert_eq!(rt; image.size(), 0x2000);
+    let (bus, mut seats) = SharedBus::open(rt.alloc(), &image, 2, 1)?;
+    let one = bus.next(&mut seats).unwrap();
+    let other = bus.next(&mut seats).unwrap();
+    let line = Line::of(0x40);
+    let bytes = written();
+    let drain = Request::Drain {
+        line,
+        mask: span(56, 8),
+        bytes,
+    };
+    let (other, position, reply) = bus.turn(&rt, other, drain);
+    assert_eq!(rt; (position, reply), (0, Reply::Stored { turn: 1, bytes }));
+    let (one, position, reply) = bus.turn(&rt, one, Request::Fill { line });
+    assert_eq!(rt; (position, reply), (1, Reply::Line { turn: 1, bytes }));
+    let take = Request::Take { bank: Bank::Odd };
+    let (one, position, reply) = bus.turn(&rt, one, take);
+    assert_eq!(rt; (position, reply), (2, Reply::Late { line, turn: 1 }));
+    let take = Request::Take { bank: Bank::Odd };
+    let (one, position, reply) = bus.turn(&rt, one, take);
+    assert_eq!(rt; (position, reply), (3, Reply::Nothing));
+    bus.give(&mut seats, one);
+    bus.give(&mut seats, other);
+    let calls = bus.close(seats);
+    let mut numbers = Vec::new(rt.alloc());
+    for n in 0..calls.len() {
+        numbers.push(calls.get(n).cpu.number())?;
+    }
+    assert_eq!(rt; numbers.as_slice(), [1, 0, 0, 0].as_slice());
+    Ok(())
+}
+
+#[test]
+fn a_bus_is_shared_and_its_seats_are_sent(_rt: HostRuntime) {
+    bus_is_sync();
+    bus_is_send();
+    seats_are_send();
 }

@@ -1,4 +1,4 @@
-use Rattle.std.proofs.Common.{◌≡◌, ◌≤◌, ◌<◌, All, length, vec_capacity}
+use Rattle.std.proofs.Common.{◌≡◌, ◌≤◌, All, length, vec_capacity}
 use Rattle.axp_ticket.specs.Seats.{seats_given}
 use Rattle.axp_shared.specs.Asking.{IsReady}
 use Rattle.axp_shared.specs.Buses.{AreSeatsOfBus}
