@@ -6,9 +6,11 @@ ghost use Rattle.axp_shared.specs.Buses.{AreSeatsOfBus, bus_start};
 
 use crate::{BusSeat, BusSeats, SharedBus};
 use axp_base::{Bank, Line, NoMemory, span};
+use axp_bus::CallList;
 use axp_image::{Image, read_image};
 use axp_line::{LineData, Reply, Request};
 use std::alloc::Global;
+use std::process::Abort;
 use std::sync::Wait;
 use std::test::*;
 use std::thread;
@@ -66,6 +68,24 @@ fn both<R: Threads + Wait + Sync>(
     (one.0, other.0)
 }
 
+// Compares each call with a fill of line 0 that found zeros; how many are of the processor 1.
+fn of_the_second(rt: &impl Abort, calls: &CallList) -> u32 {
+    let zeros = Reply::Line {
+        turn: 0,
+        bytes: LineData::zero(),
+    };
+    let mut count = 0_u32;
+    for n in 0..calls.len() {
+        let call = calls.get(n);
+        assert!(rt; matches!(call.ask, Request::Fill { line } if line == Line::of(0)));
+        assert_eq!(rt; call.answer, zeros);
+        if call.cpu.number() == 1 {
+            count = count.wrapping_add(1);
+        }
+    }
+    count
+}
+
 #[test]
 fn two_threads_fill(rt: HostRuntime) -> Result<(), Fail> {
     let image = read_image(rt.alloc(), &PAGE)?.ok_or("a page")?;
@@ -80,18 +100,7 @@ fn two_threads_fill(rt: HostRuntime) -> Result<(), Fail> {
     bus.give(&mut seats, other);
     let calls = bus.close(seats);
     assert_eq!(rt; calls.len(), 200);
-    let zeros = Reply::Line {
-        turn: 0,
-        bytes: LineData::zero(),
-    };
-    let mut of_the_other = 0_u32;
-    for n in 0..calls.len() {
-        let call = calls.get(n);
-        assert_eq!(rt; call.answer, zeros);
-        assert!(rt; matches!(call.ask, Request::Fill { line } if line == Line::of(0)));
-        of_the_other = of_the_other.wrapping_add(u32::from(call.cpu.number()));
-    }
-    assert_eq!(rt; of_the_other, 100);
+    assert_eq!(rt; of_the_second(&rt, &calls), 100);
     Ok(())
 }
 
@@ -159,6 +168,15 @@ fn written() -> LineData {
     line
 }
 
+// The number of the processor of each call.
+fn processors(alloc: Global, calls: &CallList) -> Result<Vec<u8>, NoMemory> {
+    let mut numbers = Vec::new(alloc);
+    for n in 0..calls.len() {
+        numbers.push(calls.get(n).cpu.number())?;
+    }
+    Ok(numbers)
+}
+
 #[test]
 fn replies_know_the_calls_before(rt: HostRuntime) -> Result<(), Fail> {
     let image = read_image(rt.alloc(), &PAGE)?.ok_or("a page")?;
@@ -186,10 +204,7 @@ fn replies_know_the_calls_before(rt: HostRuntime) -> Result<(), Fail> {
     bus.give(&mut seats, one);
     bus.give(&mut seats, other);
     let calls = bus.close(seats);
-    let mut numbers = Vec::new(rt.alloc());
-    for n in 0..calls.len() {
-        numbers.push(calls.get(n).cpu.number())?;
-    }
+    let numbers = processors(rt.alloc(), &calls)?;
     assert_eq!(rt; numbers.as_slice(), [1, 0, 0, 0].as_slice());
     Ok(())
 }
