@@ -85,10 +85,10 @@ impl Shared<BusLog> {
 
     /// Waits for the seat's turn, and has the bus answer the request of the seat's processor. Gives
     /// the seat back with exactly this call more, the call's position among all calls, from 0 on,
-    /// and the reply. The position is above those of the seat's earlier calls, and the reply is what
-    /// the bus answers after the calls before it. The seat has to have made fewer calls than it is
-    /// allowed. A seat that waits sleeps. No order is promised between seats, nor that a seat is
-    /// ever served.
+    /// and the reply. The position is above those of the seat's earlier calls, and the reply is
+    /// what the bus answers after the calls before it. The seat has to have made fewer calls than
+    /// it is allowed. A seat that waits sleeps. No order is promised between seats, nor that a seat
+    /// is ever served.
     pub fn turn<R: Wait>(&self, rt: &R, seat: BusSeat, request: Request) -> (BusSeat, u32, Reply)
         requires seat { IsSeatOfBus self.now seat }
         requires asks { MayAskBus (bus_start self.now) request }
@@ -116,8 +116,8 @@ impl Shared<BusLog> {
         self.lock.give(seats, seat)
     }
 
-    /// All calls of the bus, the earliest first, once every seat that was handed out came back: those
-    /// of the seats, each at its position.
+    /// All calls of the bus, the earliest first, once every seat that was handed out came back:
+    /// those of the seats, each at its position.
     pub fn close(self, seats: BusSeats) -> CallList
         requires seats { AreSeatsOfBus self seats }
         requires home { AllHome seats }

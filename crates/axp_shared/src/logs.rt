@@ -1,11 +1,9 @@
 //! The bus with the list of its calls.
-ghost use Rattle.std.specs.Prelude.{◌≡◌, ◌^◌, ◌<◌, ◌≤◌, length, reverse};
+ghost use Rattle.std.specs.Prelude.{◌≡◌, ◌^◌, ◌<◌, ◌≤◌, length};
 ghost use Rattle.axp_base.specs.declared.processors.TheConstants.{MAX_CPUS};
-ghost use Rattle.axp_bus.specs.BusStands.{Stands};
 ghost use Rattle.axp_call.specs.Calls.{EachRight};
-ghost use Rattle.axp_image.specs.Contents.{byte_in};
 ghost use Rattle.axp_shared.specs.Answers.{IsBusAnswer, start_of};
-ghost use Rattle.axp_shared.specs.Standing.{Stands-prop};
+ghost use Rattle.axp_shared.specs.Standing.{StandsFor, StandsFor-prop};
 
 use axp_bus::{Bus, CallList};
 use axp_image::Image;
@@ -34,6 +32,6 @@ pub struct BusLog {
     ghost size: { length bus.memory ≡ image.value.size },
     ghost room: { bus.room ≡ calls.room },
     ghost small: { calls.room < 2 ^ 32 },
-    ghost stands: { Stands bus (byte_in image.value.segments) (reverse calls.items) } by { Stands-prop bus (byte_in image.value.segments) (reverse calls.items) },
+    ghost stands: { StandsFor bus image.value calls } by { StandsFor-prop bus image.value calls },
     ghost right: { EachRight IsBusAnswer (start_of image.value (length bus.ports)) calls.items },
 }

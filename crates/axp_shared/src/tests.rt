@@ -1,13 +1,13 @@
 // Threads share the bus of a page of zeros.
-ghost use Rattle.std.specs.Prelude.{◌≡◌, ◌≤◌, All, IfOk, OnOk};
+ghost use Rattle.std.specs.Prelude.{◌≡◌, ◌*◌, ◌≤◌, All, IfOk, OnOk};
 ghost use Rattle.axp_ticket.specs.Seats.{AreAllThere};
 ghost use Rattle.axp_shared.specs.Asking.{HasAsked, IsReady, MayAskOften};
-ghost use Rattle.axp_shared.specs.Buses.{AreSeatsOfBus, bus_start};
+ghost use Rattle.axp_shared.specs.Buses.{AreSeatsOfBus, bus_allowance, bus_start};
 
 use crate::{BusSeat, BusSeats, SharedBus};
 use axp_base::{Bank, Line, NoMemory, span};
 use axp_bus::CallList;
-use axp_image::{Image, read_image};
+use axp_image::read_image;
 use axp_line::{LineData, Reply, Request};
 use std::alloc::Global;
 use std::process::Abort;
@@ -29,6 +29,27 @@ const PAGE: [u8; 40] = [
     0, 0, 0, 0, 0, 0, 0, 0, // stack
     0, 0, 0, 0, 0, 0, 0, 0, // table
 ];
+
+// The bus of the page, with all its seats.
+fn opened(
+    rt: &impl Abort,
+    alloc: Global,
+    cpus: u8,
+    budget: u32,
+) -> Result<(SharedBus, BusSeats), Fail>
+    requires least { 2 ≤ cpus }
+    requires most { cpus ≤ 8 }
+    requires budget { budget ≤ 200 }
+    ensures cpus { IfOk result (λ t. (bus_start t.0).cpus ≡ cpus) }
+    ensures size { IfOk result (λ t. (bus_start t.0).image.size ≡ 8192) }
+    ensures allowance { IfOk result (λ t. bus_allowance t.0 ≡ 13 * budget) }
+    ensures seats { IfOk result (λ t. AreSeatsOfBus t.0 t.1) }
+    ensures all_there { IfOk result (λ t. AreAllThere t.1) }
+{
+    let image = read_image(alloc, &PAGE)?.ok_or("a page")?;
+    assert_eq!(rt; image.size(), 0x2000);
+    Ok(SharedBus::open(alloc, &image, cpus, budget)?)
+}
 
 // So many fills of line 0, and the position of the last.
 fn fill_often<R: Wait>(rt: &R, bus: &SharedBus, seat: BusSeat, times: u32) -> (BusSeat, u32)
@@ -88,9 +109,7 @@ fn of_the_second(rt: &impl Abort, calls: &CallList) -> u32 {
 
 #[test]
 fn two_threads_fill(rt: HostRuntime) -> Result<(), Fail> {
-    let image = read_image(rt.alloc(), &PAGE)?.ok_or("a page")?;
-    assert_eq!(rt; image.size(), 0x2000);
-    let (bus, mut seats) = SharedBus::open(rt.alloc(), &image, 2, 8)?;
+    let (bus, mut seats) = opened(&rt, rt.alloc(), 2, 8)?;
     let one = bus.next(&mut seats).unwrap();
     let other = bus.next(&mut seats).unwrap();
     let third = bus.next(&mut seats);
@@ -144,13 +163,11 @@ fn fill_side_by_side<R: Threads + Wait + Sync>(
     Ok(lasts.iter().copied().max().unwrap_or(0))
 }
 
-// A seat that waits sleeps. Eight threads need a tenth of a second; where each looks again and again
-// until it has its turn, half a minute on four processors.
+// A seat that waits sleeps. Eight threads need a tenth of a second; where each looks again and
+// again until it has its turn, they need half a minute on four processors.
 #[test]
 fn eight_threads_sleep_while_they_wait(rt: HostRuntime) -> Result<(), Fail> {
-    let image = read_image(rt.alloc(), &PAGE)?.ok_or("a page")?;
-    assert_eq!(rt; image.size(), 0x2000);
-    let (bus, mut seats) = SharedBus::open(rt.alloc(), &image, 8, 200)?;
+    let (bus, mut seats) = opened(&rt, rt.alloc(), 8, 200)?;
     let all = eight_seats(rt.alloc(), &bus, &mut seats)?;
     assert!(rt; bus.next(&mut seats).is_none());
     let start = Instant::now(&rt).ok().ok_or("a clock")?;
@@ -179,9 +196,7 @@ fn processors(alloc: Global, calls: &CallList) -> Result<Vec<u8>, NoMemory> {
 
 #[test]
 fn replies_know_the_calls_before(rt: HostRuntime) -> Result<(), Fail> {
-    let image = read_image(rt.alloc(), &PAGE)?.ok_or("a page")?;
-    assert_eq!(rt; image.size(), 0x2000);
-    let (bus, mut seats) = SharedBus::open(rt.alloc(), &image, 2, 1)?;
+    let (bus, mut seats) = opened(&rt, rt.alloc(), 2, 1)?;
     let one = bus.next(&mut seats).unwrap();
     let other = bus.next(&mut seats).unwrap();
     let line = Line::of(0x40);

@@ -121,9 +121,9 @@ impl<S: Served> TicketLock<S> {
         self.table.shared.exchange(pass, 0, None).unwrap()
     }
 
-    // Waits for the turn, and takes the value. It sleeps at its ticket's place only while nobody was
-    // woken there since before it looked, and each pass on serves a ticket before it wakes there, so
-    // no wake is lost.
+    // Waits for the turn, and takes the value. It sleeps at its ticket's place only while nobody
+    // was woken there since before it looked, and each pass on serves a ticket before it wakes
+    // there, so no wake is lost.
     fn wait<R: Wait>(
         &self,
         rt: &R,
