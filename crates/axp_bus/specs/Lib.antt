@@ -5,3 +5,5 @@ pub mod Buses
 pub mod BusStands
 pub mod BusParts
 pub mod ReplyLaws
+pub mod CallLists
+pub mod CallListParts

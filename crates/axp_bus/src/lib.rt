@@ -3,6 +3,7 @@
 #![tactic(auto)]
 
 mod buses;
+mod call_lists;
 mod laws;
 mod marks;
 mod ports;
@@ -11,6 +12,7 @@ mod steps;
 mod writes;
 
 pub use buses::Bus;
+pub use call_lists::{Call, CallList};
 pub use laws::{
     answers_fit_requests, buses_keep_what_calls_made, gone_has_a_bit_for_each_copy,
     late_turns_were_made, nothing_where_nothing_is_late, refused_without_a_lock,

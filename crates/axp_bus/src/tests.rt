@@ -348,3 +348,32 @@ fn written_quadwords_are_touched(rt: HostRuntime) -> Result<(), Fail> {
     compare_touched(&rt, &mut bus, first, &WRITES);
     Ok(())
 }
+
+/// The call of a processor that sends its byte to the console.
+fn printed(cpu: Cpu, byte: u8, turn: u64) -> Call {
+    Call {
+        cpu,
+        ask: Request::Console { byte },
+        answer: Reply::Printed { turn },
+    }
+}
+
+/// The number of a call's processor, and what was answered.
+fn told(call: &Call) -> (u8, Reply) {
+    (call.cpu.number(), call.answer)
+}
+
+#[test]
+fn calls_are_listed_in_order(rt: HostRuntime) -> Result<(), Fail> {
+    let first = Cpu::new(1).ok_or("a processor")?;
+    let second = Cpu::new(0).ok_or("a processor")?;
+    let mut list = CallList::with_room(rt.alloc(), 2)?;
+    assert_eq!(rt; list.len(), 0);
+    list.push(printed(first, b'a', 5));
+    assert_eq!(rt; list.len(), 1);
+    list.push(printed(second, b'b', 6));
+    assert_eq!(rt; list.len(), 2);
+    assert_eq!(rt; told(list.get(0)), (1, Reply::Printed { turn: 5 }));
+    assert_eq!(rt; told(list.get(1)), (0, Reply::Printed { turn: 6 }));
+    Ok(())
+}

@@ -2,14 +2,15 @@
 //!
 //! The lock is generic over the value that it serves ([`Served`]). Each call of a seat has one
 //! position in the history; the value's answer is right after the calls before it. A seat that
-//! waits for its turn sleeps on the word of the ticket that is served, and each pass on wakes the
-//! sleepers: a sleep begins only while that word is the one that the seat has just read, so no wake
-//! is lost. A lock is `Sync`, and it and its seats are `Send`, where the value is `Send`.
+//! waits for its turn sleeps at the place of its ticket, and a pass on wakes the place of the next
+//! ticket alone. A sleep begins only while nobody was woken there since before the seat looked, so
+//! no wake is lost. A lock is `Sync`, and it and its seats are `Send`, where the value is `Send`.
 #![tactic(auto)]
 
 mod board;
 mod laws;
 mod lock;
+mod places;
 mod plays;
 mod serving;
 

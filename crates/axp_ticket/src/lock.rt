@@ -3,6 +3,7 @@ ghost use Rattle.std.specs.Prelude.{◌≡◌, ◌*◌, ◌<◌, ◌^◌};
 ghost use Rattle.axp_ticket.specs.Moves.{IsIdle, IsGathering};
 
 use crate::board::{InTurn, Opening, View};
+use crate::places::Places;
 use crate::serving::Served;
 use atomic_table::{Seat, Table};
 use std::alloc::Global;
@@ -15,6 +16,7 @@ mod turns;
 pub struct TicketLock<S: Served> {
     table: Table<Option<S>, View<S, S::Ask, S::Answer>, Opening<S>, InTurn<S>, Global>,
     seats: u8,
+    places: Places,
     ghost sized: { (table.shared.table_id.words ≡ 2) × (table.shared.table_id.slots ≡ 1) },
     ghost same: { seats ≡ table.shared.key.seats },
     ghost few: { table.shared.key.seats * table.shared.key.allowance < 2 ^ 32 },

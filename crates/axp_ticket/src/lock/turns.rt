@@ -13,6 +13,7 @@ ghost use Rattle.axp_ticket.specs.Seats.{KeepsOneHistoryOf};
 
 use super::{TicketLock, TicketSeat, TicketSeats};
 use crate::board::{Opening, View};
+use crate::places::Places;
 use crate::plays::{Draw, HandOut, Look, PassOn, Settle, TakeBack};
 use crate::serving::Served;
 use atomic_table::{Seat, Table};
@@ -49,7 +50,12 @@ impl<S: Served> TicketLock<S> {
         slots.push_reserved(Some(value));
         match Table::new(alloc, &[0, 0], slots, &about) {
             Ok((table, pass)) => {
-                let lock = TicketLock { table, seats };
+                let places = Places::new();
+                let lock = TicketLock {
+                    table,
+                    seats,
+                    places,
+                };
                 let seats = TicketSeats { given: 0, pass };
                 Ok((lock, seats))
             }
@@ -115,9 +121,9 @@ impl<S: Served> TicketLock<S> {
         self.table.shared.exchange(pass, 0, None).unwrap()
     }
 
-    // Waits for the turn, and takes the value. It sleeps while the word that is served is the one
-    // just read, and each pass on changes that word before it wakes the sleepers, so no wake is
-    // lost.
+    // Waits for the turn, and takes the value. It sleeps at its ticket's place only while nobody
+    // was woken there since before it looked, and each pass on serves a ticket before it wakes
+    // there, so no wake is lost.
     fn wait<R: Wait>(
         &self,
         rt: &R,
@@ -131,13 +137,22 @@ impl<S: Served> TicketLock<S> {
         ensures taken { IsTaken S.start S.room S.calls pass.old.me.0 ticket result }
     {
         for _ in rt.forever() {
-            let serving = self.look(pass, ticket);
-            if serving == ticket {
+            let wakes = self.places.wakes(ticket);
+            if self.look(pass, ticket) == ticket {
                 return self.take(pass);
             }
-            self.table.shared.park(rt, 1, serving as u32);
+            self.places.sleep(rt, ticket, wakes);
         }
         unreachable!()
+    }
+
+    // Wakes the seat whose ticket is served after this position. Where that ticket is not yet drawn
+    // nobody sleeps, and whoever draws it finds it served.
+    fn wake_next(&self, position: u64) {
+        let ticket = position.wrapping_add(1);
+        if self.table.shared.peek(0) != ticket {
+            self.places.wake(ticket);
+        }
     }
 
     // Gives the value back, one call longer, and passes the turn on. The snapshots have no bytes:
@@ -168,7 +183,7 @@ impl<S: Served> TicketLock<S> {
     {
         self.table.shared.exchange(pass, 0, Some(value));
         let position = self.table.shared.fetch_add::<PassOn<S>>(pass, 1, 1);
-        self.table.shared.wake_all(1);
+        self.wake_next(position);
         position
     }
 
@@ -254,7 +269,7 @@ impl<S: Served> TicketLock<S> {
         ensures history { KeepsHistoryOf self seats (S.calls result) }
         ensures whole { KeepsOneHistoryOf self seats (S.calls result) }
     {
-        let TicketLock { table, seats: _ } = self;
+        let TicketLock { table, .. } = self;
         let TicketSeats { given: _, pass } = seats;
         let mut closed = table.close_with(pass);
         let value = closed.take(0).unwrap();

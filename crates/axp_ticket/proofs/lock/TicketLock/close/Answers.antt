@@ -12,7 +12,7 @@ unwrap-value-requires g c =
     subst IsSome (sym out.1) refl
 
 -- the value that was found in the slot
-found : (g : _) (c : goal.After-free g)
+found : (g : _) (c : goal.After-array_drop-self g)
     → (g.S.Served.start c.unwrap-value.result ≡ g.S.Served.start (lock_value c.args.self))
     × (g.S.Served.room c.unwrap-value.result ≡ g.S.Served.room (lock_value c.args.self))
     × KeepsHistoryOf c.args.self c.args.seats (g.S.Served.calls c.unwrap-value.result)

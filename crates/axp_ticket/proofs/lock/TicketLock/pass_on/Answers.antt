@@ -35,7 +35,7 @@ fetch_add-position-requires g c =
     )
 
 -- what the pass on tells of the seat as it was before the value went back
-stepped_on : (g : _) (c : goal.After-wake_all g)
+stepped_on : (g : _) (c : goal.After-wake_next g)
     → (c.fetch_add-position.new.seat.me ≡ idling c.args.pass.now.me c.fetch_add-position.result
     c.requires.longer.0)
     × (c.fetch_add-position.result ≡ c.args.ticket)
