@@ -509,3 +509,71 @@ fn walks_are_refused_at_the_entry_that_ends_them(rt: HostRuntime) -> Result<(), 
     }
     Ok(())
 }
+
+/// An address that is not a multiple of the datum's size, has a fault at once, or leads out of
+/// memory is refused with no read of an entry: that of a load with its fetch, that of an instruction
+/// with the step behind the jump.
+#[test]
+fn addresses_are_refused_ahead_of_a_walk(rt: HostRuntime) -> Result<(), Fail> {
+    let cases: [(&'static [u32], &'static str, &'static str, u32); 5] = [
+        // LDQ R2, 1(R10), in a page that may be loaded from
+        (
+            &[0x215F_2000, 0xA44A_0001],
+            "0 fill : i 00002000 @0\n\
+                0 step : i 00002000 215F2000 @0\n",
+            "axp: not built at event 3\n",
+            3,
+        ),
+        // LDA R10, 1(R31); SLL R10, 42, R10; LDQ R2, 0(R10): bits 63:43 do not equal bit 42
+        (
+            &[0x215F_0001, 0x4945_572A, 0xA44A_0000],
+            "0 fill : i 00002000 @0\n\
+                0 step : i 00002000 215F0001 @0\n\
+                0 step : i 00002004 4945572A @0\n",
+            "axp: not built at event 4\n",
+            4,
+        ),
+        // JMP R31, (R10) in its place
+        (
+            &[0x215F_0001, 0x4945_572A, 0x6BEA_0000],
+            "0 fill : i 00002000 @0\n\
+                0 step : i 00002000 215F0001 @0\n\
+                0 step : i 00002004 4945572A @0\n\
+                0 step : i 00002008 6BEA0000 @0\n",
+            "axp: not built at event 5\n",
+            5,
+        ),
+        // LDA R10, 0x4000(R30); LDQ R2, 0x4000(R10): the kernel segment's address of the size of
+        // memory
+        (
+            &[0x215E_4000, 0xA44A_4000],
+            "0 fill : i 00002000 @0\n\
+                0 step : i 00002000 215E4000 @0\n",
+            "axp: not built at event 3\n",
+            3,
+        ),
+        // LDA R10, 0x4000(R10); JMP R31, (R10) in its place
+        (
+            &[0x215E_4000, 0x214A_4000, 0x6BEA_0000],
+            "0 fill : i 00002000 @0\n\
+                0 step : i 00002000 215E4000 @0\n\
+                0 step : i 00002004 214A4000 @0\n\
+                0 step : i 00002008 6BEA0000 @0\n",
+            "axp: not built at event 5\n",
+            5,
+        ),
+    ];
+    for (words, start, rest, event) in cases {
+        let worked = Worked {
+            words,
+            layout: &PAGED,
+            budget: "20",
+            start,
+            rest,
+            more: "0 step\n",
+            status: Status::NotBuilt { event },
+        };
+        assert!(rt; holds(rt.alloc(), &worked)?);
+    }
+    Ok(())
+}
