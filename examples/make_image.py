@@ -7,6 +7,7 @@ memory, displacements, literals and the registers' numbers, which are decimal.
   memory 32768              the size of memory, as it is where this line is left out
   start 2000                the physical address at which every processor starts, likewise
   stack FFFFFC0000004000    what R30 holds at the start, likewise
+  table 0                   the page on which the page table begins, likewise
   at 2000                   what follows stands at this physical address, a multiple of 4
   quad FFFFFC0000004040     a quadword
   name:                     names the address of the next word, for branches
@@ -91,7 +92,7 @@ def word_of(name, operands, address, labels):
 
 def image_of(text):
     """The bytes of the image that a listing describes."""
-    numbers = dict(memory=32768, start=0x2000, stack=KERNEL_SEGMENT + 0x4000)
+    numbers = dict(memory=32768, start=0x2000, stack=KERNEL_SEGMENT + 0x4000, table=0)
     labels, parts, address = {}, [], None
     for line in text.splitlines():
         words = line.split(";")[0].replace(",", " ").split()
@@ -113,7 +114,7 @@ def image_of(text):
                   else struct.pack("<I", word_of(words[0], words[1:], at, labels)) for at, words in lines]
         segments.append((start, b"".join(pieces)))
     image = struct.pack("<4sHHQQQQ", b"AXPI", 1, len(segments), numbers["memory"],
-                        KERNEL_SEGMENT + numbers["start"], numbers["stack"], 0)
+                        KERNEL_SEGMENT + numbers["start"], numbers["stack"], numbers["table"])
     image += b"".join(struct.pack("<QII", start, len(data), 0) for start, data in segments)
     return image + b"".join(data for start, data in segments)
 

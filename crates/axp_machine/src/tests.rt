@@ -4,6 +4,7 @@ ghost use Rattle.axp_base.specs.declared.processors.TheConstants.{MAX_BUDGET};
 mod instructions;
 mod locks;
 mod tables;
+mod translation;
 
 use self::tables::{Expected, both, first_difference, makes, register, start_with};
 use super::*;

@@ -56,6 +56,22 @@ fn addresses_lead_where_they_should(rt: HostRuntime) {
 }
 
 #[test]
+fn pages_are_numbered_by_their_indices(rt: HostRuntime) {
+    for (l1, l2, l3, offset, page) in [
+        (0, 0, 0, 0x1FFF, 0),
+        // 1 * 2^20 + 2 * 2^10 + 3
+        (1, 2, 3, 4, 0x10_0803),
+        (0, 0, 0x3FF, 0, 0x3FF),
+        (0, 0x3FF, 0, 0, 0xF_FC00),
+        (0x3FF, 0, 0, 0, 0x3FF0_0000),
+        (0x3FF, 0x3FF, 0x3FF, 0x1FFF, 0x3FFF_FFFF),
+    ] {
+        let parts = Parts { l1, l2, l3, offset };
+        assert_eq!(rt; parts.page(), page, "{l1:X} {l2:X} {l3:X}");
+    }
+}
+
+#[test]
 fn entries_keep_their_word(rt: HostRuntime) {
     let pte = Pte::of(0xDEAD_BEEF_0000_CAFE);
     assert_eq!(rt; pte.word(), 0xDEAD_BEEF_0000_CAFE);

@@ -11,6 +11,8 @@ pub(super) enum Expected {
     CodeFilled,
     /// The stack's line for its data bank, after so many turns.
     Filled(u64),
+    /// The line of an address for its data bank, before any turn.
+    LineFilled(u64),
     /// The word at an address, from a line that was filled before any turn.
     Word(u64, u32),
     /// A load-locked's bytes at an address, before any turn.
@@ -39,6 +41,7 @@ fn outcome_of(cpu: Cpu, expected: Expected) -> Result<Outcome, Refusal> {
     match expected {
         Expected::CodeFilled => Ok(filled(Bank::Code, CODE, 0)),
         Expected::Filled(turn) => Ok(filled(Bank::Even, STACK, turn)),
+        Expected::LineFilled(at) => Ok(filled(Line::of(at).bank(), at, 0)),
         Expected::Word(at, word) => access(cpu, Kind::Fetch, at, 4, u64::from(word), Place::At(0)),
         Expected::Locked(at, size, value) => {
             access(cpu, Kind::Locked, at, size, value, Place::At(0))

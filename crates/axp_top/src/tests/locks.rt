@@ -1,5 +1,5 @@
 //! Load-locked and store-conditional.
-use super::worked::{Worked, holds};
+use super::worked::{PLAIN, Worked, holds};
 use crate::Status;
 use std::test::Fail;
 
@@ -32,7 +32,7 @@ const OWN_STORE_WAITS: &str = "0 fill : i 00002000 @0\n\
 /// fails.
 const DISTURBED: Worked = Worked {
     words: &LOCK_RANGE,
-    pointer: None,
+    layout: &PLAIN,
     budget: "20",
     start: "",
     rest: "0 fill : i 00002000 @0\n\
@@ -63,7 +63,7 @@ const DISTURBED: Worked = Worked {
 /// A store-conditional to another block of 16 bytes fails.
 const OTHER_BLOCK: Worked = Worked {
     words: &ANOTHER_BLOCK,
-    pointer: None,
+    layout: &PLAIN,
     budget: "20",
     start: "",
     rest: "0 fill : i 00002000 @0\n\
@@ -79,7 +79,7 @@ const OTHER_BLOCK: Worked = Worked {
 /// Once the own store to the locked line is drained, the store-conditional succeeds.
 const DRAINED: Worked = Worked {
     words: &OWN_STORE,
-    pointer: None,
+    layout: &PLAIN,
     budget: "20",
     start: OWN_STORE_WAITS,
     rest: "0 drain 0 : e1 00004000 @1\n\
@@ -92,7 +92,7 @@ const DRAINED: Worked = Worked {
 /// A store-conditional does not pass an own store to its line that waits.
 const NOT_DRAINED: Worked = Worked {
     words: &OWN_STORE,
-    pointer: None,
+    layout: &PLAIN,
     budget: "20",
     start: OWN_STORE_WAITS,
     rest: "axp: not legal at event 7\n",

@@ -1,11 +1,14 @@
 //! Stores that wait, copies that are stale, and the barriers.
-use super::worked::{Worked, holds};
+use super::worked::{Layout, PLAIN, Worked, holds};
 use crate::Status;
 use std::test::Fail;
 
-/// The address where the pointer of the dependent load stands, and what it is at first: an address
-/// two lines behind it.
-const POINTER: Option<u64> = Some(0xFFFF_FC00_0000_4080);
+/// As `PLAIN`, with the pointer of the dependent load at the stack's address: at first it leads two
+/// lines behind it.
+const POINTING: Layout = Layout {
+    quadwords: &[(0x4000, 0xFFFF_FC00_0000_4080)],
+    ..PLAIN
+};
 
 /// Each processor stores to its own line and loads the other's: LDA R1, 1(R31); BNE R16, to the
 /// fifth word; STQ R1, 0(R30); LDQ R2, 64(R30); halt; STQ R1, 64(R30); LDQ R2, 0(R30); halt.
@@ -200,7 +203,7 @@ const STORED_CODE: &str = "0 fill : i 00002000 @0\n\
 /// Both processors read the old value: each store still waits in its own buffer.
 const BOTH_WAIT: Worked = Worked {
     words: &STORE_BUFFERING,
-    pointer: None,
+    layout: &PLAIN,
     budget: "20",
     start: "",
     rest: "0 fill : i 00002000 @0\n\
@@ -241,7 +244,7 @@ const BOTH_WAIT: Worked = Worked {
 /// The new pointer and the old value: what is late for the line of the value was not taken.
 const VALUE_IS_LATE: Worked = Worked {
     words: &DEPENDENT_LOAD,
-    pointer: POINTER,
+    layout: &POINTING,
     budget: "20",
     start: POINTER_READ,
     rest: "1 step : i 00002024 A4A40000 @0\n\
@@ -267,7 +270,7 @@ const VALUE_IS_LATE: Worked = Worked {
 /// The late invalidation is taken before the last read, so the line is filled anew.
 const VALUE_IS_TAKEN: Worked = Worked {
     words: &DEPENDENT_LOAD,
-    pointer: POINTER,
+    layout: &POINTING,
     budget: "20",
     start: POINTER_READ,
     rest: "1 step : i 00002024 A4A40000 @0\n\
@@ -296,7 +299,7 @@ const VALUE_IS_TAKEN: Worked = Worked {
 /// Once its copy is gone the read has nothing to read from.
 const NOTHING_IS_HELD: Worked = Worked {
     words: &DEPENDENT_LOAD,
-    pointer: POINTER,
+    layout: &POINTING,
     budget: "20",
     start: POINTER_READ,
     rest: "1 step : i 00002024 A4A40000 @0\n\
@@ -309,7 +312,7 @@ const NOTHING_IS_HELD: Worked = Worked {
 /// A barrier of the reader delivers what is late.
 const BARRIER_DELIVERS: Worked = Worked {
     words: &DEPENDENT_LOAD_BARRIER,
-    pointer: POINTER,
+    layout: &POINTING,
     budget: "20",
     start: POINTER_READ,
     rest: "1 step : i 00002024 60004000 @0\n\
@@ -339,7 +342,7 @@ const BARRIER_DELIVERS: Worked = Worked {
 /// A read finds its own store over the old copy; after its drain the other byte is new too.
 const BYTES_ARE_MIXED: Worked = Worked {
     words: &MIXED_SOURCES,
-    pointer: None,
+    layout: &PLAIN,
     budget: "20",
     start: "",
     rest: "0 fill : i 00002000 @0\n\
@@ -382,7 +385,7 @@ const BYTES_ARE_MIXED: Worked = Worked {
 /// The second store to a line is merged into its entry.
 const STORES_ARE_MERGED: Worked = Worked {
     words: &MERGING,
-    pointer: None,
+    layout: &PLAIN,
     budget: "20",
     start: "",
     rest: "0 fill : i 00002000 @0\n\
@@ -426,7 +429,7 @@ const STORES_ARE_MERGED: Worked = Worked {
 /// A write barrier keeps the third store apart from the first.
 const STORES_ARE_APART: Worked = Worked {
     words: &WRITE_BARRIER,
-    pointer: None,
+    layout: &PLAIN,
     budget: "20",
     start: THREE_STORES,
     rest: "0 drain 0 : e1 00004000 @1\n\
@@ -439,7 +442,7 @@ const STORES_ARE_APART: Worked = Worked {
 /// The entries behind a write barrier are not drained before those in front of it.
 const LATER_GROUP_WAITS: Worked = Worked {
     words: &WRITE_BARRIER,
-    pointer: None,
+    layout: &PLAIN,
     budget: "20",
     start: THREE_STORES,
     rest: "axp: not legal at event 13\n",
@@ -450,7 +453,7 @@ const LATER_GROUP_WAITS: Worked = Worked {
 /// A memory barrier leaves the code bank: the old word is fetched.
 const OLD_CODE: Worked = Worked {
     words: &CODE_AFTER_MB,
-    pointer: None,
+    layout: &PLAIN,
     budget: "20",
     start: STORED_CODE,
     rest: "0 step : i 0000200C 60004000 @0\n\
@@ -465,7 +468,7 @@ const OLD_CODE: Worked = Worked {
 /// An instruction memory barrier empties it: the new word is fetched.
 const NEW_CODE: Worked = Worked {
     words: &CODE_AFTER_IMB,
-    pointer: None,
+    layout: &PLAIN,
     budget: "20",
     start: STORED_CODE,
     rest: "0 step : i 0000200C 00000086 @0\n\
@@ -481,7 +484,7 @@ const NEW_CODE: Worked = Worked {
 /// A ninth line waits for a drain.
 const NINTH_LINE: Worked = Worked {
     words: &FULL_BUFFER,
-    pointer: None,
+    layout: &PLAIN,
     budget: "40",
     start: EIGHT_LINES,
     rest: "0 drain 0 : e1 00004000 @1\n\
@@ -494,7 +497,7 @@ const NINTH_LINE: Worked = Worked {
 /// A store to a ninth line is not legal while eight lines wait.
 const NINTH_LINE_WAITS: Worked = Worked {
     words: &FULL_BUFFER,
-    pointer: None,
+    layout: &PLAIN,
     budget: "40",
     start: EIGHT_LINES,
     rest: "axp: not legal at event 19\n",
