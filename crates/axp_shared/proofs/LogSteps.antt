@@ -4,7 +4,7 @@ use Rattle.std.proofs.lemmas.List.{length-reverse, reverse-append}
 use Rattle.axp_bus.specs.Buses.{State}
 use Rattle.axp_bus.specs.BusStands.{Stands}
 use Rattle.axp_bus.proofs.ReplyLemmas.{turns_most}
-use Rattle.axp_bus.proofs.TidyLemmas.{printed_few}
+use Rattle.axp_bus.proofs.QueueLemmas.{printed_few}
 use Rattle.axp_call.proofs.Rightness.{each_right_append}
 use Rattle.axp_call.specs.Calls.{EachRight, caller}
 use Rattle.axp_image.specs.Contents.{Contents}
