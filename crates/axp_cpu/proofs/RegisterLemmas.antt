@@ -11,21 +11,21 @@ use Rattle.axp_model.specs.Records.{is_of}
 use Rattle.axp_regs.specs.States.{first_state, with_register}
 use Rattle.axp_regs.specs.declared.states.TheConstants.{REGISTERS}
 use Rattle.axp_cpu.specs.Following.{seat_after, seat_after_step, seat_in, value_shown}
-use Rattle.axp_cpu.specs.Plans.{Plan, End, Want, Unbuilt, along}
+use Rattle.axp_cpu.specs.Plans.{Plan, End, Want, along}
 use Rattle.axp_cpu.specs.Rows.{group}
-use Rattle.axp_cpu.specs.Seats.{Seat, seat_at_plan, seat_after_value}
-use Rattle.axp_cpu.proofs.KeepingLemmas.{Has, Keeps, along_keeps, group_keeps, written_has}
+use Rattle.axp_cpu.specs.Seats.{Seat, seat_at_plan}
+use Rattle.axp_cpu.proofs.KeepingLemmas.{Has, Keeps, along_keeps, arrived_has, group_keeps, written_has}
 
 moved_has : (n : ℕ) (s : Seat) (vs : List ℕ) (p : Plan) → Has n s.start.state → Keeps n p → Has n (seat_at_plan s vs p).start.state
-moved_has n s vs (End t) has ends = ends
+moved_has n s vs (End t) has ends = arrived_has s.size n t ends
 moved_has n s vs (Want t w k) has ends = has
-moved_has n s vs Unbuilt has ends = has
 
-stepped_has : (n : ℕ) (s : Seat) (v : ℕ) → Has n s.start.state → Has n (seat_after_value s v).start.state
-stepped_has n s v has = moved_has n s (s.values ++ v ∷ []) (along (s.values ++ v ∷ []) (group s.size s.start)) has (along_keeps n (s.values ++ v ∷ []) (group s.size s.start) (group_keeps s.size s.start n has))
+stepped_has : (n : ℕ) (s : Seat) (vs : List ℕ) → Has n s.start.state → Has n (seat_at_plan s vs (along vs (group s.size s.cpus s.start))).start.state
+stepped_has n s vs has = moved_has n s vs (along vs (group s.size s.cpus s.start)) has (along_keeps n vs (group s.size s.cpus s.start) (group_keeps s.size s.cpus s.start n has))
 
 shown_has : (n : ℕ) (o : Outcome) (s : Seat) → Has n s.start.state → Has n (seat_after_step o s).start.state
-shown_has n (outcome.Access a) s has = stepped_has n s (value_shown a) has
+shown_has n (outcome.Access a) s has = stepped_has n s (s.values ++ value_shown a ∷ []) has
+shown_has n outcome.NoAccess s has = stepped_has n s s.values has
 shown_has n _ s has = has
 
 acted_has : (n : ℕ) (e : Act) (o : Outcome) (s : Seat) → Has n s.start.state → Has n (seat_after e o s).start.state

@@ -1,13 +1,15 @@
 -- How a processor of the code stands for one of the definitions.
-use Rattle.std.specs.Prelude.{◌≡◌, ◌≤◌, true, Option, Some, Ok}
+use Rattle.std.specs.Prelude.{◌≡◌, ◌≤◌, false, Option, Some, Ok}
 use Rattle.axp_access.specs.declared.Act.{Act}
+use Rattle.axp_access.specs.declared.Act.TheVariants.{Step}
 use Rattle.axp_access.specs.declared.Wanted.{Wanted}
 use Rattle.axp_base.specs.declared.processors.TheConstants.{MAX_BUDGET}
 use Rattle.axp_line.specs.declared.messages.Reply.{Reply}
 use Rattle.axp_lsu.specs.Fitting.{ReplyFits}
 use Rattle.axp_lsu.specs.Within.{IsKeptWithin}
 use Rattle.axp_lsu.specs.declared.asks.Ask2.{Ask2}
-use Rattle.axp_cpu.specs.Actors.{Actor, actor_intent, is_built, request_of}
+use Rattle.axp_cpu.specs.Actors.{Actor, actor_intent, request_of}
+use Rattle.axp_cpu.specs.Seats.{is_finished}
 use Rattle.axp_cpu.specs.Stands.{Stands}
 use Rattle.axp_cpu.specs.declared.processors.Processor.{Processor}
 
@@ -40,9 +42,9 @@ pub record IsSeatedWith (p : Processor) (wanted : Option Wanted) : Type 0 where
   pub at : IsAt p actor
   pub wants : (a : Actor) → IsAt p a → wanted ≡ (actor_intent a).wanted
 
--- the act is built, where this is the access that it wants
+-- an act is legal, where this is the access that it wants: a step is not made by a finished processor
 pub record IsMovable (p : Processor) (act : Act) (wanted : Option Wanted) : Type 0 where
   pub actor : Actor
   pub at : IsAt p actor
   pub wants : (a : Actor) → IsAt p a → wanted ≡ (actor_intent a).wanted
-  pub built : is_built act actor ≡ true
+  pub unfinished : act ≡ Step → is_finished actor.seat ≡ false

@@ -16,7 +16,8 @@ use Rattle.axp_lsu.specs.Going as going
 use Rattle.axp_lsu.specs.Keeping.{LocalMemory, empty_memory}
 use Rattle.axp_cpu.specs.declared.refusals.Refusal.{Refusal}
 use Rattle.axp_cpu.specs.declared.refusals.Refusal.TheVariants.{NotLegal, NotBuilt}
-use Rattle.axp_cpu.specs.Seats.{Seat, first_seat, intent_of, is_built_after, seat_after_value}
+use Rattle.axp_cpu.specs.Seats.{Seat, first_seat, intent_of, seat_after_none, seat_after_value, table_now}
+use Rattle.axp_cpu.specs.Unbuilt.{is_access_built}
 
 pub record Actor : Type 0 where
   pub cpu : Cpu
@@ -31,18 +32,16 @@ first_actor image cpus budget cpu = record { cpu = cpu; seat = first_seat image 
 abbrev pub actor_intent : Actor → Intent
 actor_intent a = intent_of a.seat
 
--- all is built that a Step leads to: it makes an access, and what follows the access's value is built. This
--- is tested before the bus is asked; where the bus tells the value, the group ends with it, so that its
--- answer changes nothing here
-abbrev pub step_built : Option Wanted → Actor → Bool
-step_built None a = false
-step_built (Some w) a = is_built_after a.seat (going.value_of w a.kept None)
+-- a step that wants this access
+abbrev pub is_step_built : Option Wanted → Actor → Bool
+is_step_built None a = true
+is_step_built (Some w) a = is_access_built w.kind (going.value_of w a.kept None) (table_now a.seat).state
 
--- an interrupt is not built
+-- an interrupt is not built, nor is what a step may fetch
 abbrev pub is_built : Act → Actor → Bool
-is_built act.Step a = step_built (actor_intent a).wanted a
 is_built act.Poll a = false
 is_built act.Tick a = false
+is_built act.Step a = is_step_built (actor_intent a).wanted a
 is_built _ a = true
 
 abbrev pub asked_by : Option Ask2 → Bool → Result Ask2 Refusal
@@ -54,9 +53,9 @@ asked_by (Some q) false = Err NotBuilt
 unfoldable pub request_of : Actor → Act → Result Ask2 Refusal
 request_of a e = asked_by (ask_of e (actor_intent a) a.kept) (is_built e a)
 
--- a Step goes on with the value that its access gave
+-- a Step goes on with the value that its access gave, or with none
 abbrev pub moved_by : Option Wanted → Option Reply → Actor → Seat
-moved_by None r a = a.seat
+moved_by None r a = seat_after_none a.seat
 moved_by (Some w) r a = seat_after_value a.seat (going.value_of w a.kept r)
 
 abbrev pub seat_after : Act → Option Reply → Actor → Seat

@@ -12,7 +12,7 @@ use Rattle.axp_model.specs.Processors.{Processors}
 use Rattle.axp_model.specs.Records.{is_of}
 use Rattle.axp_regs.specs.declared.asks.Kind.{Kind}
 use Rattle.axp_regs.specs.declared.asks.Kind.TheVariants.{Fetch, Read, Locked, Conditional}
-use Rattle.axp_cpu.specs.Seats.{Seat, first_seat, intent_of, seat_after_value}
+use Rattle.axp_cpu.specs.Seats.{Seat, first_seat, intent_of, seat_after_none, seat_after_value}
 
 -- the value that an access of this kind gives to its instruction, as its record shows it: what was
 -- read, or whether a store-conditional succeeded; 0 where it gives none
@@ -26,9 +26,10 @@ value_by _ a = 0
 abbrev pub value_shown : Access → ℕ
 value_shown a = value_by a.kind a
 
--- a Step goes on with the value of the access that it shows
+-- a Step goes on with the value of the access that it shows, or with none
 abbrev pub seat_after_step : Outcome → Seat → Seat
 seat_after_step (outcome.Access a) s = seat_after_value s (value_shown a)
+seat_after_step outcome.NoAccess s = seat_after_none s
 seat_after_step _ s = s
 
 -- no other act moves a processor: interrupts are not built

@@ -1,13 +1,15 @@
+pub mod CallValues
 pub mod CpuStates
 pub mod Plans
 pub mod Translation
 pub mod Rows
-pub mod Refusals
 pub mod Phases
 pub mod Seats
 pub mod Following
 pub mod Showing
+pub mod Halting
 pub mod Soundness
 pub mod Stands
+pub mod Unbuilt
 pub mod Actors
 pub mod ActorStands

@@ -1,5 +1,5 @@
 -- A group of accesses is a plan: an end, or a wanted access and what follows for each value.
-use Rattle.std.specs.Prelude.{ℕ, Bool, true, false, List, [], ◌∷◌}
+use Rattle.std.specs.Prelude.{ℕ, List, [], ◌∷◌}
 use Rattle.axp_access.specs.declared.Wanted.{Wanted}
 use Rattle.axp_cpu.specs.declared.cpu_states.CpuState.{CpuState}
 
@@ -8,14 +8,11 @@ pub data Plan : Type 0 where
   End : CpuState → Plan
   -- in this table state the group wants this access, and goes on so with the value that it gives
   Want : CpuState → Wanted → (ℕ → Plan) → Plan
-  -- the group comes to what is not built
-  Unbuilt : Plan
 
 -- the plan after the wanted access gave this value
 abbrev pub given : ℕ → Plan → Plan
 given v (End t) = End t
 given v (Want t w k) = k v
-given v Unbuilt = Unbuilt
 
 -- the plan after its accesses gave these values
 abbrev pub along : List ℕ → Plan → Plan
@@ -26,10 +23,3 @@ along (v ∷ vs) p = along vs (given v p)
 abbrev pub table_in : CpuState → Plan → CpuState
 table_in t (End u) = t
 table_in t (Want u w k) = u
-table_in t Unbuilt = t
-
--- the plan does not stand before what is not built
-abbrev pub is_built : Plan → Bool
-is_built (End t) = true
-is_built (Want t w k) = true
-is_built Unbuilt = false

@@ -17,7 +17,7 @@ use Rattle.axp_cpu.specs.Following.{seat_after}
 use Rattle.axp_cpu.specs.Plans.{along, given}
 use Rattle.axp_cpu.specs.Rows.{group}
 use Rattle.axp_cpu.specs.Seats.{Seat, plan_now, wanted, wanted_by}
-use Rattle.axp_cpu.specs.Soundness.{IsEnd}
+use Rattle.axp_cpu.specs.Soundness.{IsDone}
 
 -- what Ra becomes: the value that is shown, a longword sign-extended, or whether the store-conditional
 -- succeeded; None: no register changes
@@ -43,7 +43,7 @@ lock_flag _ armed = armed
 
 -- the group made the fetch of an instruction of the memory format with this Ra, behind the reads of its
 -- page's entries where there were any. The access is of the kind that the group now wants, and is that of
--- the instruction: the group ends with it
+-- the instruction: the group ends with it, enters nothing and halts not
 pub record IsAccessOf (s : Seat) (op : MemOp) (a : ℕ) (x : Access) : Type 0 where
   pub base : ℕ
   pub displacement : ℕ
@@ -53,12 +53,13 @@ pub record IsAccessOf (s : Seat) (op : MemOp) (a : ℕ) (x : Access) : Type 0 wh
   pub fetch : Wanted
   pub access : Wanted
   pub values : s.values ≡ entries ++ word ∷ later_entries
-  pub fetches : wanted_by (along entries (group s.size s.start)) ≡ Some fetch
+  pub fetches : wanted_by (along entries (group s.size s.cpus s.start)) ≡ Some fetch
   pub fetched : fetch.kind ≡ Fetch
+  pub boundary : s.start.pending ≡ None
   pub stands_for : instr_of (word % 2 ^ 32) ≡ Memory op a base displacement
   pub wants : wanted s ≡ Some access
   pub kind : x.kind ≡ access.kind
-  pub ends : (v : ℕ) → IsEnd (given v (plan_now s))
+  pub ends : (v : ℕ) → IsDone (given v (plan_now s))
   pub registers : length s.start.state.registers ≡ REGISTERS
 
 -- the seat after a Step that shows this access

@@ -14,9 +14,10 @@ use Rattle.axp_pte.specs.declared.addresses.Where.TheVariants.{Direct, Mapped}
 use Rattle.axp_pte.specs.declared.entries.Pte.{Pte}
 use Rattle.axp_pte.specs.declared.faults.MmFault.{MmFault}
 use Rattle.axp_pte.specs.declared.faults.Mode.{Mode}
+use Rattle.axp_pte.specs.declared.faults.Mode.TheVariants.{Kernel}
 use Rattle.axp_pte.specs.declared.faults.Way.{Way}
 use Rattle.axp_pte.specs.declared.faults.Way.TheVariants as way
-use Rattle.axp_regs.specs.States.{asn_of, ptbr_of}
+use Rattle.axp_regs.specs.States.{asn_of, ps_of, ptbr_of}
 use Rattle.axp_regs.specs.declared.asks.Ask.{Ask}
 use Rattle.axp_regs.specs.declared.asks.Kind.{Kind}
 use Rattle.axp_regs.specs.declared.asks.Kind.TheVariants.{Fetch, Read, Locked}
@@ -26,7 +27,13 @@ use Rattle.axp_cpu.specs.declared.cpu_states.CpuState.{CpuState}
 use Rattle.axp_cpu.specs.declared.translation.Level.{Level}
 use Rattle.axp_cpu.specs.declared.translation.Level.TheVariants as level
 use Rattle.axp_cpu.specs.declared.translation.MappedAsk.{MappedAsk}
-use Rattle.axp_cpu.specs.Plans.{Plan, Want, Unbuilt}
+use Rattle.axp_cpu.specs.declared.translation.Origin.{Origin}
+use Rattle.axp_cpu.specs.declared.translation.Origin.TheVariants.{Frame, Instruction}
+use Rattle.axp_cpu.specs.declared.cpu_states.TheConstants.{BEYOND_MEMORY, FRAME_FAULT}
+use Rattle.axp_cpu.specs.CpuStates.{halted_by, raising}
+use Rattle.axp_cpu.specs.Plans.{Plan, End, Want}
+use Rattle.axp_trap.specs.Status.{mode_of}
+use Rattle.axp_trap.specs.declared.causes.Cause.TheVariants.{Mm}
 
 -- what an access does with its page: a load-locked loads, a store-conditional stores
 abbrev pub way_of : Kind → Way
@@ -54,25 +61,39 @@ wanted_at ask address = record { kind = ask.kind; address = address; size = ask.
 abbrev pub entry_wanted : ℕ → Wanted
 entry_wanted address = record { kind = Read; address = address; size = QUADWORD_BYTES; value = 0 }
 
--- the access at its physical address, which must lie in memory; k goes on from the table state then
+-- the access at its physical address, which must lie in memory, else the processor halts; k goes on from the
+-- table state then
 abbrev pub physical_plan : ℕ → CpuState → Ask → ℕ → (CpuState → ℕ → Plan) → Plan
 physical_plan size t ask address k =
     if nat_lt address size
     then Want t (wanted_at ask address) (k t)
-    else Unbuilt
+    else End (halted_by BEYOND_MEMORY t)
 
--- a frame, or the fault that comes in its place
-abbrev pub framed_by : Result ℕ MmFault → (ℕ → Plan) → Plan
-framed_by (Ok frame) k = k frame
-framed_by (Err fault) k = Unbuilt
+-- the mode of an access: that of the processor for those of instructions, and kernel mode for those of frames
+abbrev pub mode_in : Origin → CpuState → Mode
+mode_in Instruction t = mode_of (ps_of t.state)
+mode_in Frame t = Kernel
+
+-- a fault of translation enters the operating system, but for one of a frame, which halts the processor
+abbrev pub fault_in : Origin → Ask → MmFault → CpuState → CpuState
+fault_in Instruction ask fault t = raising (Mm ask.address fault (way_of ask.kind)) t
+fault_in Frame ask fault t = halted_by FRAME_FAULT t
+
+abbrev pub fault_plan : CpuState → MappedAsk → MmFault → Plan
+fault_plan t far fault = End (fault_in far.origin far.ask fault t)
+
+-- a page's frame, or the fault that comes in its place
+abbrev pub framed_by : CpuState → MappedAsk → Result ℕ MmFault → (ℕ → Plan) → Plan
+framed_by t far (Ok frame) k = k frame
+framed_by t far (Err fault) k = fault_plan t far fault
 
 -- the access in the page of this frame
 abbrev pub frame_plan : ℕ → CpuState → MappedAsk → (CpuState → ℕ → Plan) → ℕ → Plan
 frame_plan size t far k frame = physical_plan size t far.ask (frame * PAGE_BYTES + far.parts.offset) k
 
 -- an entry's frame, where the entry allows the access
-abbrev pub frame_of : MappedAsk → ℕ → Result ℕ MmFault
-frame_of far word = rights_of word far.mode (way_of far.ask.kind)
+abbrev pub frame_of : CpuState → MappedAsk → ℕ → Result ℕ MmFault
+frame_of t far word = rights_of word (mode_in far.origin t) (way_of far.ask.kind)
 
 -- with the entry of the access's page kept
 abbrev pub with_page_kept : MappedAsk → ℕ → CpuState → CpuState
@@ -93,18 +114,18 @@ abbrev pub entry_plan : ℕ → CpuState → (ℕ → Plan) → ℕ → ℕ → 
 entry_plan size t k index table =
     if nat_lt (entry_address table index) size
     then Want t (entry_wanted (entry_address table index)) k
-    else Unbuilt
+    else End (halted_by BEYOND_MEMORY t)
 
 -- what follows the entry of level 3: the access, with the entry kept
 abbrev pub third_entry : ℕ → CpuState → MappedAsk → (CpuState → ℕ → Plan) → ℕ → Plan
-third_entry size t far k word = framed_by (frame_of far word) (frame_plan size (with_page_kept far word t) far k)
+third_entry size t far k word = framed_by t far (frame_of t far word) (frame_plan size (with_page_kept far word t) far k)
 
 -- what follows the entries of levels 2 and 1: the entry of the next level, in the table that they lead to
 abbrev pub second_entry : ℕ → CpuState → MappedAsk → (CpuState → ℕ → Plan) → ℕ → Plan
-second_entry size t far k word = framed_by (upper_of word) (entry_plan size t (third_entry size t far k) (index_at level.Third far.parts))
+second_entry size t far k word = framed_by t far (upper_of word) (entry_plan size t (third_entry size t far k) (index_at level.Third far.parts))
 
 abbrev pub first_entry : ℕ → CpuState → MappedAsk → (CpuState → ℕ → Plan) → ℕ → Plan
-first_entry size t far k word = framed_by (upper_of word) (entry_plan size t (second_entry size t far k) (index_at level.Second far.parts))
+first_entry size t far k word = framed_by t far (upper_of word) (entry_plan size t (second_entry size t far k) (index_at level.Second far.parts))
 
 -- the walk begins in the table that the page-table base names
 abbrev pub walk_plan : ℕ → CpuState → MappedAsk → (CpuState → ℕ → Plan) → Plan
@@ -112,7 +133,7 @@ walk_plan size t far k = entry_plan size t (first_entry size t far k) (index_at 
 
 -- a kept entry makes no walk
 abbrev pub kept_plan : ℕ → CpuState → MappedAsk → (CpuState → ℕ → Plan) → Option Pte → Plan
-kept_plan size t far k (Some pte) = framed_by (frame_of far (pte_word pte)) (frame_plan size t far k)
+kept_plan size t far k (Some pte) = framed_by t far (frame_of t far (pte_word pte)) (frame_plan size t far k)
 kept_plan size t far k None = walk_plan size t far k
 
 -- the entry that is kept of the access's page
@@ -124,15 +145,24 @@ abbrev pub mapped_plan : ℕ → CpuState → MappedAsk → (CpuState → ℕ �
 mapped_plan size t far k = kept_plan size t far k (entry_kept t far)
 
 -- an access by where its address leads
-abbrev pub split_plan : ℕ → CpuState → Mode → Ask → (CpuState → ℕ → Plan) → Result Where MmFault → Plan
-split_plan size t mode ask k (Ok (Direct address)) = physical_plan size t ask address k
-split_plan size t mode ask k (Ok (Mapped parts)) = mapped_plan size t (record { ask = ask; mode = mode; parts = parts }) k
-split_plan size t mode ask k (Err fault) = Unbuilt
+abbrev pub split_plan : ℕ → CpuState → Origin → Ask → (CpuState → ℕ → Plan) → Result Where MmFault → Plan
+split_plan size t origin ask k (Ok (Direct address)) = physical_plan size t ask address k
+split_plan size t origin ask k (Ok (Mapped parts)) = mapped_plan size t (record { ask = ask; origin = origin; parts = parts }) k
+split_plan size t origin ask k (Err fault) = End (fault_in origin ask fault t)
 
--- an access to a virtual address in a mode, in a memory of this size
-abbrev pub reach_plan : ℕ → CpuState → Mode → Ask → (CpuState → ℕ → Plan) → Plan
-reach_plan size t mode ask k = split_plan size t mode ask k (split_of ask.address mode)
+-- an access to a virtual address, in a memory of this size
+abbrev pub reach_plan : ℕ → CpuState → Origin → Ask → (CpuState → ℕ → Plan) → Plan
+reach_plan size t origin ask k = split_plan size t origin ask k (split_of ask.address (mode_in origin t))
 
--- an access whose address must be a multiple of its size
-abbrev pub aligned_plan : ℕ → CpuState → Mode → Ask → (CpuState → ℕ → Plan) → Plan
-aligned_plan size t mode ask k = if ask.address % ask.size == 0 then reach_plan size t mode ask k else Unbuilt
+-- an access of a frame, which must be a multiple of its size, else the processor halts
+abbrev pub frame_access : ℕ → CpuState → Ask → (CpuState → ℕ → Plan) → Plan
+frame_access size t ask k = if ask.address % QUADWORD_BYTES == 0 then reach_plan size t Frame ask k else End (halted_by FRAME_FAULT t)
+
+-- an access of an entry or of a PAL call: to a physical address, or of a frame
+abbrev pub ask_plan : ℕ → CpuState → Ask → (CpuState → ℕ → Plan) → Plan
+ask_plan size t ask k = if ask.direct then physical_plan size t ask ask.address k else frame_access size t ask k
+
+-- the next access of several, if there is one
+abbrev pub next_plan_of : ℕ → CpuState → Option Ask → (CpuState → ℕ → Plan) → Plan → Plan
+next_plan_of size t (Some ask) k end = ask_plan size t ask k
+next_plan_of size t None k end = end

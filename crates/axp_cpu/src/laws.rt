@@ -6,33 +6,29 @@ ghost use Rattle.axp_access.specs.declared.Access.{Access};
 ghost use Rattle.axp_access.specs.declared.Record.{Record};
 ghost use Rattle.axp_access.specs.declared.Wanted.{Wanted};
 ghost use Rattle.axp_cpu.specs.declared.cpu_states.CpuState.{CpuState};
-ghost use Rattle.axp_cpu.specs.Actors.{Actor, actor_intent};
 ghost use Rattle.axp_cpu.specs.Following.{seat_in};
-ghost use Rattle.axp_cpu.specs.Plans.{Plan, along, is_built, table_in};
-ghost use Rattle.axp_cpu.specs.Refusals.{is_framed, is_reached, is_refused, is_table};
-ghost use Rattle.axp_cpu.specs.Rows.{fetch_of, group, row};
-ghost use Rattle.axp_cpu.specs.Seats.{Seat, is_built_after, table_now, wanted_by};
+ghost use Rattle.axp_cpu.specs.Halting.{Leaves};
+ghost use Rattle.axp_cpu.specs.Plans.{Plan, End, along, table_in};
+ghost use Rattle.axp_cpu.specs.Rows.{arrived, group};
+ghost use Rattle.axp_cpu.specs.Seats.{Seat, table_now, wanted_by};
 ghost use Rattle.axp_cpu.specs.Showing.{IsAccessOf, lock_flag, register_value, seat_shown};
 ghost use Rattle.axp_cpu.specs.Showing.{state_shown};
-ghost use Rattle.axp_cpu.specs.Soundness.{AnswersEnd};
-ghost use Rattle.axp_cpu.specs.CpuStates.{mode_of, next_pc};
+ghost use Rattle.axp_cpu.specs.CpuStates.{next_pc};
+ghost use Rattle.axp_trap.specs.Status.{mode_of};
+ghost use Rattle.axp_cpu.specs.declared.translation.Origin.TheVariants.{Instruction};
 ghost use Rattle.axp_cpu.specs.Stands.{HasSameRegisters};
-ghost use Rattle.axp_cpu.specs.Translation.{buffer_for, entry_address, entry_wanted, first_entry};
-ghost use Rattle.axp_cpu.specs.Translation.{frame_of, mapped_plan, reach_plan, second_entry};
-ghost use Rattle.axp_cpu.specs.Translation.{third_entry, walk_plan, wanted_at, way_of, with_kept};
+ghost use Rattle.axp_cpu.specs.Translation.{buffer_for, entry_address, entry_wanted, frame_of};
+ghost use Rattle.axp_cpu.specs.Translation.{mapped_plan, mode_in, reach_plan, walk_plan, wanted_at};
+ghost use Rattle.axp_cpu.specs.Translation.{way_of, with_kept};
 ghost use Rattle.axp_cpu.specs.Translation.{with_page_kept};
-ghost use Rattle.axp_cpu.specs.declared.translation.Level.TheVariants.{Second, Third};
 ghost use Rattle.axp_cpu.specs.declared.translation.MappedAsk.{MappedAsk};
-ghost use Rattle.axp_decode.specs.declared.instructions.Instr.{Instr};
 ghost use Rattle.axp_decode.specs.declared.names.MemOp.{MemOp};
 ghost use Rattle.axp_image.specs.Contents.{Contents};
-ghost use Rattle.axp_line.specs.declared.messages.Reply.{Reply};
-ghost use Rattle.axp_lsu.specs.Going.{value_of};
 ghost use Rattle.axp_base.specs.Masks.{has_bit};
 ghost use Rattle.axp_image.specs.declared.limits.TheConstants.{PAGE_BYTES};
 ghost use Rattle.axp_pte.specs.Addresses.{is_kseg};
 ghost use Rattle.axp_pte.specs.Entries.{is_valid, pfn_of};
-ghost use Rattle.axp_pte.specs.Protection.{allows, fault_bit, upper_of};
+ghost use Rattle.axp_pte.specs.Protection.{allows, fault_bit};
 ghost use Rattle.axp_pte.specs.declared.entries.Pte.{Pte};
 ghost use Rattle.axp_pte.specs.declared.faults.Mode.TheVariants.{User};
 ghost use Rattle.axp_pte.specs.declared.faults.Way.{Way};
@@ -40,38 +36,8 @@ ghost use Rattle.axp_pte.specs.declared.faults.Way.TheVariants as way;
 ghost use Rattle.axp_regs.specs.declared.asks.Ask.{Ask};
 ghost use Rattle.axp_regs.specs.declared.asks.Kind.TheVariants as kind;
 ghost use Rattle.axp_tb.specs.declared.buffers.TheConstants.{TB_ENTRIES};
-ghost use Rattle.axp_regs.specs.States.{locked_of, pc_of, ptbr_of, register};
+ghost use Rattle.axp_regs.specs.States.{locked_of, pc_of, ps_of, ptbr_of, register};
 ghost use Rattle.axp_regs.specs.declared.states.TheConstants.{REGISTERS, ZERO_REGISTER};
-
-/// What is not built: a group that can begin with no access, since its instruction's address has a
-/// fault at once or leads outside of memory; an entry of the page tables that leads to no table, to
-/// no page that allows the access, or outside of memory; and exactly the instructions that
-/// `is_refused` lists.
-pub fn what_is_not_built()
-    ensures fetch { (size : ℕ) (t : CpuState)
-        → is_built (group size t) ≡ is_reached size t (mode_of t) (fetch_of t) }
-    ensures first_level { (size : ℕ) (t : CpuState) (far : MappedAsk) (k : CpuState → ℕ → Plan)
-        (word : ℕ) → is_built (first_entry size t far k word)
-        ≡ is_table size Second far (upper_of word) }
-    ensures second_level { (size : ℕ) (t : CpuState) (far : MappedAsk) (k : CpuState → ℕ → Plan)
-        (word : ℕ) → is_built (second_entry size t far k word)
-        ≡ is_table size Third far (upper_of word) }
-    ensures third_level { (size : ℕ) (t : CpuState) (far : MappedAsk) (k : CpuState → ℕ → Plan)
-        (word : ℕ) → is_built (third_entry size t far k word)
-        ≡ is_framed size far (frame_of far word) }
-    ensures instruction { (size : ℕ) (t : CpuState) (i : Instr)
-        → is_built (row size t i) ≡ not (is_refused size t i) }
-{}
-
-/// Where the bus tells the value of an access, the group ends with it, whatever the value. So
-/// whether all is built that a step leads to can be tested before the bus is asked: its answer
-/// changes nothing.
-pub fn answered_values_end_groups()
-    ensures ends { (size : ℕ) (t : CpuState) → AnswersEnd (group size t) }
-    ensures built { (a : Actor) (w : Wanted) (r : Option Reply) → (actor_intent a).wanted ≡ Some w
-        → is_built_after a.seat (value_of w a.kept r)
-        ≡ is_built_after a.seat (value_of w a.kept None) }
-{}
 
 /// What a walk reads: the entry of the address's index in the table that the page-table base names,
 /// then that of its next index in the table that this entry leads to, and so on; then the access is
@@ -115,20 +81,33 @@ pub fn kept_translations_lead_where_walks_led()
 /// valid, and does not ask for a fault at such an access. A load-locked does what a load does, a
 /// store-conditional what a store does. User mode reaches no address of the kernel segment.
 pub fn accesses_need_their_right()
-    ensures right { (far : MappedAsk) (word frame : ℕ) → frame_of far word ≡ Ok frame
-        → (allows word far.mode (way_of far.ask.kind) ≡ true) × (is_valid word ≡ true)
+    ensures right { (t : CpuState) (far : MappedAsk) (word frame : ℕ) → frame_of t far word ≡ Ok frame
+        → (allows word (mode_in far.origin t) (way_of far.ask.kind) ≡ true) × (is_valid word ≡ true)
         × (has_bit word (fault_bit (way_of far.ask.kind)) ≡ false) × (frame ≡ pfn_of word) }
     ensures ways { (way_of kind.Fetch ≡ way.Fetch) × (way_of kind.Read ≡ way.Load)
         × (way_of kind.Locked ≡ way.Load) × (way_of kind.Write ≡ way.Store)
         × (way_of kind.Conditional ≡ way.Store) }
     ensures kernel_segment { (size : ℕ) (t : CpuState) (ask : Ask) (k : CpuState → ℕ → Plan)
-        → is_kseg ask.address ≡ true → wanted_by (reach_plan size t User ask k) ≡ None }
+        → mode_of (ps_of t.state) ≡ User → is_kseg ask.address ≡ true
+        → wanted_by (reach_plan size t Instruction ask k) ≡ None }
 {}
 
 /// Until its end a group changes no register and no halt code: the count of fetched instructions
 /// rises with the fetch, and translations are kept as they are found.
 pub fn groups_change_registers_at_their_end()
     ensures { (s : Seat) → HasSameRegisters s.start (table_now s) }
+{}
+
+/// A group that halts the processor leaves the state as it was at the group's start, but for the
+/// count of fetched instructions: of its registers, its other parts and its program counter none
+/// has changed, and only halt leaves the program counter behind itself. So it is where the frame
+/// of an entry cannot be written, at its first word or at a later one, and where an access of a
+/// call or an instruction comes beyond memory. The codes are 1 to 4.
+pub fn halts_leave_the_state()
+    ensures groups { (s : Seat) (values : List ℕ) (t : CpuState) → s.start.halted ≡ None
+        → along values (group s.size s.cpus s.start) ≡ End t → Leaves s.start.state t }
+    ensures entries { (size : ℕ) (t : CpuState) → t.halted ≡ None
+        → Leaves t.state (arrived size t) }
 {}
 
 /// The instruction gets what its access shows. After the Step of a load's access, Ra (but for R31)

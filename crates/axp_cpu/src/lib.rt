@@ -5,8 +5,10 @@
 //! phases. A processor stands for a seat, where the definitions have it (`specs/Seats.antt`).
 #![tactic(auto)]
 
+mod calls;
 mod cpu_states;
 mod endings;
+mod frames;
 mod laws;
 mod phases;
 mod processors;
@@ -14,13 +16,14 @@ mod refusals;
 mod rows;
 mod sequencers;
 mod translation;
+mod unbuilt;
+mod values;
 mod walks;
 
 pub use axp_lsu::Ask2;
 pub use laws::{
-    accesses_need_their_right, answered_values_end_groups, groups_change_registers_at_their_end,
+    accesses_need_their_right, groups_change_registers_at_their_end, halts_leave_the_state,
     kept_translations_lead_where_walks_led, registers_get_what_is_shown, walks_go_by_three_entries,
-    what_is_not_built,
 };
 pub use processors::Processor;
 pub use refusals::Refusal;

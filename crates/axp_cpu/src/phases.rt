@@ -1,23 +1,26 @@
 //! How far a group of accesses has come.
 ghost use Rattle.std.specs.Prelude.{◌≡◌, ◌%◌, ◌^◌, ℕ};
-ghost use Rattle.axp_cpu.specs.declared.cpu_states.CpuState.{CpuState};
-ghost use Rattle.axp_cpu.specs.Phases.{after, continued, plan_of, settled, ContinuationFits};
-ghost use Rattle.axp_cpu.specs.Phases.{PhaseFits, StageFits};
-ghost use Rattle.axp_cpu.specs.Plans.{is_built};
-ghost use Rattle.axp_cpu.specs.Rows.{group};
+ghost use Rattle.axp_cpu.specs.Phases.{after, continued, counted_for, plan_of, settled};
+ghost use Rattle.axp_cpu.specs.Phases.{ContinuationFits, PhaseFits, StageFits};
+ghost use Rattle.axp_cpu.specs.Rows.{group, instruction_plan};
 
+use crate::calls::call;
 use crate::cpu_states::CpuState;
 use crate::endings::Ending;
+use crate::frames::{begin_entry, save};
 use crate::rows::instruct;
+use crate::translation::Origin;
+use crate::values::Values;
 use crate::walks::{Walk, follow, keep_found, reach};
 use axp_access::Wanted;
 use axp_base::sext;
-use axp_decode::decode;
+use axp_decode::{PalOp, decode};
 use axp_image::INSTRUCTION_BYTES;
 use axp_regs::{Ask, Kind};
+use axp_trap::Cause;
 
 /// What a group does with the value that the access of its instruction gives.
-#[derive(Clone, Copy, Debug, PartialEq, Eq)]
+#[derive(Clone, Copy, Debug)]
 pub enum Continuation {
     /// Does the instruction that was fetched.
     Instruct,
@@ -33,6 +36,10 @@ pub enum Continuation {
     StoreConditional { a: u8 },
     /// Ends.
     Finish,
+    /// Goes on to save the frame of an entry, of which so many words are left.
+    Save { cause: Cause, left: u8 },
+    /// Goes on with a PAL call, of whose accesses so many are left; those before gave these values.
+    Call { op: PalOp, values: Values, left: u8 },
 }
 
 /// What a group does with the value of the access that it wants.
@@ -51,27 +58,26 @@ pub enum Phase {
     Wants(Wanted, Stage),
     /// It ends, with this change.
     Ends(Ending),
-    /// It comes to what is not built.
-    NotBuilt,
 }
 
-impl Phase {
-    /// Whether it is not that the group comes to what is not built.
-    fn is_built(&self) -> bool
-        ensures { (size : ℕ) (t : CpuState) → result ≡ is_built (plan_of size t self.now) }
-    {
-        match self {
-            Phase::Wants(_, _) | Phase::Ends(_) => true,
-            Phase::NotBuilt => false,
-        }
+/// The group that begins at a table state: an entry that is to be made, or else the fetch of the
+/// instruction at the program counter.
+#[tactic(auto, unfolding(crate::specs::Rows::group))]
+pub fn begin(size: u64, cpus: u8, table: &CpuState) -> Phase
+    ensures plan { plan_of size cpus table.now result ≡ group size cpus table.now }
+    ensures fits { PhaseFits cpus table.now result }
+{
+    match table.pending {
+        None => begin_instruction(size, table),
+        Some(cause) => begin_entry(size, table, cause),
     }
 }
 
-/// The group that begins at a table state: the fetch of the instruction at the program counter.
-#[tactic(auto, unfolding(crate::specs::Rows::group))]
-pub fn begin(size: u64, table: &CpuState) -> Phase
-    ensures plan { plan_of size table.now result ≡ group size table.now }
-    ensures fits { PhaseFits table.now result }
+/// The fetch of the instruction at the program counter.
+fn begin_instruction(size: u64, table: &CpuState) -> Phase
+    ensures plan { (cpus : ℕ) → plan_of size cpus table.now result
+        ≡ instruction_plan size cpus table.now }
+    ensures fits { (cpus : ℕ) → PhaseFits cpus table.now result }
 {
     let fetch = Ask {
         kind: Kind::Fetch,
@@ -80,75 +86,67 @@ pub fn begin(size: u64, table: &CpuState) -> Phase
         size: INSTRUCTION_BYTES as u8,
         value: 0,
     };
-    reach(size, table, table.mode(), fetch, Continuation::Instruct)
+    reach(
+        size,
+        table,
+        Origin::Instruction,
+        fetch,
+        Continuation::Instruct,
+    )
 }
 
 /// What is left of a group once its wanted access gave this value. A fetch is counted in the table
 /// state and the translation that a walk found is kept there; all else changes with the group's
 /// end.
-pub fn resume(size: u64, table: &mut CpuState, stage: Stage, value: u64) -> Phase
-    requires { StageFits table.old stage }
-    ensures plan { plan_of size table.new result ≡ after size table.old stage value }
-    ensures fits { PhaseFits table.new result }
+pub fn resume(size: u64, cpus: u8, table: &mut CpuState, stage: Stage, value: u64) -> Phase
+    requires { StageFits cpus table.old stage }
+    ensures plan { plan_of size cpus table.new result ≡ after size cpus table.old stage value }
+    ensures fits { PhaseFits cpus table.new result }
     ensures table { table.new ≡ settled stage value table.old }
 {
     match stage {
         Stage::Walks(walk) => {
+            let phase = follow(size, table, walk, value);
             keep_found(table, &walk, value);
-            follow(size, walk, value)
+            phase
         }
-        Stage::Continues(Continuation::Instruct) => {
-            table.count_fetch();
-            instruct(size, table, decode(low_word(value)))
-        }
-        Stage::Continues(Continuation::Load { a }) => Phase::Ends(Ending::Writes { n: a, value }),
-        Stage::Continues(Continuation::LoadLong { a }) => Phase::Ends(Ending::Writes {
-            n: a,
-            value: sext(value, 32),
-        }),
-        Stage::Continues(Continuation::LoadLocked { a }) => {
-            Phase::Ends(Ending::Locks { n: a, value })
-        }
-        Stage::Continues(Continuation::LoadLockedLong { a }) => Phase::Ends(Ending::Locks {
-            n: a,
-            value: sext(value, 32),
-        }),
-        Stage::Continues(Continuation::StoreConditional { a }) => {
-            Phase::Ends(Ending::Unlocks { n: a, value })
-        }
-        Stage::Continues(Continuation::Finish) => Phase::Ends(Ending::Next),
+        Stage::Continues(next) => proceed(size, cpus, table, next, value),
     }
 }
 
-/// Whether all is built that the value of the wanted access leads to.
-pub fn leads_on(size: u64, table: &CpuState, stage: Stage, value: u64) -> bool
-    requires { StageFits table.now stage }
-    ensures { result ≡ is_built (after size table.now stage value) }
-{
-    match stage {
-        Stage::Walks(walk) => follow(size, walk, value).is_built(),
-        Stage::Continues(next) => continues_built(size, table, next, value),
-    }
-}
-
-/// Whether all is built that the value of an instruction's access leads to.
-fn continues_built(size: u64, table: &CpuState, next: Continuation, value: u64) -> bool
-    requires { ContinuationFits next }
-    ensures { result ≡ is_built (continued size next table.now value) }
+/// What is left of a group once the access of its instruction or entry gave this value.
+fn proceed(size: u64, cpus: u8, table: &mut CpuState, next: Continuation, value: u64) -> Phase
+    requires { ContinuationFits cpus table.old.state next }
+    ensures plan { plan_of size cpus table.new result ≡ continued size cpus next table.old value }
+    ensures fits { PhaseFits cpus table.new result }
+    ensures table { table.new ≡ counted_for next table.old }
 {
     match next {
-        Continuation::Instruct => instruct(size, table, decode(low_word(value))).is_built(),
-        Continuation::Load { .. }
-        | Continuation::LoadLong { .. }
-        | Continuation::LoadLocked { .. }
-        | Continuation::LoadLockedLong { .. }
-        | Continuation::StoreConditional { .. }
-        | Continuation::Finish => true,
+        Continuation::Instruct => {
+            table.count_fetch();
+            instruct(size, cpus, table, decode(low_word(value)))
+        }
+        Continuation::Load { a } => Phase::Ends(Ending::Writes { n: a, value }),
+        Continuation::LoadLong { a } => Phase::Ends(Ending::Writes {
+            n: a,
+            value: sext(value, 32),
+        }),
+        Continuation::LoadLocked { a } => Phase::Ends(Ending::Locks { n: a, value }),
+        Continuation::LoadLockedLong { a } => Phase::Ends(Ending::Locks {
+            n: a,
+            value: sext(value, 32),
+        }),
+        Continuation::StoreConditional { a } => Phase::Ends(Ending::Unlocks { n: a, value }),
+        Continuation::Finish => Phase::Ends(Ending::Next),
+        Continuation::Save { cause, left } => save(size, table, cause, left),
+        Continuation::Call { op, values, left } => {
+            call(size, cpus, table, op, values.with(value), left)
+        }
     }
 }
 
 /// The word that a fetch gave.
-fn low_word(value: u64) -> u32
+pub(crate) fn low_word(value: u64) -> u32
     ensures { result ≡ value % 2 ^ 32 }
 {
     (value & 0xFFFF_FFFF) as u32

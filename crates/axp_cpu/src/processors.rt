@@ -1,10 +1,12 @@
 ghost use Rattle.std.specs.Prelude.{◌≡◌, ◌==◌, ◌<◌, ◌≤◌, IfOk, length};
+ghost use Rattle.axp_access.specs.declared.Act.TheVariants.{Step};
 ghost use Rattle.axp_base.specs.declared.processors.TheConstants.{MAX_BUDGET, MAX_CPUS, MIN_CPUS};
 ghost use Rattle.axp_base.specs.Cpus.{cpu_number};
 ghost use Rattle.axp_lsu.specs.Fitting.{ShowsFitting};
 ghost use Rattle.axp_lsu.specs.Within.{IsAskWithin};
 ghost use Rattle.axp_cpu.specs.Actors.{Actor, actor_intent, advanced, first_actor, is_built};
-ghost use Rattle.axp_cpu.specs.Actors.{outcome_of, request_of, seat_after, step_built};
+ghost use Rattle.axp_cpu.specs.Actors.{is_step_built};
+ghost use Rattle.axp_cpu.specs.Actors.{moved_by, outcome_of, request_of, seat_after};
 ghost use Rattle.axp_cpu.specs.ActorStands.{IsAnswered, IsAt, IsMovable, IsSeated, IsSeatedWith};
 ghost use Rattle.axp_cpu.specs.Following as following;
 ghost use Rattle.axp_cpu.specs.Seats.{is_finished, table_now};
@@ -13,6 +15,7 @@ ghost use Rattle.axp_regs.specs.States.{with_fetched};
 
 use crate::refusals::Refusal;
 use crate::sequencers::Sequencer;
+use crate::unbuilt::is_access_built;
 use axp_access::{Act, Intent, Outcome, Wanted};
 use axp_base::Cpu;
 use axp_image::Image;
@@ -107,34 +110,6 @@ impl Processor {
         }
     }
 
-    /// Whether all is built that an act leads to.
-    fn is_built(&self, act: Act, wanted: Option<Wanted>) -> bool
-        requires { IsSeatedWith self.now wanted }
-        ensures { (a : Actor) → IsAt self.now a → result ≡ is_built act a }
-    {
-        match act {
-            Act::Step => self.leads_on(wanted),
-            Act::Poll | Act::Tick => false,
-            Act::Fill | Act::Drain(_) | Act::Take(_) | Act::Drop(_, _) => true,
-        }
-    }
-
-    /// Whether the wanted access is made, and all is built that its value leads to. The bus is not
-    /// asked yet: where it tells the value, the group ends with it, so that its answer changes
-    /// nothing here.
-    fn leads_on(&self, wanted: Option<Wanted>) -> bool
-        requires { IsSeatedWith self.now wanted }
-        ensures { (a : Actor) → IsAt self.now a → result ≡ step_built (actor_intent a).wanted a }
-    {
-        match wanted {
-            None => false,
-            Some(wanted) => {
-                let value = self.unit.value(&wanted, None);
-                self.sequencer.leads_on(value)
-            }
-        }
-    }
-
     /// Does an act that was asked for, with the bus's answer where it asked, and tells its outcome.
     /// It goes on with the value that the outcome shows.
     #[tactic(auto, unfolding(crate::specs::Actors::outcome_of, crate::specs::Actors::advanced))]
@@ -159,9 +134,51 @@ impl Processor {
         ensures cpu { self.new.cpu ≡ self.old.cpu }
         ensures unit { self.new.unit ≡ self.old.unit }
     {
-        if let (Act::Step, Some(wanted)) = (act, wanted) {
-            let value = self.unit.value(&wanted, reply);
-            self.sequencer.advance(value);
+        if let Act::Step = act {
+            self.step(wanted, reply);
+        }
+    }
+
+    /// Moves the sequencer by a step.
+    fn step(&mut self, wanted: Option<Wanted>, reply: Option<Reply>)
+        requires { IsMovable self.old Step wanted }
+        ensures seat { (a : Actor) → IsAt self.old a
+            → Stands self.new.sequencer (moved_by (actor_intent a).wanted reply a) }
+        ensures cpu { self.new.cpu ≡ self.old.cpu }
+        ensures unit { self.new.unit ≡ self.old.unit }
+    {
+        match wanted {
+            Some(wanted) => {
+                let value = self.unit.value(&wanted, reply);
+                self.sequencer.advance(value);
+            }
+            None => self.sequencer.pass(),
+        }
+    }
+
+    /// Whether an act is built: an interrupt is not, nor is all that a step may fetch.
+    fn is_built(&self, act: Act, wanted: Option<Wanted>) -> bool
+        requires { IsSeatedWith self.now wanted }
+        ensures { (a : Actor) → IsAt self.now a → result ≡ is_built act a }
+    {
+        match act {
+            Act::Poll | Act::Tick => false,
+            Act::Step => self.is_step_built(wanted),
+            Act::Fill | Act::Drain(_) | Act::Take(_) | Act::Drop(_, _) => true,
+        }
+    }
+
+    /// Whether a step that wants this access is built.
+    fn is_step_built(&self, wanted: Option<Wanted>) -> bool
+        requires { IsSeatedWith self.now wanted }
+        ensures { (a : Actor) → IsAt self.now a → result ≡ is_step_built wanted a }
+    {
+        match wanted {
+            None => true,
+            Some(wanted) => {
+                let value = self.unit.value(&wanted, None);
+                is_access_built(wanted.kind, value, self.sequencer.state())
+            }
         }
     }
 }

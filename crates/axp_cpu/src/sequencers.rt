@@ -1,14 +1,18 @@
-ghost use Rattle.std.specs.Prelude.{◌≡◌, IfSome};
+ghost use Rattle.std.specs.Prelude.{◌≡◌, ◌≤◌, IfSome};
 ghost use Rattle.axp_base.specs.Cpus.{cpu_number};
-ghost use Rattle.axp_cpu.specs.Phases.{plan_of, PhaseFits};
-ghost use Rattle.axp_cpu.specs.Seats.{Seat, first_seat, intent_of, is_built_after, is_finished};
+ghost use Rattle.axp_base.specs.declared.processors.TheConstants.{MAX_CPUS};
+ghost use Rattle.axp_cpu.specs.Phases.{ended, plan_of, EndingFits, PhaseFits};
+ghost use Rattle.axp_cpu.specs.Rows.{arrived};
+ghost use Rattle.axp_cpu.specs.Seats.{Seat, first_seat, intent_of, is_finished, seat_after_none};
 ghost use Rattle.axp_cpu.specs.Seats.{seat_after_value, table_now, wanted};
-ghost use Rattle.axp_cpu.specs.Stands.{IsLed, IsMakeable, MakesFit, Standing, Stands};
+ghost use Rattle.axp_cpu.specs.Stands.{IsAtEnd, IsMakeable, IsWanting, MakesFit, Standing, Stands};
 ghost use Rattle.axp_cpu.specs.Stands.{plan_left};
 ghost use Rattle.axp_regs.specs.States.{with_fetched};
 
 use crate::cpu_states::CpuState;
-use crate::phases::{Phase, Stage, begin, leads_on, resume};
+use crate::endings::Ending;
+use crate::frames::begin_entry;
+use crate::phases::{Phase, Stage, begin, resume};
 use axp_access::{Intent, Wanted};
 use axp_base::Cpu;
 use axp_image::Image;
@@ -31,6 +35,7 @@ impl Sequencer {
     /// A processor of a machine at the start, with a budget of steps: R16 is its number, R30 the
     /// image's stack word, the program counter the image's entry.
     pub fn start(cpu: Cpu, cpus: u8, image: &Image, budget: u32) -> Sequencer
+        requires { cpus ≤ MAX_CPUS }
         ensures { Stands result (first_seat image.now cpus budget (cpu_number cpu)) }
     {
         let number = cpu.number();
@@ -46,6 +51,7 @@ impl Sequencer {
             table: CpuState {
                 state,
                 halted: None,
+                pending: None,
                 itb: Tb::empty(),
                 dtb: Tb::empty(),
             },
@@ -85,18 +91,18 @@ impl Sequencer {
         self.table.halted.is_some() || self.budget <= self.steps
     }
 
-    /// The access that it wants; `None` where it is finished or comes to what is not built.
+    /// The access that it wants; `None` where it is finished, or its group ends with no access.
     pub fn wanted(&self) -> Option<Wanted>
         requires { Standing self.now }
         ensures wanted { (s : Seat) → Stands self.now s → result ≡ wanted s }
-        ensures makeable { (s : Seat) → Stands self.now s → IfSome result (IsMakeable s.size) }
+        ensures makeable { (s : Seat) → Stands self.now s → IfSome result (IsMakeable s.size s.cpus) }
     {
         if self.finished() {
             return None;
         }
         match self.next() {
             Phase::Wants(wanted, _) => Some(wanted),
-            Phase::Ends(_) | Phase::NotBuilt => None,
+            Phase::Ends(_) => None,
         }
     }
 
@@ -105,57 +111,82 @@ impl Sequencer {
         requires { Standing self.now }
         ensures value { (s : Seat) → Stands self.now s → result ≡ intent_of s }
         ensures makeable { (s : Seat) → Stands self.now s
-            → IfSome result.wanted (IsMakeable s.size) }
+            → IfSome result.wanted (IsMakeable s.size s.cpus) }
     {
         Intent {
             finished: self.finished(),
-            boundary: self.making.is_none(),
+            boundary: self.making.is_none() && self.table.pending.is_none(),
             takes_interrupts: self.table.state.ps() % 8 < 5,
             lock_flag: self.table.state.locked(),
             wanted: self.wanted(),
         }
     }
 
-    /// Whether all is built that a step leads to whose access gives this value.
-    pub fn leads_on(&self, value: u64) -> bool
-        requires { Standing self.now }
-        ensures { (s : Seat) → Stands self.now s → result ≡ is_built_after s value }
-    {
-        match self.next() {
-            Phase::Wants(_, stage) => leads_on(self.size, &self.table, stage, value),
-            Phase::Ends(_) | Phase::NotBuilt => false,
-        }
-    }
-
     /// Makes a step whose access gave this value, 0 where it gives none.
     pub fn advance(&mut self, value: u64)
-        requires { IsLed self.old value }
+        requires { IsWanting self.old }
         ensures { (s : Seat) → Stands self.old s → Stands self.new (seat_after_value s value) }
     {
         let Phase::Wants(_, stage) = self.next() else {
             return;
         };
-        let phase = resume(self.size, &mut self.table, stage, value);
+        let phase = resume(self.size, self.cpus, &mut self.table, stage, value);
         self.steps += 1;
         match phase {
             Phase::Wants(wanted, stage) => self.making = Some((wanted, stage)),
             Phase::Ends(ending) => {
-                self.table.end(ending);
+                finish(self.size, &mut self.table, ending);
                 self.making = None;
             }
-            Phase::NotBuilt => {}
         }
+    }
+
+    /// Makes a step without an access: the group ends with it.
+    pub fn pass(&mut self)
+        requires { IsAtEnd self.old }
+        ensures { (s : Seat) → Stands self.old s → Stands self.new (seat_after_none s) }
+    {
+        let Phase::Ends(ending) = self.next() else {
+            return;
+        };
+        self.steps += 1;
+        finish(self.size, &mut self.table, ending);
+        self.making = None;
     }
 
     /// What its group still has to do.
     fn next(&self) -> Phase
-        requires { MakesFit self.now.table self.now.making }
-        ensures plan { plan_of self.now.size self.now.table result ≡ plan_left self.now }
-        ensures fits { PhaseFits self.now.table result }
+        requires { MakesFit self.now.cpus self.now.table self.now.making }
+        ensures plan { plan_of self.now.size self.now.cpus self.now.table result
+            ≡ plan_left self.now }
+        ensures fits { PhaseFits self.now.cpus self.now.table result }
     {
         match self.making {
-            None => begin(self.size, &self.table),
+            None => begin(self.size, self.cpus, &self.table),
             Some((wanted, stage)) => Phase::Wants(wanted, stage),
         }
+    }
+}
+
+/// Ends a group, and goes on by itself where it raised an entry whose frame cannot be written: then
+/// the processor halts.
+fn finish(size: u64, table: &mut CpuState, ending: Ending)
+    requires { EndingFits table.old.state ending }
+    ensures { table.new ≡ arrived size (ended ending table.old) }
+{
+    table.end(ending);
+    arrive(size, table);
+}
+
+/// Goes on by itself behind a group.
+#[tactic(auto, unfolding(crate::specs::Rows::arrived))]
+fn arrive(size: u64, table: &mut CpuState)
+    ensures { table.new ≡ arrived size table.old }
+{
+    let Some(cause) = table.pending else {
+        return;
+    };
+    if let Phase::Ends(ending) = begin_entry(size, table, cause) {
+        table.end(ending);
     }
 }

@@ -1,10 +1,9 @@
-ghost use Rattle.std.specs.Prelude.{◌≡◌, ◌<◌, ◌^◌, IfOk};
-ghost use Rattle.axp_cpu.specs.Translation.{entry_address, frame_of, way_of};
-ghost use Rattle.axp_pte.specs.Entries.{pte_word};
+ghost use Rattle.std.specs.Prelude.{◌≡◌};
+ghost use Rattle.axp_cpu.specs.Translation.{entry_address, way_of};
 
 use axp_base::QUADWORD_BYTES;
 use axp_image::PAGE_BYTES;
-use axp_pte::{MmFault, Mode, Parts, Pte, Way, rights};
+use axp_pte::{Parts, Way};
 use axp_regs::{Ask, Kind};
 
 /// A level of the page tables.
@@ -18,13 +17,22 @@ pub enum Level {
     Third,
 }
 
+/// Whose access it is: that says in which mode it is made, and what comes of a fault.
+#[derive(Clone, Copy, Debug, PartialEq, Eq)]
+pub enum Origin {
+    /// An instruction's, in the mode of the processor; a fault enters the operating system.
+    Instruction,
+    /// That of a frame, in kernel mode; a fault halts the processor.
+    Frame,
+}
+
 /// An access to an address that is translated.
 #[derive(Clone, Copy, Debug)]
 pub struct MappedAsk {
     /// The access, by its virtual address.
     pub ask: Ask,
-    /// The mode in which it is made.
-    pub mode: Mode,
+    /// Whose access it is.
+    pub origin: Origin,
     /// The parts of its address.
     pub parts: Parts,
 }
@@ -34,27 +42,25 @@ impl MappedAsk {
     pub fn way(&self) -> Way
         ensures { result ≡ way_of self.now.ask.kind }
     {
-        match self.ask.kind {
-            Kind::Fetch => Way::Fetch,
-            Kind::Read | Kind::Locked => Way::Load,
-            Kind::Write
-            | Kind::Conditional
-            | Kind::Barrier
-            | Kind::WriteBarrier
-            | Kind::CodeBarrier
-            | Kind::Signal
-            | Kind::Console
-            | Kind::Poll => Way::Store,
-        }
+        way(self.ask.kind)
     }
+}
 
-    /// The frame of its page, below 2^32, by the page's entry; the first fault where the entry
-    /// does not allow the access.
-    pub fn frame(&self, pte: Pte) -> Result<u64, MmFault>
-        ensures frame { result ≡ frame_of self.now (pte_word pte) }
-        ensures small { IfOk result (λ frame. frame < 2 ^ 32) }
-    {
-        rights(pte, self.mode, self.way())
+/// What an access of this kind does with its page.
+pub fn way(kind: Kind) -> Way
+    ensures { result ≡ way_of kind }
+{
+    match kind {
+        Kind::Fetch => Way::Fetch,
+        Kind::Read | Kind::Locked => Way::Load,
+        Kind::Write
+        | Kind::Conditional
+        | Kind::Barrier
+        | Kind::WriteBarrier
+        | Kind::CodeBarrier
+        | Kind::Signal
+        | Kind::Console
+        | Kind::Poll => Way::Store,
     }
 }
 

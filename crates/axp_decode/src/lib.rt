@@ -24,4 +24,4 @@ pub use laws::{
     reserved_words, words_and_instructions, words_stand_for_instructions,
 };
 pub use names::{BranchOp, MemOp, MiscOp, Op, PalOp};
-pub use numbers::{BYTE_OPCODE, opcode_number};
+pub use numbers::{BYTE_OPCODE, memory_code, opcode_number};

@@ -45,7 +45,7 @@ pub(crate) fn memory_op(opcode: u8) -> Option<MemOp>
 }
 
 /// The opcode of an instruction of the memory format.
-pub(crate) fn memory_code(op: MemOp) -> u8
+pub fn memory_code(op: MemOp) -> u8
     ensures value { result ≡ memory_number op }
     ensures small { result < 2 ^ 6 }
 {

@@ -1,10 +1,13 @@
 -- What a granted event asks lies in memory, and the bus's answer fits it.
-use Rattle.std.proofs.Common.{◌≡◌, ℕ, ◌+◌, ◌^◌, ◌<◌, ◌&&◌, Bool, true, false, cond, List, [], ◌∷◌, length, slice_get, Option, Some, None, arith, refl, subst}
-use Rattle.std.specs.Prelude.{Ok}
+use Rattle.std.proofs.Common.{◌≡◌, ℕ, ◌+◌, ◌^◌, ◌<◌, ◌≤◌, ◌&&◌, Bool, true, false, cond, List, [], ◌∷◌, length, slice_get, Option, Some, None, arith, refl, sym, subst}
+use Rattle.std.specs.Prelude.{Ok, nat_lt}
 use Rattle.axp_access.specs.declared.Act.{Act}
 use Rattle.axp_access.specs.declared.Act.TheVariants as act
 use Rattle.axp_access.specs.declared.Intent.{Intent}
 use Rattle.axp_access.specs.declared.Wanted.{Wanted}
+use Rattle.axp_base.specs.Cpus.{cpu_by, cpu_number, cpu_of}
+use Rattle.axp_base.specs.declared.processors.Cpu.{Cpu}
+use Rattle.axp_base.specs.declared.processors.TheConstants.{MAX_CPUS}
 use Rattle.axp_base.specs.declared.lines.Bank.{Bank}
 use Rattle.axp_base.specs.declared.lines.Bank.TheVariants.{Even, Odd, Code}
 use Rattle.axp_base.specs.declared.lines.Line.{Line}
@@ -20,7 +23,7 @@ use Rattle.axp_cpu.proofs.ActorLemmas.{was_asked, wanted_sound}
 use Rattle.axp_line.specs.declared.messages.Reply.TheVariants as reply
 use Rattle.axp_line.specs.declared.messages.Request.{Request}
 use Rattle.axp_line.specs.declared.messages.Request.TheVariants as request
-use Rattle.axp_lsu.specs.Asking.{access_ask, act_ask, ask_of, drain_ask, fill_ask, fill_for, is_ready, step_ask, take_ask}
+use Rattle.axp_lsu.specs.Asking.{access_ask, act_ask, ask_of, drain_ask, fill_ask, fill_for, is_ready, signal_to, step_ask, take_ask}
 use Rattle.axp_lsu.specs.Fitting.{FitsRequest}
 use Rattle.axp_lsu.specs.Keeping.{LocalMemory}
 use Rattle.axp_lsu.specs.Within.{IsAskWithin, IsRequestWithin}
@@ -38,95 +41,106 @@ use Rattle.axp_regs.specs.declared.asks.Kind.TheVariants as kind
 use Rattle.axp_base.specs.Blocks.{is_allowed}
 use Rattle.axp_machine.specs.Playing.{MayAskFor}
 
--- no act asks for a signal yet: the instruction table wants none
-abbrev is_signal : Ask2 → Bool
-is_signal (ask.Bus (request.Signal target)) = true
-is_signal _ = false
+-- a signal that is asked for goes to a processor below this count
+abbrev Targets : ℕ → Ask2 → Type 0
+Targets cpus (ask.Bus (request.Signal target)) = cpu_number target < cpus
+Targets cpus _ = Unit {0}
 
-abbrev HasNoSignal : Option Ask2 → Type 0
-HasNoSignal None = Unit {0}
-HasNoSignal (Some q) = is_signal q ≡ false
+abbrev TargetsIf : ℕ → Option Ask2 → Type 0
+TargetsIf cpus None = Unit {0}
+TargetsIf cpus (Some q) = Targets cpus q
 
-if_some : (b : Bool) (q : Ask2) → is_signal q ≡ false → HasNoSignal (cond b (Some q) None)
-if_some true q is = is
-if_some false q is = tt
+if_some : (cpus : ℕ) (b : Bool) (q : Ask2) → Targets cpus q → TargetsIf cpus (cond b (Some q) None)
+if_some cpus true q is = is
+if_some cpus false q is = tt
 
-access_no_signal : (k : Kind) (size : ℕ) (w : Wanted) (armed : Bool) (u : LocalMemory) → IsSoundAs size k w → is_signal (access_ask k w armed u) ≡ false
-access_no_signal kind.Signal size w armed u sound = absurd sound
-access_no_signal _ size w armed u sound = refl
+number_by : (v : ℕ) (small : Bool) (tested : nat_lt v MAX_CPUS ≡ small) (target : Cpu) → cpu_by v small tested ≡ Some target → cpu_number target ≡ v
+number_by v true tested target is = cc
+number_by v false tested target is = cc
 
-abbrev pub IsWantedSound : ℕ → Option Wanted → Type 0
-IsWantedSound size None = Unit {0}
-IsWantedSound size (Some w) = IsSoundAs size w.kind w
+number_of : (v : ℕ) (target : Cpu) → cpu_of v ≡ Some target → cpu_number target ≡ v
+number_of v target is = number_by v (nat_lt v MAX_CPUS) refl target is
 
-step_no_signal : (o : Option Wanted) (size : ℕ) (boundary armed : Bool) (u : LocalMemory) → IsWantedSound size o → HasNoSignal (step_ask boundary o armed u)
-step_no_signal None size boundary armed u sound = if_some boundary ask.Private refl
-step_no_signal (Some w) size boundary armed u sound = if_some (is_ready w.kind (line_of w.address) u) (access_ask w.kind w armed u) (access_no_signal w.kind size w armed u sound)
+signal_targets : (cpus v : ℕ) (o : Option Cpu) → cpu_of v ≡ o → v < cpus → Targets cpus (signal_to o)
+signal_targets cpus v None is below = tt
+signal_targets cpus v (Some target) is below = subst (λ n. n < cpus) (sym (number_of v target is)) below
 
-fill_for_no_signal : (k : Kind) (w : Wanted) (u : LocalMemory) → HasNoSignal (fill_for k w u)
-fill_for_no_signal kind.Fetch w u = if_some _ (ask.Bus (request.FillCode (line_at w.address))) refl
-fill_for_no_signal kind.Read w u = if_some _ (ask.Bus (request.Fill (line_at w.address))) refl
-fill_for_no_signal _ w u = tt
+access_targets : (k : Kind) (size cpus : ℕ) (w : Wanted) (armed : Bool) (u : LocalMemory) → IsSoundAs size cpus k w → Targets cpus (access_ask k w armed u)
+access_targets kind.Signal size cpus w armed u sound = signal_targets cpus w.value (cpu_of w.value) refl sound.value
+access_targets _ size cpus w armed u sound = tt
 
-fill_no_signal : (o : Option Wanted) (u : LocalMemory) → HasNoSignal (fill_ask o u)
-fill_no_signal None u = tt
-fill_no_signal (Some w) u = fill_for_no_signal w.kind w u
+abbrev pub IsWantedSound : ℕ → ℕ → Option Wanted → Type 0
+IsWantedSound size cpus None = Unit {0}
+IsWantedSound size cpus (Some w) = IsSoundAs size cpus w.kind w
 
-drain_no_signal : (o : Option Pending) → HasNoSignal (drain_ask o)
-drain_no_signal None = tt
-drain_no_signal (Some e) = refl
+step_targets : (o : Option Wanted) (size cpus : ℕ) (boundary armed : Bool) (u : LocalMemory) → IsWantedSound size cpus o → TargetsIf cpus (step_ask boundary o armed u)
+step_targets None size cpus boundary armed u sound = if_some cpus boundary ask.Private tt
+step_targets (Some w) size cpus boundary armed u sound = if_some cpus (is_ready w.kind (line_of w.address) u) (access_ask w.kind w armed u) (access_targets w.kind size cpus w armed u sound)
 
-take_no_signal : (b : Bank) → HasNoSignal (take_ask b)
-take_no_signal Even = refl
-take_no_signal Odd = refl
-take_no_signal Code = tt
+fill_for_targets : (k : Kind) (cpus : ℕ) (w : Wanted) (u : LocalMemory) → TargetsIf cpus (fill_for k w u)
+fill_for_targets kind.Fetch cpus w u = if_some cpus _ (ask.Bus (request.FillCode (line_at w.address))) tt
+fill_for_targets kind.Read cpus w u = if_some cpus _ (ask.Bus (request.Fill (line_at w.address))) tt
+fill_for_targets _ cpus w u = tt
 
-act_no_signal : (a : Act) (size : ℕ) (i : Intent) (u : LocalMemory) → IsWantedSound size i.wanted → HasNoSignal (act_ask a i u)
-act_no_signal act.Step size i u sound = step_no_signal i.wanted size i.boundary i.lock_flag u sound
-act_no_signal act.Fill size i u sound = fill_no_signal i.wanted u
-act_no_signal (act.Drain k) size i u sound = drain_no_signal (slice_get (oldest_group u.buffer.kept) k)
-act_no_signal (act.Take b) size i u sound = take_no_signal b
-act_no_signal (act.Drop b line) size i u sound = if_some _ ask.Private refl
-act_no_signal act.Poll size i u sound = if_some _ (ask.Bus (request.Poll i.takes_interrupts)) refl
-act_no_signal act.Tick size i u sound = if_some _ ask.Private refl
+fill_targets : (o : Option Wanted) (cpus : ℕ) (u : LocalMemory) → TargetsIf cpus (fill_ask o u)
+fill_targets None cpus u = tt
+fill_targets (Some w) cpus u = fill_for_targets w.kind cpus w u
 
-now_no_signal : (now : Bool) (o : Option Ask2) → HasNoSignal o → HasNoSignal (cond now o None)
-now_no_signal true o has = has
-now_no_signal false o has = tt
+drain_targets : (o : Option Pending) (cpus : ℕ) → TargetsIf cpus (drain_ask o)
+drain_targets None cpus = tt
+drain_targets (Some e) cpus = tt
 
-ask_no_signal : (a : Act) (size : ℕ) (i : Intent) (u : LocalMemory) → IsWantedSound size i.wanted → HasNoSignal (ask_of a i u)
+take_targets : (b : Bank) (cpus : ℕ) → TargetsIf cpus (take_ask b)
+take_targets Even cpus = tt
+take_targets Odd cpus = tt
+take_targets Code cpus = tt
+
+act_targets : (a : Act) (size cpus : ℕ) (i : Intent) (u : LocalMemory) → IsWantedSound size cpus i.wanted → TargetsIf cpus (act_ask a i u)
+act_targets act.Step size cpus i u sound = step_targets i.wanted size cpus i.boundary i.lock_flag u sound
+act_targets act.Fill size cpus i u sound = fill_targets i.wanted cpus u
+act_targets (act.Drain k) size cpus i u sound = drain_targets (slice_get (oldest_group u.buffer.kept) k) cpus
+act_targets (act.Take b) size cpus i u sound = take_targets b cpus
+act_targets (act.Drop b line) size cpus i u sound = if_some cpus _ ask.Private tt
+act_targets act.Poll size cpus i u sound = if_some cpus _ (ask.Bus (request.Poll i.takes_interrupts)) tt
+act_targets act.Tick size cpus i u sound = if_some cpus _ ask.Private tt
+
+now_targets : (now : Bool) (cpus : ℕ) (o : Option Ask2) → TargetsIf cpus o → TargetsIf cpus (cond now o None)
+now_targets true cpus o targets = targets
+now_targets false cpus o targets = tt
+
+ask_targets : (a : Act) (size cpus : ℕ) (i : Intent) (u : LocalMemory) → IsWantedSound size cpus i.wanted → TargetsIf cpus (ask_of a i u)
 unfolding ask_of
-ask_no_signal a size i u sound = now_no_signal (is_timely a i.finished u.since.filled) (act_ask a i u) (act_no_signal a size i u sound)
+ask_targets a size cpus i u sound = now_targets (is_timely a i.finished u.since.filled) cpus (act_ask a i u) (act_targets a size cpus i u sound)
 
 -- the wanted access of a seat is one of the table
-wanted_by_sound : (q : Sequencer) (s : Seat) (o : Option Wanted) → Stands q s → wanted s ≡ o → IsWantedSound s.size o
+wanted_by_sound : (q : Sequencer) (s : Seat) (o : Option Wanted) → Stands q s → wanted s ≡ o → IsWantedSound s.size s.cpus o
 wanted_by_sound q s None stands is = tt
 wanted_by_sound q s (Some w) stands is = wanted_sound q s w stands is
 
--- what lies in memory and is no signal may be asked
-request_may : (q : Request) (size cpus : ℕ) → IsRequestWithin size q → is_signal (ask.Bus q) ≡ false → MayAsk size cpus q
-request_may (request.Fill line) size cpus inside unasked = inside
-request_may (request.FillCode line) size cpus inside unasked = inside
-request_may (request.Drain line mask bytes) size cpus inside unasked = inside
-request_may (request.Locked address) size cpus inside unasked = inside
-request_may (request.Conditional address width value armed) size cpus inside unasked = (inside.2, (inside.0, inside.1))
-request_may (request.Signal target) size cpus inside unasked = cc
-request_may _ size cpus inside unasked = tt
+-- what lies in memory and goes to a processor that there is may be asked
+request_may : (q : Request) (size n cpus : ℕ) → n ≤ cpus → IsRequestWithin size q → Targets n (ask.Bus q) → MayAsk size cpus q
+request_may (request.Fill line) size n cpus few inside targets = inside
+request_may (request.FillCode line) size n cpus few inside targets = inside
+request_may (request.Drain line mask bytes) size n cpus few inside targets = inside
+request_may (request.Locked address) size n cpus few inside targets = inside
+request_may (request.Conditional address width value armed) size n cpus few inside targets = (inside.2, (inside.0, inside.1))
+request_may (request.Signal target) size n cpus few inside targets = omega (arith, few, targets)
+request_may _ size n cpus few inside targets = tt
 
 abbrev pub MayBoth : ℕ → ℕ → Ask2 → Type 0
 MayBoth size cpus ask.Private = Unit {0}
 MayBoth size cpus (ask.Bus q) = MayAsk size cpus q
 
-ask_may : (q : Ask2) (size cpus : ℕ) → IsAskWithin size q → is_signal q ≡ false → MayBoth size cpus q
-ask_may ask.Private size cpus inside unasked = tt
-ask_may (ask.Bus q) size cpus inside unasked = request_may q size cpus inside unasked
+ask_may : (q : Ask2) (size n cpus : ℕ) → n ≤ cpus → IsAskWithin size q → Targets n q → MayBoth size cpus q
+ask_may ask.Private size n cpus few inside targets = tt
+ask_may (ask.Bus q) size n cpus few inside targets = request_may q size n cpus few inside targets
 
-pub asked_may : (p : Processor) (a : Actor) (e : Act) (q : Ask2) (cpus : ℕ) → IsAt p a → request_of a e ≡ Ok q → IsAskWithin a.seat.size q → MayBoth a.seat.size cpus q
-asked_may p a e q cpus at is inside =
-    let sound : IsWantedSound a.seat.size (actor_intent a).wanted = wanted_by_sound p.sequencer a.seat (actor_intent a).wanted at.seat refl in
+pub asked_may : (p : Processor) (a : Actor) (e : Act) (q : Ask2) (cpus : ℕ) → IsAt p a → a.seat.cpus ≤ cpus → request_of a e ≡ Ok q → IsAskWithin a.seat.size q → MayBoth a.seat.size cpus q
+asked_may p a e q cpus at few is inside =
+    let n = a.seat.cpus in
+    let sound : IsWantedSound a.seat.size n (actor_intent a).wanted = wanted_by_sound p.sequencer a.seat (actor_intent a).wanted at.seat refl in
     let asked : ask_of e (actor_intent a) a.kept ≡ Some q = (was_asked a e q is).0 in
-    let unasked : is_signal q ≡ false = subst (λ (o : Option Ask2). HasNoSignal o) asked (ask_no_signal e a.seat.size (actor_intent a) a.kept sound) in
-    ask_may q a.seat.size cpus inside unasked
+    ask_may q a.seat.size n cpus few inside (subst (TargetsIf n) asked (ask_targets e a.seat.size n (actor_intent a) a.kept sound))
 
 -- the size and processors that the bus has
 pub may_ask_for : (q : Ask2) (b : State) (size : ℕ) → size ≡ length b.memory → MayBoth size (length b.ports) q → MayAskFor b q

@@ -48,7 +48,7 @@ use Rattle.axp_machine.specs.Ties.{AreAskedWithin, AreSeated, Ties, history, see
 use Rattle.axp_machine.proofs.AskLemmas.{IsLateMade, asked_may, may_ask_for, reply_fits}
 use Rattle.axp_machine.proofs.GrantLemmas.{IsGranted, granted_is, outcome_in}
 use Rattle.axp_machine.proofs.LateLineLemmas.{IsToldWithin, told_within}
-use Rattle.axp_machine.proofs.RoomLemmas.{console_few, seat_size, steps_few}
+use Rattle.axp_machine.proofs.RoomLemmas.{console_few, seat_over, steps_few}
 use Rattle.axp_machine.proofs.SpellingLemmas.{spells}
 
 -- the record that a granted event makes
@@ -90,12 +90,13 @@ has_room a e q ties is =
 -- the bus may be asked
 may_answer : (a : Inside) (e : Event) (q : Ask2) (p : Processor) → Ties a → IsGranted (seen a) e q → IsAskWithin a.image.size q → IsAt p (actor_of (seen a) (cpu_number e.cpu)) → MayAnswer a.bus e.cpu q
 may_answer a e q p ties is inside at =
-    let size = seat_size a.image (length a.processors.items) a.budget (history a) (cpu_number e.cpu) in
+    let over = seat_over a.image (length a.processors.items) a.budget (history a) (cpu_number e.cpu) in
+    let size = over.size in
     let room = has_room a e q ties is in
     record {
       below = subst (λ n. cpu_number e.cpu < n) (sym ties.ports) is.below;
       asks = may_ask_for q a.bus (actor_of (seen a) (cpu_number e.cpu)).seat.size (size ∙ sym ties.size)
-          (asked_may p (actor_of (seen a) (cpu_number e.cpu)) e.act q (length a.bus.ports) at is.asked (subst (λ n. IsAskWithin n q) (sym size) inside));
+          (asked_may p (actor_of (seen a) (cpu_number e.cpu)) e.act q (length a.bus.ports) at (subst (λ n. (actor_of (seen a) (cpu_number e.cpu)).seat.cpus ≤ n) (sym ties.ports) over.few) is.asked (subst (λ n. IsAskWithin n q) (sym size) inside));
       turns = room.turns;
       printed = room.printed;
     }
@@ -140,7 +141,8 @@ pub is_spelled : (a : Inside) (e : Event) (q : Ask2) (p : Processor) (r : Option
     → o ≡ outcome_of (actor_of (seen a) (cpu_number e.cpu)) e.act r → ShowsFitting o → Spells e o
 is_spelled a e q p r o ties is at answer gives fits =
     let x : Actor = actor_of (seen a) (cpu_number e.cpu) in
-    let size = seat_size a.image (length a.processors.items) a.budget (history a) (cpu_number e.cpu) in
+    let over = seat_over a.image (length a.processors.items) a.budget (history a) (cpu_number e.cpu) in
+    let size = over.size in
     let calls : List BusCall = (world_of (seen a)).calls in
     let told : IsToldWithin x.seat.size r = rw (size, answer) (told_within a.image.size (image_bytes a.image) calls (cpu_number e.cpu) q ties.asked) in
     let tidy : IsTidy x.kept.buffer = ((joined a.image (length a.processors.items) a.budget (history a) ties.valid ties.run).buffers (cpu_number e.cpu)).alike.tidy in

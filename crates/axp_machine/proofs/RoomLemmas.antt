@@ -1,6 +1,7 @@
 -- A history leaves room: the calls' turns, the console's bytes and the records are few.
-use Rattle.std.proofs.Common.{◌≡◌, ℕ, ◌+◌, ◌≤◌, Bool, true, false, cond, eqb, List, [], ◌∷◌, ◌++◌, length, Option, Some, None, arith, refl, ap, ◌∙◌, ⊎_elim, length-append}
+use Rattle.std.proofs.Common.{◌≡◌, ℕ, ◌+◌, ◌≤◌, Bool, true, false, cond, eqb, List, [], ◌∷◌, ◌++◌, length, Option, Some, None, arith, refl, sym, subst, ⊎_elim, length-append}
 use Rattle.std.specs.Prelude.{Result, Ok, Err}
+use Rattle.std.proofs.Math.Nat.{min-le_left}
 use Rattle.std.proofs.lemmas.Bool.{cases_Bool}
 use Rattle.axp_access.specs.declared.Act.{Act}
 use Rattle.axp_access.specs.declared.Act.TheVariants as act
@@ -8,10 +9,11 @@ use Rattle.axp_access.specs.declared.Record.{Record}
 use Rattle.axp_access.specs.declared.Wanted.{Wanted}
 use Rattle.axp_base.specs.Cpus.{cpu_number}
 use Rattle.axp_base.specs.declared.processors.Cpu.{Cpu}
+use Rattle.axp_base.specs.declared.processors.TheConstants.{MAX_CPUS}
 use Rattle.axp_cpu.specs.Actors.{Actor, actor_intent, advanced, moved_by, seat_after}
-use Rattle.axp_cpu.specs.Plans.{Plan, End, Want, Unbuilt, along}
+use Rattle.axp_cpu.specs.Plans.{Plan, End, Want, along}
 use Rattle.axp_cpu.specs.Rows.{group}
-use Rattle.axp_cpu.specs.Seats.{Seat, seat_at_plan}
+use Rattle.axp_cpu.specs.Seats.{Seat, plan_now, seat_at_plan}
 use Rattle.axp_cpu.specs.declared.refusals.Refusal.{Refusal}
 use Rattle.axp_image.specs.Contents.{Contents}
 use Rattle.axp_line.specs.declared.messages.Reply.{Reply}
@@ -25,36 +27,40 @@ use Rattle.axp_world.specs.Worlds.{World, after_event, asked, calls_for, image_b
 use Rattle.axp_world.proofs.PlayedRecords.{actor_other, actor_own}
 use Rattle.axp_bus.proofs.QueueLemmas.{printed_few}
 
--- a processor's memory has the image's size
-size-moved : (s : Seat) (vs : List ℕ) (p : Plan) → (seat_at_plan s vs p).size ≡ s.size
-size-moved s vs (End t) = refl
-size-moved s vs (Want t w k) = refl
-size-moved s vs Unbuilt = refl
+-- a processor's memory has the image's size, and it knows of no more processors than there are
+pub record IsOver (image : Contents) (cpus : ℕ) (s : Seat) : Type 0 where
+  pub size : s.size ≡ image.size
+  pub few : s.cpus ≤ cpus
 
-size_by : (o : Option Wanted) (r : Option Reply) (a : Actor) → (moved_by o r a).size ≡ a.seat.size
-size_by None r a = refl
-size_by (Some w) r a = size-moved a.seat (a.seat.values ++ value_of w a.kept r ∷ []) (along (a.seat.values ++ value_of w a.kept r ∷ []) (group a.seat.size a.seat.start))
+over_moved : (image : Contents) (cpus : ℕ) (s : Seat) (vs : List ℕ) (p : Plan) → IsOver image cpus s → IsOver image cpus (seat_at_plan s vs p)
+over_moved image cpus s vs (End t) over = record { size = over.size; few = over.few }
+over_moved image cpus s vs (Want t w k) over = record { size = over.size; few = over.few }
 
-size_after : (e : Act) (r : Option Reply) (a : Actor) → (seat_after e r a).size ≡ a.seat.size
-size_after act.Step r a = size_by (actor_intent a).wanted r a
-size_after act.Fill r a = refl
-size_after (act.Drain k) r a = refl
-size_after (act.Take b) r a = refl
-size_after (act.Drop b line) r a = refl
-size_after act.Poll r a = refl
-size_after act.Tick r a = refl
+over_by : (image : Contents) (cpus : ℕ) (o : Option Wanted) (r : Option Reply) (a : Actor) → IsOver image cpus a.seat → IsOver image cpus (moved_by o r a)
+over_by image cpus None r a over = over_moved image cpus a.seat a.seat.values (plan_now a.seat) over
+over_by image cpus (Some w) r a over =
+    let values : List ℕ = a.seat.values ++ value_of w a.kept r ∷ [] in over_moved image cpus a.seat values (along values (group a.seat.size a.seat.cpus a.seat.start)) over
 
-size_advanced : (a : Actor) (e : Act) (r : Option Reply) → (advanced a e r).seat.size ≡ a.seat.size
+over_after : (image : Contents) (cpus : ℕ) (e : Act) (r : Option Reply) (a : Actor) → IsOver image cpus a.seat → IsOver image cpus (seat_after e r a)
+over_after image cpus act.Step r a over = over_by image cpus (actor_intent a).wanted r a over
+over_after image cpus act.Fill r a over = over
+over_after image cpus (act.Drain k) r a over = over
+over_after image cpus (act.Take b) r a over = over
+over_after image cpus (act.Drop b line) r a over = over
+over_after image cpus act.Poll r a over = over
+over_after image cpus act.Tick r a over = over
+
+over_advanced : (image : Contents) (cpus : ℕ) (a : Actor) (e : Act) (r : Option Reply) → IsOver image cpus a.seat → IsOver image cpus (advanced a e r).seat
 unfolding advanced
-size_advanced a e r = size_after e r a
+over_advanced image cpus a e r over = over_after image cpus e r a over
 
-pub seat_size : (image : Contents) (cpus budget : ℕ) (h : List Record) (p : ℕ) → ((world image cpus budget h).actors p).seat.size ≡ image.size
-seat_size image cpus budget [] p = refl
-seat_size image cpus budget (r ∷ h) p =
+pub seat_over : (image : Contents) (cpus budget : ℕ) (h : List Record) (p : ℕ) → IsOver image cpus ((world image cpus budget h).actors p).seat
+seat_over image cpus budget [] p = record { size = refl; few = min-le_left cpus MAX_CPUS }
+seat_over image cpus budget (r ∷ h) p =
     let w : World = world image cpus budget h in
     ⊎_elim
-    (λ (own : eqb (cpu_number r.event.cpu) p ≡ true). ap (λ (a : Actor). a.seat.size) (actor_own image w r.event p own) ∙ size_advanced (w.actors p) r.event.act (reply_at image w r.event) ∙ seat_size image cpus budget h p)
-    (λ (other : eqb (cpu_number r.event.cpu) p ≡ false). ap (λ (a : Actor). a.seat.size) (actor_other image w r.event p other) ∙ seat_size image cpus budget h p)
+    (λ (own : eqb (cpu_number r.event.cpu) p ≡ true). subst (λ (a : Actor). IsOver image cpus a.seat) (sym (actor_own image w r.event p own)) (over_advanced image cpus (w.actors p) r.event.act (reply_at image w r.event) (seat_over image cpus budget h p)))
+    (λ (other : eqb (cpu_number r.event.cpu) p ≡ false). subst (λ (a : Actor). IsOver image cpus a.seat) (sym (actor_other image w r.event p other)) (seat_over image cpus budget h p))
     (cases_Bool (eqb (cpu_number r.event.cpu) p))
 
 -- no more steps than records

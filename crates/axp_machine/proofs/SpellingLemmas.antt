@@ -37,7 +37,7 @@ use Rattle.axp_lsu.specs.Fitting.{ReplyFits, FitsSize, IsTurn, ShowsFitting}
 use Rattle.axp_lsu.specs.Going as going
 use Rattle.axp_lsu.specs.Going.{drain_outcome, fill_outcome, outcome_by, place_by, poll_outcome, shown_by, stamp_or_none, step_outcome, success_by, take_outcome, turn_in}
 use Rattle.axp_lsu.specs.Keeping.{LocalMemory, copies_of, data_copies, has_dropped}
-use Rattle.axp_lsu.specs.Within.{IsConditional, IsCopyWithin, IsEntryWithin, IsInMemory, IsKeptWithin, IsLineWithin}
+use Rattle.axp_lsu.specs.Within.{IsCopyWithin, IsEntryWithin, IsInMemory, IsKeptWithin, IsLineWithin}
 use Rattle.axp_lsu.specs.declared.asks.Ask2.TheVariants as ask
 use Rattle.axp_lsu.proofs.AskRangeLemmas.{line_address_within, oldest_within}
 use Rattle.axp_lsu.proofs.ReplyFitLemmas.{act_fits, drain_fits, fits_if, fits_turn, none_fits}
@@ -50,35 +50,13 @@ use Rattle.axp_wbuf.proofs.Fronts.{oldest_at, oldest_inside}
 use Rattle.axp_wbuf.proofs.Pairs.{made_at}
 use Rattle.axp_machine.proofs.LateLineLemmas.{IsToldWithin}
 
--- what a wanted access is, by its kind: also of the kinds that the instruction table does not want yet
-record IsSignal (w : Wanted) : Type 0 where
-  address : w.address ≡ 0
-  size : w.size ≡ 0
-  target : w.value < MAX_CPUS
-
-record IsConsole (w : Wanted) : Type 0 where
-  address : w.address ≡ 0
-  size : w.size ≡ 0
-  byte : w.value < 2 ^ 8
-
+-- the access that a processor wants of a machine with the most processors
 abbrev IsWantedAs : ℕ → Kind → Wanted → Type 0
-IsWantedAs size kind.Fetch w = sound.IsFetched size w
-IsWantedAs size kind.Read w = IsInMemory size w
-IsWantedAs size kind.Write w = IsInMemory size w
-IsWantedAs size kind.Locked w = IsInMemory size w
-IsWantedAs size kind.Conditional w = IsConditional size w
-IsWantedAs size kind.Barrier w = sound.IsBare w
-IsWantedAs size kind.WriteBarrier w = sound.IsBare w
-IsWantedAs size kind.CodeBarrier w = sound.IsBare w
-IsWantedAs size kind.Signal w = IsSignal w
-IsWantedAs size kind.Console w = IsConsole w
-IsWantedAs size kind.Poll w = ⊥
+IsWantedAs size k w = IsSoundAs size MAX_CPUS k w
 
-sound_wants : (size : ℕ) (k : Kind) (w : Wanted) → IsSoundAs size k w → IsWantedAs size k w
-sound_wants size kind.Signal w is = absurd is
-sound_wants size kind.Console w is = absurd is
-sound_wants size kind.Poll w is = absurd is
-sound_wants size _ w is = is
+sound_wants : (size cpus : ℕ) (k : Kind) (w : Wanted) → cpus ≤ MAX_CPUS → IsSoundAs size cpus k w → IsWantedAs size k w
+sound_wants size cpus kind.Signal w few is = let target = is.value in record { bare = is.bare; value = omega (arith, few, target) }
+sound_wants size cpus _ w few is = is
 
 -- lines and addresses in memory
 line_printed : (size : ℕ) (line : Line) → size ≤ MAX_MEMORY → IsLineWithin size line → IsLine line
@@ -156,11 +134,11 @@ access_printed size kind.Write cpu w u r knows few turn wants fits =
     (data_printed size cpu kind.Write w _ false _ knows.most wants fits, (refl, record { least = number.0; most = omega (arith, few, number.1) }))
 access_printed size kind.Locked cpu w u r knows few turn wants fits = (data_printed size cpu kind.Locked w _ false _ knows.most wants fits, (refl, turn))
 access_printed size kind.Conditional cpu w u r knows few turn wants fits = (data_printed size cpu kind.Conditional w _ _ _ knows.most wants.within fits, turn)
-access_printed size kind.Barrier cpu w u r knows few turn wants fits = (record { address = wants.address; size = wants.size }, (wants.value, (refl, turn)))
-access_printed size kind.WriteBarrier cpu w u r knows few turn wants fits = (record { address = wants.address; size = wants.size }, (wants.value, (refl, refl)))
-access_printed size kind.CodeBarrier cpu w u r knows few turn wants fits = (record { address = wants.address; size = wants.size }, (wants.value, (refl, turn)))
-access_printed size kind.Signal cpu w u r knows few turn wants fits = (record { address = wants.address; size = wants.size }, (wants.target, (refl, turn)))
-access_printed size kind.Console cpu w u r knows few turn wants fits = (record { address = wants.address; size = wants.size }, (wants.byte, (refl, turn)))
+access_printed size kind.Barrier cpu w u r knows few turn wants fits = let value = wants.value in (record { address = wants.bare.address; size = wants.bare.size }, (omega (arith, value), (refl, turn)))
+access_printed size kind.WriteBarrier cpu w u r knows few turn wants fits = let value = wants.value in (record { address = wants.bare.address; size = wants.bare.size }, (omega (arith, value), (refl, refl)))
+access_printed size kind.CodeBarrier cpu w u r knows few turn wants fits = let value = wants.value in (record { address = wants.bare.address; size = wants.bare.size }, (omega (arith, value), (refl, turn)))
+access_printed size kind.Signal cpu w u r knows few turn wants fits = (record { address = wants.bare.address; size = wants.bare.size }, (wants.value, (refl, turn)))
+access_printed size kind.Console cpu w u r knows few turn wants fits = (record { address = wants.bare.address; size = wants.bare.size }, (wants.value, (refl, turn)))
 access_printed size kind.Poll cpu w u r knows few turn wants fits = absurd wants
 
 -- a wanted access is one of the instruction table's, and there is a step left for it
@@ -246,7 +224,7 @@ wanted_well p a (Some w) at is =
     let left = steps_left a.seat (unfinished a.seat w is) in
     let made = at.made in
     let budget = at.budget in
-    (sound_wants a.seat.size w.kind w (wanted_sound p.sequencer a.seat w at.seat is), omega (arith, left, made, budget))
+    (sound_wants a.seat.size a.seat.cpus w.kind w at.seat.few (wanted_sound p.sequencer a.seat w at.seat is), omega (arith, left, made, budget))
 
 -- one line of a trace spells an event and what its processor gives for it
 pub spells : (p : Processor) (a : Actor) (e : Event) (r : Option Reply) → IsAt p a → a.cpu ≡ e.cpu → IsTidy a.kept.buffer → ReplyFits (ask_of e.act (actor_intent a) a.kept) r → IsToldWithin a.seat.size r → ShowsFitting (outcome_of a e.act r) → Spells e (outcome_of a e.act r)

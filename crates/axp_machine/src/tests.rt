@@ -1,8 +1,11 @@
 ghost use Rattle.std.specs.Prelude.{◌≤◌};
 ghost use Rattle.axp_base.specs.declared.processors.TheConstants.{MAX_BUDGET};
 
+mod calls;
+mod entries;
 mod instructions;
 mod locks;
+mod runs;
 mod tables;
 mod translation;
 

@@ -3,6 +3,7 @@ use axp_io::{ListSink, TableDesk};
 use std::alloc::Global;
 use std::test::Fail;
 
+mod entries;
 mod locks;
 mod shared_memory;
 mod translation;

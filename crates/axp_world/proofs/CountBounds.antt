@@ -17,9 +17,9 @@ use Rattle.axp_lsu.specs.Going.{after_act}
 use Rattle.axp_lsu.specs.Keeping.{LocalMemory, has_dropped, with_drop}
 use Rattle.axp_lsu.specs.declared.asks.Ask2.{Ask2}
 use Rattle.axp_lsu.specs.declared.since.Since.{Since}
-use Rattle.axp_cpu.specs.Actors.{Actor, actor_intent, advanced, is_built, moved_by, request_of, seat_after, step_built}
-use Rattle.axp_cpu.specs.Plans.{Plan, End, Want, Unbuilt}
-use Rattle.axp_cpu.specs.Seats.{Seat, seat_at_plan}
+use Rattle.axp_cpu.specs.Actors.{Actor, actor_intent, advanced, is_built, moved_by, request_of, seat_after}
+use Rattle.axp_cpu.specs.Plans.{Plan, End, Want}
+use Rattle.axp_cpu.specs.Seats.{Seat, plan_now, seat_at_plan}
 use Rattle.axp_world.specs.Worlds.{reply_for}
 use Rattle.axp_world.proofs.AskedActs.{IsAllowed, allowed, is_asked}
 use Rattle.axp_world.proofs.CountCalls.{turned, turned_most}
@@ -89,14 +89,13 @@ pub record IsBounded (most : ℕ) (a : Actor) (t : Tally) (own : ℕ) : Type 0 w
 moved_steps : (s : Seat) (values : List ℕ) (plan : Plan) → ((seat_at_plan s values plan).budget ≡ s.budget) × ((seat_at_plan s values plan).steps ≡ s.steps + 1)
 moved_steps s values (End t) = (refl, refl)
 moved_steps s values (Want t w k) = (refl, refl)
-moved_steps s values Unbuilt = (refl, refl)
 
-step_moves : (o : Option Wanted) (r : Option Reply) (a : Actor) → step_built o a ≡ true → ((moved_by o r a).budget ≡ a.seat.budget) × ((moved_by o r a).steps ≡ a.seat.steps + 1)
-step_moves None r a built = cc
-step_moves (Some w) r a built = moved_steps a.seat _ _
+step_moves : (o : Option Wanted) (r : Option Reply) (a : Actor) → ((moved_by o r a).budget ≡ a.seat.budget) × ((moved_by o r a).steps ≡ a.seat.steps + 1)
+step_moves None r a = moved_steps a.seat a.seat.values (plan_now a.seat)
+step_moves (Some w) r a = moved_steps a.seat _ _
 
 seat_moves : (e : Act) (r : Option Reply) (a : Actor) → is_built e a ≡ true → ((seat_after e r a).budget ≡ a.seat.budget) × ((seat_after e r a).steps ≡ a.seat.steps + cond (is_step e) 1 0)
-seat_moves act.Step r a built = step_moves (actor_intent a).wanted r a built
+seat_moves act.Step r a built = step_moves (actor_intent a).wanted r a
 seat_moves act.Fill r a built = (refl, omega arith)
 seat_moves (act.Drain k) r a built = (refl, omega arith)
 seat_moves (act.Take b) r a built = (refl, omega arith)

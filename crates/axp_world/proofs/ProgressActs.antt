@@ -1,6 +1,6 @@
 -- No processor is stuck: one that is not finished has an act of progress, and one that is finished may drain.
 use Rattle.axp_cpu.specs.Following.{processors}
-use Rattle.axp_cpu.specs.Seats.{intent_of, is_finished, Seat, plan_now, wanted, wanted_by}
+use Rattle.axp_cpu.specs.Seats.{intent_of, is_at_boundary, is_finished, Seat, plan_now, wanted, wanted_by}
 use Rattle.axp_access.specs.declared.Intent.{Intent}
 use Rattle.axp_world.proofs.Agreement.{BanksAgree}
 use Rattle.axp_world.proofs.RunSeats.{legal_by, cpu_small}
@@ -98,7 +98,7 @@ own_goes_on image cpus budget r h valid is after s was =
     record {
       ready = act_ready r.event.act a t (image_bytes image) n r h s.ask asked own s.outcome (intents_in_line image cpus budget valid n h) banks;
       rooms = act_rooms r.event.act (actor_intent a) t a.kept s.ask asked.asks (are_few image cpus budget h is n) was.rooms;
-      wants = act_wants r.event.act a t s.ask asked was.wants;
+      wants = act_wants r.event.act a t was.wants;
     }
 
 goes_on : (image : Contents) (cpus budget : ℕ) (h : List Record) → IsValid image → IsPlayed image cpus budget h → (p : ℕ) → GoesOn ((world image cpus budget h).actors p)
@@ -116,14 +116,14 @@ goes_on image cpus budget (r ∷ h) valid played p =
     (cases_Bool (is_of p r))
 
 -- a processor that wants no access stands at a boundary
-at_boundary : (s : Seat) → is_finished s ≡ false → WantsWithin s → wanted s ≡ None → is_empty s.values ≡ true
+at_boundary : (s : Seat) → is_finished s ≡ false → WantsWithin s → wanted s ≡ None → is_at_boundary s ≡ true
 at_boundary s on within none =
     ⊎_elim
-    (λ (stands : is_empty s.values ≡ true). stands)
-    (λ (inside : is_empty s.values ≡ false).
+    (λ (stands : is_at_boundary s ≡ true). stands)
+    (λ (inside : is_at_boundary s ≡ false).
     let same : wanted_by (plan_now s) ≡ wanted s = ap (λ (b : Bool). cond b None (wanted_by (plan_now s))) (sym on) in
     absurd (false≢true (ap is_some (sym none) ∙ ap is_some (sym same) ∙ within inside)))
-    (cases_Bool (is_empty s.values))
+    (cases_Bool (is_at_boundary s))
 
 -- one that is not finished has an act of progress
 pub progress : (image : Contents) (cpus budget : ℕ) (h : List Record) (c : Cpu) → IsValid image → IsPlayed image cpus budget h → cpu_number c < cpus → ((processors image cpus budget).intent (cpu_number c) h).finished ≡ false

@@ -1,5 +1,6 @@
 -- What processors want along a history lies in lines, and names processors.
-use Rattle.std.proofs.Common.{true, false, ℕ, ◌%◌, ◌≤◌, ◌≡◌, ⊎_elim, eqb, cond, Bool, List, [], ◌∷◌, ◌++◌, Option, Some, None, refl, sym, subst, arith}
+use Rattle.std.proofs.Common.{true, false, ℕ, ◌%◌, ◌<◌, ◌≤◌, ◌≡◌, ⊎_elim, eqb, cond, Bool, List, [], ◌∷◌, ◌++◌, Option, Some, None, refl, sym, subst, arith}
+use Rattle.std.proofs.Math.Nat.{min-le_right}
 use Rattle.std.proofs.lemmas.Bool.{cases_Bool, cond_both}
 use Rattle.axp_base.specs.Cpus.{cpu_number, cpu_of}
 use Rattle.axp_base.proofs.MaskLemmas.{ends_in_quadword, ends_inside}
@@ -14,45 +15,47 @@ use Rattle.axp_cpu.specs.Following as following
 use Rattle.axp_cpu.specs.Following.{processors, seat_after_step, seat_in, value_shown}
 use Rattle.axp_model.specs.Records.{is_of}
 use Rattle.axp_world.proofs.Agreement.{world_intent}
-use Rattle.axp_cpu.specs.Plans.{Plan, End, Want, Unbuilt, along}
+use Rattle.axp_cpu.specs.Plans.{Plan, End, Want, along}
 use Rattle.axp_cpu.specs.Rows.{group}
-use Rattle.axp_cpu.specs.Seats.{Seat, first_seat, first_table, is_finished, seat_at_plan, plan_now, seat_after_value, wanted, wanted_by}
-use Rattle.axp_cpu.specs.Soundness.{IsSound, IsSoundAs}
-use Rattle.axp_cpu.proofs.PlanLemmas.{along_sound, group_sound}
-use Rattle.axp_cpu.proofs.SeatLemmas.{first_stands}
+use Rattle.axp_cpu.specs.Seats.{Seat, first_seat, is_finished, seat_at_plan, plan_now, wanted, wanted_by}
+use Rattle.axp_cpu.specs.Soundness.{IsSettled, IsSound, IsSoundAs}
+use Rattle.axp_cpu.proofs.PlanLemmas.{along_sound, arrived_settled, group_sound}
+use Rattle.axp_cpu.proofs.SeatLemmas.{first_settled}
 use Rattle.axp_image.specs.Contents.{Contents, IsValid}
-use Rattle.axp_image.specs.declared.limits.TheConstants.{INSTRUCTION_BYTES, MAX_MEMORY, PAGE_BYTES}
+use Rattle.axp_base.specs.declared.processors.TheConstants.{MAX_CPUS}
+use Rattle.axp_image.specs.declared.limits.TheConstants.{MAX_MEMORY, PAGE_BYTES}
 use Rattle.axp_line.specs.declared.messages.Reply.{Reply}
 use Rattle.axp_lsu.specs.Going.{value_of}
 use Rattle.axp_lsu.specs.Within.{IsInMemory}
 use Rattle.axp_model.specs.Processors.{AreInLine, IsInLine, WantsInLine}
 use Rattle.axp_access.specs.Kinds.{is_poll}
-use Rattle.axp_regs.specs.States.{pc_of}
 use Rattle.axp_regs.specs.declared.asks.Kind.{Kind}
 use Rattle.axp_regs.specs.declared.asks.Kind.TheVariants as kind
 use Rattle.axp_world.specs.Worlds.{World, cpu_or_first, reply_at, world}
 use Rattle.axp_world.proofs.PlayedRecords.{actor_other, actor_own}
 use Rattle.axp_world.proofs.RunOutcomes.{WantsTarget}
 
--- a processor's memory is of whole pages, and its program counter at an instruction
+-- a processor's memory is of whole pages, and its state is settled
 record IsSeated (s : Seat) : Type 0 where
   pages : s.size % PAGE_BYTES ≡ 0
   most : s.size ≤ MAX_MEMORY
-  pc : pc_of s.start.state % INSTRUCTION_BYTES ≡ 0
+  few : s.cpus ≤ MAX_CPUS
+  settled : IsSettled s.start.state
 
 first_seated : (image : Contents) (cpus budget n : ℕ) → IsValid image → IsSeated (first_seat image cpus budget n)
-first_seated image cpus budget n valid = record { pages = valid.whole_pages; most = valid.most_size; pc = (first_stands image cpus budget n image.size (first_table image n) refl refl valid).pc }
+first_seated image cpus budget n valid = record { pages = valid.whole_pages; most = valid.most_size; few = min-le_right cpus MAX_CPUS; settled = first_settled image n valid }
 
-moved_seated : (s : Seat) (values : List ℕ) (p : Plan) → IsSeated s → IsSound s.size p → IsSeated (seat_at_plan s values p)
-moved_seated s values (End t) seated sound = record { pages = seated.pages; most = seated.most; pc = sound }
-moved_seated s values (Want t w k) seated sound = record { pages = seated.pages; most = seated.most; pc = seated.pc }
-moved_seated s values Unbuilt seated sound = record { pages = seated.pages; most = seated.most; pc = seated.pc }
+moved_seated : (s : Seat) (values : List ℕ) (p : Plan) → IsSeated s → IsSound s.size s.cpus p → IsSeated (seat_at_plan s values p)
+moved_seated s values (End t) seated sound = record { pages = seated.pages; most = seated.most; few = seated.few; settled = arrived_settled s.size t seated.pages sound }
+moved_seated s values (Want t w k) seated sound = record { pages = seated.pages; most = seated.most; few = seated.few; settled = seated.settled }
+
+-- after a step that gave its group these values
+values_seated : (s : Seat) (values : List ℕ) → IsSeated s → IsSeated (seat_at_plan s values (along values (group s.size s.cpus s.start)))
+values_seated s values seated = moved_seated s values (along values (group s.size s.cpus s.start)) seated (along_sound s.size s.cpus values (group s.size s.cpus s.start) (group_sound s.size s.cpus s.start seated.pages seated.settled))
 
 wanted_seated : (o : Option Wanted) (r : Option Reply) (a : Actor) → IsSeated a.seat → IsSeated (moved_by o r a)
-wanted_seated None r a seated = seated
-wanted_seated (Some w) r a seated =
-    let values : List ℕ = a.seat.values ++ value_of w a.kept r ∷ [] in
-    moved_seated a.seat values (along values (group a.seat.size a.seat.start)) seated (along_sound a.seat.size values (group a.seat.size a.seat.start) (group_sound a.seat.size a.seat.start seated.pages seated.pc))
+wanted_seated None r a seated = values_seated a.seat a.seat.values seated
+wanted_seated (Some w) r a seated = values_seated a.seat (a.seat.values ++ value_of w a.kept r ∷ []) seated
 
 act_seated : (e : Act) (r : Option Reply) (a : Actor) → IsSeated a.seat → IsSeated (seat_after e r a)
 act_seated act.Step r a seated = wanted_seated (actor_intent a).wanted r a seated
@@ -85,51 +88,52 @@ memory_in_line size w most inside =
 bare_in_line : (a s : ℕ) → a ≡ 0 → s ≡ 0 → IsInLine a s
 bare_in_line a s address size = record { quadword = omega (arith, address, size); within = omega (arith, address, size); addressed = omega (arith, address) }
 
-kind_in_line : (k : Kind) (size : ℕ) (w : Wanted) → size ≤ MAX_MEMORY → IsSoundAs size k w → IsInLine w.address w.size
-kind_in_line kind.Fetch size w most sound = memory_in_line size w most sound.inside
-kind_in_line kind.Read size w most sound = memory_in_line size w most sound
-kind_in_line kind.Write size w most sound = memory_in_line size w most sound
-kind_in_line kind.Locked size w most sound = memory_in_line size w most sound
-kind_in_line kind.Conditional size w most sound = memory_in_line size w most sound.within
-kind_in_line kind.Barrier size w most sound = bare_in_line w.address w.size sound.address sound.size
-kind_in_line kind.WriteBarrier size w most sound = bare_in_line w.address w.size sound.address sound.size
-kind_in_line kind.CodeBarrier size w most sound = bare_in_line w.address w.size sound.address sound.size
-kind_in_line _ size w most sound = absurd sound
+kind_in_line : (k : Kind) (size cpus : ℕ) (w : Wanted) → size ≤ MAX_MEMORY → IsSoundAs size cpus k w → IsInLine w.address w.size
+kind_in_line kind.Fetch size cpus w most sound = memory_in_line size w most sound.inside
+kind_in_line kind.Read size cpus w most sound = memory_in_line size w most sound
+kind_in_line kind.Write size cpus w most sound = memory_in_line size w most sound
+kind_in_line kind.Locked size cpus w most sound = memory_in_line size w most sound
+kind_in_line kind.Conditional size cpus w most sound = memory_in_line size w most sound.within
+kind_in_line kind.Barrier size cpus w most sound = bare_in_line w.address w.size sound.bare.address sound.bare.size
+kind_in_line kind.WriteBarrier size cpus w most sound = bare_in_line w.address w.size sound.bare.address sound.bare.size
+kind_in_line kind.CodeBarrier size cpus w most sound = bare_in_line w.address w.size sound.bare.address sound.bare.size
+kind_in_line kind.Signal size cpus w most sound = bare_in_line w.address w.size sound.bare.address sound.bare.size
+kind_in_line kind.Console size cpus w most sound = bare_in_line w.address w.size sound.bare.address sound.bare.size
+kind_in_line kind.Poll size cpus w most sound = absurd sound
 
 -- and a signal names a processor
-kind_target : (k : Kind) (size : ℕ) (w : Wanted) → w.kind ≡ k → IsSoundAs size k w → WantsTarget (Some w)
-kind_target kind.Signal size w is sound = absurd sound
-kind_target kind.Fetch size w is sound = rw is tt
-kind_target kind.Read size w is sound = rw is tt
-kind_target kind.Write size w is sound = rw is tt
-kind_target kind.Locked size w is sound = rw is tt
-kind_target kind.Conditional size w is sound = rw is tt
-kind_target kind.Barrier size w is sound = rw is tt
-kind_target kind.WriteBarrier size w is sound = rw is tt
-kind_target kind.CodeBarrier size w is sound = rw is tt
-kind_target kind.Console size w is sound = rw is tt
-kind_target kind.Poll size w is sound = rw is tt
+kind_target : (k : Kind) (size cpus : ℕ) (w : Wanted) → cpus ≤ MAX_CPUS → w.kind ≡ k → IsSoundAs size cpus k w → WantsTarget (Some w)
+kind_target kind.Signal size cpus w few is sound = let below : w.value < MAX_CPUS = omega (arith, sound.value, few) in rw is below
+kind_target kind.Fetch size cpus w few is sound = rw is tt
+kind_target kind.Read size cpus w few is sound = rw is tt
+kind_target kind.Write size cpus w few is sound = rw is tt
+kind_target kind.Locked size cpus w few is sound = rw is tt
+kind_target kind.Conditional size cpus w few is sound = rw is tt
+kind_target kind.Barrier size cpus w few is sound = rw is tt
+kind_target kind.WriteBarrier size cpus w few is sound = rw is tt
+kind_target kind.CodeBarrier size cpus w few is sound = rw is tt
+kind_target kind.Console size cpus w few is sound = rw is tt
+kind_target kind.Poll size cpus w few is sound = rw is tt
 
 -- and none is a Poll
 abbrev pub wants_poll : Option Wanted → Bool
 wants_poll None = false
 wants_poll (Some w) = is_poll w.kind
 
-kind_no_poll : (k : Kind) (size : ℕ) (w : Wanted) → IsSoundAs size k w → is_poll k ≡ false
-kind_no_poll kind.Poll size w sound = absurd sound
-kind_no_poll _ size w sound = refl
+kind_no_poll : (k : Kind) (size cpus : ℕ) (w : Wanted) → IsSoundAs size cpus k w → is_poll k ≡ false
+kind_no_poll kind.Poll size cpus w sound = absurd sound
+kind_no_poll _ size cpus w sound = refl
 
 -- all of this of what is wanted, if anything
 abbrev WantsWell : Option Wanted → Type 0
 WantsWell o = WantsInLine o × WantsTarget o × (wants_poll o ≡ false)
 
-plan_wants : (size : ℕ) (p : Plan) → size ≤ MAX_MEMORY → IsSound size p → WantsWell (wanted_by p)
-plan_wants size (End t) most sound = (tt, tt, refl)
-plan_wants size (Want t w k) most sound = (kind_in_line w.kind size w most sound.0, kind_target w.kind size w refl sound.0, kind_no_poll w.kind size w sound.0)
-plan_wants size Unbuilt most sound = (tt, tt, refl)
+plan_wants : (size cpus : ℕ) (p : Plan) → size ≤ MAX_MEMORY → cpus ≤ MAX_CPUS → IsSound size cpus p → WantsWell (wanted_by p)
+plan_wants size cpus (End t) most few sound = (tt, tt, refl)
+plan_wants size cpus (Want t w k) most few sound = (kind_in_line w.kind size cpus w most sound.0, kind_target w.kind size cpus w few refl sound.0, kind_no_poll w.kind size cpus w sound.0)
 
 seat_wants : (s : Seat) → IsSeated s → WantsWell (wanted s)
-seat_wants s seated = by_finished (is_finished s) (wanted_by (plan_now s)) (plan_wants s.size (plan_now s) seated.most (along_sound s.size s.values (group s.size s.start) (group_sound s.size s.start seated.pages seated.pc))) where
+seat_wants s seated = by_finished (is_finished s) (wanted_by (plan_now s)) (plan_wants s.size s.cpus (plan_now s) seated.most seated.few (along_sound s.size s.cpus s.values (group s.size s.cpus s.start) (group_sound s.size s.cpus s.start seated.pages seated.settled))) where
   by_finished : (b : Bool) (o : Option Wanted) → WantsWell o → WantsWell (cond b None o)
   by_finished true o wants = (tt, tt, refl)
   by_finished false o wants = wants
@@ -144,13 +148,9 @@ pub intents_want_no_poll : (image : Contents) (cpus budget : ℕ) → IsValid im
 intents_want_no_poll image cpus budget valid p h = (seat_wants ((world image cpus budget h).actors p).seat (seated image cpus budget valid h p)).2
 
 -- the same by the records alone
-step_seated : (s : Seat) (v : ℕ) → IsSeated s → IsSeated (seat_after_value s v)
-step_seated s v seated =
-    let values : List ℕ = s.values ++ v ∷ [] in
-    moved_seated s values (along values (group s.size s.start)) seated (along_sound s.size values (group s.size s.start) (group_sound s.size s.start seated.pages seated.pc))
-
 shown_seated : (o : Outcome) (s : Seat) → IsSeated s → IsSeated (seat_after_step o s)
-shown_seated (outcome.Access a) s seated = step_seated s (value_shown a) seated
+shown_seated (outcome.Access a) s seated = values_seated s (s.values ++ value_shown a ∷ []) seated
+shown_seated outcome.NoAccess s seated = values_seated s s.values seated
 shown_seated _ s seated = seated
 
 record_seated : (e : Act) (o : Outcome) (s : Seat) → IsSeated s → IsSeated (following.seat_after e o s)

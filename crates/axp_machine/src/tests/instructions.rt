@@ -1,3 +1,4 @@
+use super::runs::first_other;
 use super::tables::{Expected, both, first_difference, register, start};
 use super::*;
 
@@ -17,17 +18,6 @@ fn runs(machine: &mut Machine, cpu: Cpu, steps: u32) -> bool {
         });
     }
     legal.is_ok()
-}
-
-/// The first of these registers that has another value; `None` where none has.
-fn first_other(machine: &Machine, cpu: Cpu, values: &[(u8, u64)]) -> Option<u8> {
-    for n in 0..values.len() {
-        let (number, value) = values[n];
-        if register(machine, cpu, number) != Some(value) {
-            return Some(number);
-        }
-    }
-    None
 }
 
 /// RPCC R1; TRAPB; RPCC R2; RPCC R31; halt: the fetch of RPCC itself is counted.

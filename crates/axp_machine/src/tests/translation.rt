@@ -1,5 +1,5 @@
-//! Page tables: what a refused walk leaves, and how many translations are kept.
-use super::tables::{Expected, both, first_difference, register};
+//! Page tables: how many translations are kept.
+use super::runs::{goes_by, stands};
 use super::*;
 
 /// Eight pages of memory, with the page table of level 1 at 0x6000 and three segments: the program
@@ -24,7 +24,7 @@ const TO_PAGE: u64 = 0x0000_0007_0000_1111;
 
 /// Two processors over a program and page tables that lead so many pages, from the virtual address
 /// 0 on, to one frame; each has a budget of 300 steps.
-fn start_paged(alloc: Global, words: &[u32], first: u64, pages: u64) -> Result<Machine, Fail> {
+fn start_paged(alloc: Global, words: &[u32], pages: u64) -> Result<Machine, Fail> {
     let mut file = Vec::from_slice(alloc, &PAGED_HEAD)?;
     for (address, length) in [
         (0x2000, (words.len() as u64).wrapping_mul(4)),
@@ -39,47 +39,13 @@ fn start_paged(alloc: Global, words: &[u32], first: u64, pages: u64) -> Result<M
     for word in words {
         file.extend_from_slice(&word.to_le_bytes())?;
     }
-    file.extend_from_slice(&first.to_le_bytes())?;
+    file.extend_from_slice(&TO_SECOND.to_le_bytes())?;
     file.extend_from_slice(&TO_THIRD.to_le_bytes())?;
     for _ in 0..pages {
         file.extend_from_slice(&TO_PAGE.to_le_bytes())?;
     }
     let image = read_image(alloc, file.as_slice())?.ok_or("the file is an image")?;
     Ok(Machine::load(alloc, &image, 2, 300)?)
-}
-
-/// The physical address of a processor's next access, which it makes, with the fill that it needs;
-/// `None` where no access is made.
-fn next_address(machine: &mut Machine, cpu: Cpu) -> Option<u64> {
-    let step = Event {
-        cpu,
-        act: Act::Step,
-    };
-    let fill = Event {
-        cpu,
-        act: Act::Fill,
-    };
-    let stepped = match machine.event(step) {
-        Err(Refusal::NotLegal) => match machine.event(fill) {
-            Ok(_) => machine.event(step),
-            Err(refusal) => Err(refusal),
-        },
-        other => other,
-    };
-    match stepped {
-        Ok(Outcome::Access(access)) => Some(access.address),
-        _ => None,
-    }
-}
-
-/// Whether a processor's next accesses are at these addresses.
-fn goes_by(machine: &mut Machine, cpu: Cpu, addresses: &[u64]) -> bool {
-    for address in addresses {
-        if next_address(machine, cpu) != Some(*address) {
-            return false;
-        }
-    }
-    true
 }
 
 /// Whether a processor loads from so many pages, one after the other, each with a walk.
@@ -93,46 +59,6 @@ fn walks_to_each(machine: &mut Machine, cpu: Cpu, pages: u64) -> bool {
         entry = entry.wrapping_add(8);
     }
     true
-}
-
-/// Whether a processor made so many steps and stands there, halted with this code or not at all.
-fn stands(machine: &Machine, cpu: Cpu, steps: u32, pc: u64, halted: Option<u8>) -> bool {
-    cpu.number() < machine.cpus()
-        && machine.steps(cpu) == steps
-        && machine.pc(cpu) == pc
-        && machine.halted(cpu) == halted
-}
-
-/// LDA R10, 0x2000(R31), and LDQ R2, 0(R10) or JMP R31, (R10): the entry of level 1 is not valid, or
-/// leads to a table that begins at the size of memory. The step that reads it is refused, and
-/// refused again: the processor stays where it was.
-#[test]
-fn refused_walk_changes_nothing(rt: HostRuntime) -> Result<(), Fail> {
-    let (a, b) = both()?;
-    for (word, first, pc) in [
-        (0xA44A_0000, 0x0000_0005_0000_0000, 0xFFFF_FC00_0000_2004),
-        (0xA44A_0000, 0x0000_0008_0000_0001, 0xFFFF_FC00_0000_2004),
-        (0x6BEA_0000, 0x0000_0005_0000_0000, 0x0000_0000_0000_2000),
-        (0x6BEA_0000, 0x0000_0008_0000_0001, 0x0000_0000_0000_2000),
-    ] {
-        let mut machine = start_paged(rt.alloc(), &[0x215F_2000, word], first, 2)?;
-        let events = [
-            (a, Act::Fill, Expected::CodeFilled),
-            (a, Act::Step, Expected::Word(0x2000, 0x215F_2000)),
-            (a, Act::Step, Expected::Word(0x2004, word)),
-            (a, Act::Step, Expected::NotLegal), // the entry's line is not held
-            (a, Act::Fill, Expected::LineFilled(0x6000)),
-            (a, Act::Step, Expected::NotBuilt),
-            (a, Act::Step, Expected::NotBuilt),
-            (b, Act::Fill, Expected::CodeFilled),
-        ];
-        assert_eq!(rt; first_difference(&mut machine, &events), None);
-        assert_eq!(rt; machine.events(), 5);
-        assert!(rt; stands(&machine, a, 2, pc, None));
-        assert_eq!(rt; register(&machine, a, 2), Some(0));
-        assert_eq!(rt; register(&machine, a, 10), Some(0x2000));
-    }
-    Ok(())
 }
 
 /// LDA R11, pages(R31); LDQ R2, 0(R10); LDA R10, 0x2000(R10); SUBQ R11, 1, R11; BNE R11, to the
@@ -176,7 +102,7 @@ fn translations_of_32_pages_are_kept(rt: HostRuntime) -> Result<(), Fail> {
         (33_u16, LOAD_LAST, &[0xE000][..], 268, 277),
     ] {
         let words = page_loop(pages, load);
-        let mut machine = start_paged(rt.alloc(), &words, TO_SECOND, u64::from(pages))?;
+        let mut machine = start_paged(rt.alloc(), &words, u64::from(pages))?;
         assert!(rt; goes_by(&mut machine, a, &[0x2000]));
         assert!(rt; walks_to_each(&mut machine, a, u64::from(pages)));
         assert!(rt; goes_by(&mut machine, a, &[0x2014]));

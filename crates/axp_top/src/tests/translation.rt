@@ -1,5 +1,5 @@
 //! Accesses by virtual addresses: walks through the page tables, and translations that are kept.
-use super::worked::{Layout, PLAIN, Worked, holds, holds_with};
+use super::worked::{Layout, PLAIN, Worked, holds};
 use crate::Status;
 use std::test::Fail;
 
@@ -21,16 +21,26 @@ const ENTRY_IS_WANTED: Worked = Worked {
     status: Status::NotLegal { event: 3 },
 };
 
-/// Its line is filled into the data bank, and the entry is not valid.
+/// Its line is filled into the data bank. The entry is not valid: the frame is saved, with the
+/// virtual address 0 as the program counter. Of the entry that is raised no address is set, so the
+/// processor comes to the virtual address 0 again.
 const ENTRY_IS_HELD: Worked = Worked {
     words: &JUMP_TO_ZERO,
     layout: &PLAIN,
     budget: "20",
     start: JUMPED,
     rest: "0 fill : d0 00000000 @0\n\
-        axp: not built at event 4\n",
-    more: "0 step\n",
-    status: Status::NotBuilt { event: 4 },
+        0 step : r 00000000 8 0000000000000000 @0\n\
+        0 step : w 00003FD0 8 0000000000000007 e1\n\
+        0 step : w 00003FD8 8 0000000000000000 e1\n\
+        0 step : w 00003FE0 8 0000000000000000 e1\n\
+        0 step : w 00003FE8 8 0000000000000000 e1\n\
+        0 step : w 00003FF0 8 0000000000000000 e1\n\
+        0 step : w 00003FF8 8 0000000000000000 e1\n\
+        0 step : r 00000000 8 0000000000000000 @0\n\
+        axp: incomplete after event 11\n",
+    more: "",
+    status: Status::Incomplete { event: 11 },
 };
 
 /// Page tables that lead the virtual page at 0x2000 to the frame at 0xE000: those of level 1 at
@@ -84,33 +94,6 @@ const JUMP: &[u32] = &[0x215F_2000, 0x6BEA_0000];
 const JUMP_FETCHED: &str = "0 fill : i 00002000 @0\n\
     0 step : i 00002000 215F2000 @0\n\
     0 step : i 00002004 6BEA0000 @0\n";
-
-/// What is printed behind the two fetches where the entry of level 1 leads to what is not built.
-const FIRST: (&str, u32) = (
-    "0 fill : d0 00006000 @0\n\
-        axp: not built at event 5\n",
-    5,
-);
-
-/// The same of the entry of level 2.
-const SECOND: (&str, u32) = (
-    "0 fill : d0 00006000 @0\n\
-        0 step : r 00006000 8 0000000500000001 @0\n\
-        0 fill : d0 0000A000 @0\n\
-        axp: not built at event 7\n",
-    7,
-);
-
-/// The same of the entry of level 3.
-const THIRD: (&str, u32) = (
-    "0 fill : d0 00006000 @0\n\
-        0 step : r 00006000 8 0000000500000001 @0\n\
-        0 fill : d0 0000A000 @0\n\
-        0 step : r 0000A000 8 0000000600000001 @0\n\
-        0 fill : d0 0000C000 @0\n\
-        axp: not built at event 9\n",
-    9,
-);
 
 /// Two loads of a page: LDQ R2, 0(R10); LDQ R3, 8(R10); halt. The second one makes no walk.
 const PAGE_IS_KEPT: Worked = Worked {
@@ -293,9 +276,9 @@ const CONDITIONAL_STORES: Worked = Worked {
     status: Status::Incomplete { event: 12 },
 };
 
-/// With KRE alone the load-locked is made, and the store-conditional is refused with its fetch: its
-/// translation is kept, and has no right to it.
-const CONDITIONAL_IS_REFUSED: Worked = Worked {
+/// With KRE alone the load-locked is made, and the store-conditional has a fault with its fetch: its
+/// translation is kept, and has no right to it. The frame saves the address of the instruction.
+const CONDITIONAL_HAS_A_FAULT: Worked = Worked {
     words: LOCKED,
     layout: &Layout {
         quadwords: &[
@@ -314,9 +297,12 @@ const CONDITIONAL_IS_REFUSED: Worked = Worked {
         0 fill : d0 0000C000 @0\n\
         0 step : r 0000C008 8 0000000700000101 @0\n\
         0 step : l 0000E000 8 0000000000000000 @0\n\
-        axp: not built at event 11\n",
-    more: "0 step\n",
-    status: Status::NotBuilt { event: 11 },
+        0 step : i 00002008 BC4A0000 @0\n\
+        0 step : w 00007FD0 8 0000000000000007 e1\n\
+        0 step : w 00007FD8 8 FFFFFC0000002008 e1\n\
+        axp: incomplete after event 13\n",
+    more: "",
+    status: Status::Incomplete { event: 13 },
 };
 
 /// With KWE alone a store-conditional is made; it fails, since nothing is locked.
@@ -425,7 +411,7 @@ fn accesses_need_their_own_rights_alone(rt: HostRuntime) -> Result<(), Fail> {
         &STORE_IS_ALLOWED,
         &FETCH_IS_ALLOWED,
         &CONDITIONAL_STORES,
-        &CONDITIONAL_IS_REFUSED,
+        &CONDITIONAL_HAS_A_FAULT,
         &CONDITIONAL_IS_ALLOWED,
     ] {
         assert!(rt; holds(rt.alloc(), worked)?);
@@ -437,143 +423,6 @@ fn accesses_need_their_own_rights_alone(rt: HostRuntime) -> Result<(), Fail> {
 fn fetches_have_a_buffer_of_their_own(rt: HostRuntime) -> Result<(), Fail> {
     for worked in [&LOAD_AFTER_FETCH, &FETCH_AFTER_LOAD] {
         assert!(rt; holds(rt.alloc(), worked)?);
-    }
-    Ok(())
-}
-
-/// A walk ends at the first entry that leads to a fault or out of memory, and nothing of it is
-/// printed.
-#[test]
-fn walks_are_refused_at_the_entry_that_ends_them(rt: HostRuntime) -> Result<(), Fail> {
-    const TO_SECOND: u64 = 0x0000_0005_0000_0001;
-    const TO_THIRD: u64 = 0x0000_0006_0000_0001;
-    const TO_PAGE: u64 = 0x0000_0007_0000_1111;
-    let load = (LOAD, LOAD_FETCHED);
-    let store = (STORE, STORE_FETCHED);
-    let locked = (LOCKED, LOCKED_FETCHED);
-    let conditional = (CONDITIONAL, CONDITIONAL_FETCHED);
-    let jump = (JUMP, JUMP_FETCHED);
-    for ((words, start), first, second, third, (rest, event)) in [
-        // of level 1: V is 0, though all other bits are set; the next entry is at the size of memory
-        (load, 0x0000_0005_FFFF_FFFE, TO_THIRD, TO_PAGE, FIRST),
-        (load, 0x0000_0008_0000_0001, TO_THIRD, TO_PAGE, FIRST),
-        (store, 0x0000_0005_0000_0000, TO_THIRD, TO_PAGE, FIRST),
-        (jump, 0x0000_0005_0000_0000, TO_THIRD, TO_PAGE, FIRST),
-        // of level 2: the same
-        (load, TO_SECOND, 0x0000_0006_FFFF_FFFE, TO_PAGE, SECOND),
-        (load, TO_SECOND, 0x0000_0008_0000_0001, TO_PAGE, SECOND),
-        (store, TO_SECOND, 0x0000_0006_0000_0000, TO_PAGE, SECOND),
-        (jump, TO_SECOND, 0x0000_0006_0000_0000, TO_PAGE, SECOND),
-        // of level 3: V is 0; the page is at the size of memory
-        (load, TO_SECOND, TO_THIRD, 0x0000_0007_0000_1110, THIRD),
-        (load, TO_SECOND, TO_THIRD, 0x0000_0008_0000_1111, THIRD),
-        (jump, TO_SECOND, TO_THIRD, 0x0000_0007_0000_1110, THIRD),
-        (jump, TO_SECOND, TO_THIRD, 0x0000_0008_0000_1111, THIRD),
-        // a load without KRE, and with FOR
-        (load, TO_SECOND, TO_THIRD, 0x0000_0007_0000_3211, THIRD),
-        (load, TO_SECOND, TO_THIRD, 0x0000_0007_0000_1113, THIRD),
-        (locked, TO_SECOND, TO_THIRD, 0x0000_0007_0000_3211, THIRD),
-        (locked, TO_SECOND, TO_THIRD, 0x0000_0007_0000_1113, THIRD),
-        // a store without KWE, and with FOW
-        (store, TO_SECOND, TO_THIRD, 0x0000_0007_0000_2311, THIRD),
-        (store, TO_SECOND, TO_THIRD, 0x0000_0007_0000_1115, THIRD),
-        (
-            conditional,
-            TO_SECOND,
-            TO_THIRD,
-            0x0000_0007_0000_2311,
-            THIRD,
-        ),
-        (
-            conditional,
-            TO_SECOND,
-            TO_THIRD,
-            0x0000_0007_0000_1115,
-            THIRD,
-        ),
-        // a fetch without KRE, and with FOE
-        (jump, TO_SECOND, TO_THIRD, 0x0000_0007_0000_3211, THIRD),
-        (jump, TO_SECOND, TO_THIRD, 0x0000_0007_0000_1119, THIRD),
-    ] {
-        let worked = Worked {
-            words,
-            layout: &PAGED,
-            budget: "20",
-            start,
-            rest,
-            more: "0 step\n",
-            status: Status::NotBuilt { event },
-        };
-        let quadwords = [(0x6000, first), (0xA000, second), (0xC008, third)];
-        assert!(rt; holds_with(rt.alloc(), &worked, &quadwords)?);
-    }
-    Ok(())
-}
-
-/// An address that is not a multiple of the datum's size, has a fault at once, or leads out of
-/// memory is refused with no read of an entry: that of a load with its fetch, that of an instruction
-/// with the step behind the jump.
-#[test]
-fn addresses_are_refused_ahead_of_a_walk(rt: HostRuntime) -> Result<(), Fail> {
-    let cases: [(&'static [u32], &'static str, &'static str, u32); 5] = [
-        // LDQ R2, 1(R10), in a page that may be loaded from
-        (
-            &[0x215F_2000, 0xA44A_0001],
-            "0 fill : i 00002000 @0\n\
-                0 step : i 00002000 215F2000 @0\n",
-            "axp: not built at event 3\n",
-            3,
-        ),
-        // LDA R10, 1(R31); SLL R10, 42, R10; LDQ R2, 0(R10): bits 63:43 do not equal bit 42
-        (
-            &[0x215F_0001, 0x4945_572A, 0xA44A_0000],
-            "0 fill : i 00002000 @0\n\
-                0 step : i 00002000 215F0001 @0\n\
-                0 step : i 00002004 4945572A @0\n",
-            "axp: not built at event 4\n",
-            4,
-        ),
-        // JMP R31, (R10) in its place
-        (
-            &[0x215F_0001, 0x4945_572A, 0x6BEA_0000],
-            "0 fill : i 00002000 @0\n\
-                0 step : i 00002000 215F0001 @0\n\
-                0 step : i 00002004 4945572A @0\n\
-                0 step : i 00002008 6BEA0000 @0\n",
-            "axp: not built at event 5\n",
-            5,
-        ),
-        // LDA R10, 0x4000(R30); LDQ R2, 0x4000(R10): the kernel segment's address of the size of
-        // memory
-        (
-            &[0x215E_4000, 0xA44A_4000],
-            "0 fill : i 00002000 @0\n\
-                0 step : i 00002000 215E4000 @0\n",
-            "axp: not built at event 3\n",
-            3,
-        ),
-        // LDA R10, 0x4000(R10); JMP R31, (R10) in its place
-        (
-            &[0x215E_4000, 0x214A_4000, 0x6BEA_0000],
-            "0 fill : i 00002000 @0\n\
-                0 step : i 00002000 215E4000 @0\n\
-                0 step : i 00002004 214A4000 @0\n\
-                0 step : i 00002008 6BEA0000 @0\n",
-            "axp: not built at event 5\n",
-            5,
-        ),
-    ];
-    for (words, start, rest, event) in cases {
-        let worked = Worked {
-            words,
-            layout: &PAGED,
-            budget: "20",
-            start,
-            rest,
-            more: "0 step\n",
-            status: Status::NotBuilt { event },
-        };
-        assert!(rt; holds(rt.alloc(), &worked)?);
     }
     Ok(())
 }

@@ -48,12 +48,7 @@ pub struct Worked<'a> {
 
 /// Whether what is printed of a list is what was worked out.
 pub fn holds(alloc: Global, worked: &Worked) -> Result<bool, Fail> {
-    holds_with(alloc, worked, worked.layout.quadwords)
-}
-
-/// Whether it is where the image has these quadwords in place of its layout's.
-pub fn holds_with(alloc: Global, worked: &Worked, quadwords: &[(u64, u64)]) -> Result<bool, Fail> {
-    let image = image(alloc, worked.words, worked.layout, quadwords)?;
+    let image = image(alloc, worked.words, worked.layout)?;
     let events = events(alloc, worked)?;
     let text = text(alloc, worked)?;
     let call = replayed(worked.status, 2);
@@ -67,12 +62,8 @@ pub fn holds_with(alloc: Global, worked: &Worked, quadwords: &[(u64, u64)]) -> R
 }
 
 /// The image file: a segment with the program, and one with each quadword.
-fn image(
-    alloc: Global,
-    words: &[u32],
-    layout: &Layout,
-    quadwords: &[(u64, u64)],
-) -> Result<Vec<u8>, Fail> {
+fn image(alloc: Global, words: &[u32], layout: &Layout) -> Result<Vec<u8>, Fail> {
+    let quadwords = layout.quadwords;
     let mut file = Vec::new(alloc);
     let segments = (quadwords.len() as u64).wrapping_add(1).to_le_bytes();
     file.extend_from_slice(&[0x41, 0x58, 0x50, 0x49, 1, 0, segments[0], segments[1]])?;

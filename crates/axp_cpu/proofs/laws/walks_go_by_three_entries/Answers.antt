@@ -1,8 +1,5 @@
-use Rattle.axp_cpu.proofs.TranslationLemmas.{first_read, page_reached, second_read, third_read}
+use Rattle.axp_cpu.proofs.TranslationLemmas.{page_reached, second_read, third_read}
 use Rattle.axp_cpu.proofs.laws.walks_go_by_three_entries.Goals as goal
-
-pub returns-clause-first : goal.returns-clause-first
-returns-clause-first c = first_read
 
 pub returns-clause-second : goal.returns-clause-second
 returns-clause-second c = second_read

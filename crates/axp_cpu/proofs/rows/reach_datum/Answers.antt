@@ -1,15 +1,9 @@
-use Rattle.std.proofs.Common.{◌∙◌, ap}
-use Rattle.axp_cpu.specs.CpuStates.{mode_of}
+use Rattle.std.proofs.Common.{◌∙◌, ◌%◌, ap, sym}
 use Rattle.axp_cpu.specs.Phases.{continued}
-use Rattle.axp_cpu.specs.Rows.{virtual_ask}
-use Rattle.axp_cpu.specs.Translation.{aligned_plan}
+use Rattle.axp_cpu.proofs.RowLemmas.{datum_reached}
 use Rattle.axp_cpu.proofs.rows.reach_datum.Goals as goal
 
-pub returns-clause-plan : goal.returns-clause-plan
-returns-clause-plan c =
-    let size = c.args.size in
-    let t = c.args.table.now in
-    let k = continued size c.args.next in
-    c.align.ensures.plan
-    ∙ ap (λ m. aligned_plan size t m (virtual_ask c.args.kind c.args.address c.bytes.result c.args.value) k) c.mode.ensures
-    ∙ ap (λ n. aligned_plan size t (mode_of t) (virtual_ask c.args.kind c.args.address n c.args.value) k) c.bytes.ensures.value
+pub returns-then-address-from-eq0-clause-plan : goal.returns-then-address-from-eq0-clause-plan
+returns-then-address-from-eq0-clause-plan c = λ cpus.
+    c.reach.ensures.plan cpus
+    ∙ datum_reached c.args.size c.args.table.now c.args.op c.args.a c.args.kind c.args.what c.args.address c.args.value (continued c.args.size cpus c.args.next) c.bytes.result c.bytes.ensures.value (ap (λ n. c.args.address % n) (sym c.from.ensures) ∙ c.if-address-from-eq0.true)

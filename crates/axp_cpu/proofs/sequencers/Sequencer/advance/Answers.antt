@@ -1,3 +1,4 @@
+use Rattle.axp_cpu.specs.Phases.{ended}
 use Rattle.axp_cpu.proofs.SeatLemmas.{goes_on, goes_to_end}
 use Rattle.axp_cpu.proofs.sequencers.Sequencer.advance.Goals as goal
 
@@ -7,4 +8,4 @@ returns-in-Wants-phase c = λ s stands.
 
 pub returns-in-Ends : goal.returns-in-Ends
 returns-in-Ends c = λ s stands.
-    goes_to_end c.args.self.now s c.in-Wants.field-0 c.in-Wants.stage c.args.value c.end.new.self stands c.in-Wants.ensures.plan (rw c.end.ensures c.in-Ends.ensures.plan)
+    goes_to_end c.args.self.now s c.in-Wants.field-0 c.in-Wants.stage c.args.value (ended c.in-Ends.ending c.resume-phase.new.table) c.finish.new.table stands c.in-Wants.ensures.plan c.in-Ends.ensures.plan c.finish.ensures

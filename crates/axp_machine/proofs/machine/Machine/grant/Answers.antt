@@ -8,7 +8,7 @@ use Rattle.axp_world.specs.Worlds.{image_bytes}
 use Rattle.axp_machine.specs.Playing.{granted_in, actor_of}
 use Rattle.axp_machine.specs.Runs.{Seen, world_of}
 use Rattle.axp_machine.proofs.GrantLemmas.{answers, granted_asked, granted_past, granted_refused}
-use Rattle.axp_machine.proofs.RoomLemmas.{seat_size}
+use Rattle.axp_machine.proofs.RoomLemmas.{seat_over}
 use Rattle.axp_machine.proofs.machine.Machine.grant.Goals as goal
 
 past : (c : goal.Then-from-len) → c.args.self.now.cpus ≤ cpu_number c.args.event.cpu
@@ -59,4 +59,4 @@ returns-else-is_taken_in_vain-clause-granted c =
 pub returns-else-is_taken_in_vain-clause-within : goal.returns-else-is_taken_in_vain-clause-within
 returns-else-is_taken_in_vain-clause-within c =
     let m : Seen = c.args.self.now in
-    subst (λ n. IsAskWithin n c.in-Ok.ask) (seat_size m.image m.cpus m.budget m.records (cpu_number c.args.event.cpu)) (c.in-Ok.ensures.within (actor_of m (cpu_number c.args.event.cpu)) c.processor.ensures.at)
+    subst (λ n. IsAskWithin n c.in-Ok.ask) (seat_over m.image m.cpus m.budget m.records (cpu_number c.args.event.cpu)).size (c.in-Ok.ensures.within (actor_of m (cpu_number c.args.event.cpu)) c.processor.ensures.at)
