@@ -2,12 +2,14 @@
 #![tactic(auto)]
 
 mod event_lists;
+mod offers;
 mod tail_items;
 
 use axp_base::WBUF_ENTRIES;
 pub use axp_base::{Bank, Bytes, Cpu, Line};
 pub use axp_regs::{Ask, Kind};
 pub use event_lists::EventList;
+pub use offers::{MAX_DROPS, Offer};
 pub use tail_items::TailItem;
 
 /// How many entries of a write buffer may be drained next, at most: as many as it holds.

@@ -15,9 +15,10 @@ pub struct Line {
 }
 
 /// The banks in which a processor keeps copies of lines.
-#[derive(Clone, Copy, Debug, PartialEq, Eq)]
+#[derive(Clone, Copy, Debug, Default, PartialEq, Eq)]
 pub enum Bank {
     /// `d0`, the data bank of the lines of even number.
+    #[default]
     Even,
     /// `d1`, the data bank of the lines of odd number.
     Odd,

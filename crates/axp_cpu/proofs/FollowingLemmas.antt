@@ -1,5 +1,5 @@
 -- What an outcome shows of an access is what its instruction goes on with.
-use Rattle.std.proofs.Common.{◌≡◌, Option, Some, None, refl, sym, ap, ◌∙◌}
+use Rattle.std.proofs.Common.{◌≡◌, Bool, Option, Some, None, refl, sym, ap, ◌∙◌}
 use Rattle.axp_access.specs.declared.Act.{Act}
 use Rattle.axp_access.specs.declared.Act.TheVariants as act
 use Rattle.axp_access.specs.declared.Intent.{Intent}
@@ -9,6 +9,7 @@ use Rattle.axp_access.specs.declared.Wanted.{Wanted}
 use Rattle.axp_base.specs.Lines.{line_of}
 use Rattle.axp_base.specs.declared.processors.Cpu.{Cpu}
 use Rattle.axp_line.specs.declared.messages.Reply.{Reply}
+use Rattle.axp_line.specs.declared.messages.Reply.TheVariants as reply
 use Rattle.axp_lsu.specs.Going as going
 use Rattle.axp_lsu.specs.Going.{shown_by, success_by}
 use Rattle.axp_lsu.specs.Keeping.{LocalMemory}
@@ -19,7 +20,7 @@ use Rattle.axp_cpu.specs.declared.processors.Processor.{Processor}
 use Rattle.axp_cpu.specs.Actors as actors
 use Rattle.axp_cpu.specs.Actors.{Actor, actor_intent, advanced, outcome_of}
 use Rattle.axp_cpu.specs.Following as following
-use Rattle.axp_cpu.specs.Seats.{seat_after_value}
+use Rattle.axp_cpu.specs.Seats.{Seat, seat_after_value}
 
 -- what a record shows of an access is what its instruction got
 value_same : (k : Kind) (c : Cpu) (w : Wanted) (u : LocalMemory) (r : Option Reply) (at : Place)
@@ -35,8 +36,14 @@ unfolding going.value_of
 step_same None c r a = refl
 step_same (Some w) c r a = ap (seat_after_value a.seat) (value_same w.kind c w a.kept r (going.place_by w.kind (line_of w.address) a.kept r))
 
+polled_same : (low : Bool) (r : Option Reply) (s : Seat) → following.seat_after_poll (going.poll_outcome low r) s ≡ following.seat_entered (going.is_entered low r) s
+polled_same low (Some (reply.Polled pending turn)) s = refl
+polled_same low _ s = refl
+
 act_same : (e : Act) (c : Cpu) (r : Option Reply) (a : Actor) → following.seat_after e (going.outcome_by e c (actor_intent a) a.kept r) a.seat ≡ actors.seat_after e r a
 act_same act.Step c r a = step_same (actor_intent a).wanted c r a
+act_same act.Poll c r a = polled_same (actor_intent a).takes_interrupts r a.seat
+act_same act.Tick c r a = refl
 act_same _ c r a = refl
 
 -- so a processor goes on as its outcome shows

@@ -1,5 +1,5 @@
 -- No processor gets or loses a register.
-use Rattle.std.proofs.Common.{ℕ, List, [], ◌∷◌, ◌++◌, refl}
+use Rattle.std.proofs.Common.{ℕ, Bool, true, false, List, [], ◌∷◌, ◌++◌, refl}
 use Rattle.std.proofs.lemmas.Bool.{cond_both}
 use Rattle.axp_access.specs.declared.Act.{Act}
 use Rattle.axp_access.specs.declared.Act.TheVariants as act
@@ -10,7 +10,10 @@ use Rattle.axp_image.specs.Contents.{Contents}
 use Rattle.axp_model.specs.Records.{is_of}
 use Rattle.axp_regs.specs.States.{first_state, with_register}
 use Rattle.axp_regs.specs.declared.states.TheConstants.{REGISTERS}
-use Rattle.axp_cpu.specs.Following.{seat_after, seat_after_step, seat_in, value_shown}
+use Rattle.axp_cpu.specs.Following.{seat_after, seat_after_poll, seat_after_step, seat_entered, seat_in, value_shown}
+use Rattle.axp_trap.specs.declared.causes.Cause.TheVariants.{Int}
+use Rattle.axp_trap.specs.declared.causes.TheConstants.{CLOCK, INTERPROCESSOR}
+use Rattle.axp_cpu.specs.CpuStates.{raising}
 use Rattle.axp_cpu.specs.Plans.{Plan, End, Want, along}
 use Rattle.axp_cpu.specs.Rows.{group}
 use Rattle.axp_cpu.specs.Seats.{Seat, seat_at_plan}
@@ -28,8 +31,18 @@ shown_has n (outcome.Access a) s has = stepped_has n s (s.values ++ value_shown 
 shown_has n outcome.NoAccess s has = stepped_has n s s.values has
 shown_has n _ s has = has
 
+entered_has : (n : ℕ) (entered : Bool) (s : Seat) → Has n s.start.state → Has n (seat_entered entered s).start.state
+entered_has n true s has = arrived_has s.size n (raising (Int INTERPROCESSOR) s.start) has
+entered_has n false s has = has
+
+polled_has : (n : ℕ) (o : Outcome) (s : Seat) → Has n s.start.state → Has n (seat_after_poll o s).start.state
+polled_has n (outcome.Polled pending entered turn) s has = entered_has n entered s has
+polled_has n _ s has = has
+
 acted_has : (n : ℕ) (e : Act) (o : Outcome) (s : Seat) → Has n s.start.state → Has n (seat_after e o s).start.state
 acted_has n act.Step o s has = shown_has n o s has
+acted_has n act.Poll o s has = polled_has n o s has
+acted_has n act.Tick o s has = arrived_has s.size n (raising (Int CLOCK) s.start) has
 acted_has n _ o s has = has
 
 first_has : (p a b v w : ℕ) → Has REGISTERS (with_register (with_register (first_state p) a v) b w)

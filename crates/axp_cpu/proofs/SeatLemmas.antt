@@ -1,12 +1,12 @@
 -- A processor stays at its seat, step by step.
 use Rattle.std.proofs.Math.Nat.{min-eq_left, min-le_right}
-use Rattle.std.proofs.Common.{min, ◌≡◌, ℕ, zero, suc, Bool, false, ◌+◌, ◌%◌, ◌≤◌, ◌&&◌, ◌||◌, leb, List, [], ◌∷◌, ◌++◌, Option, Some, None, rules, refl, sym, ap, ◌∙◌, subst}
+use Rattle.std.proofs.Common.{min, ◌≡◌, ℕ, zero, suc, Bool, false, ◌+◌, ◌%◌, ◌≤◌, ◌&&◌, ◌||◌, leb, List, [], ◌∷◌, ◌++◌, true, Option, Some, None, rules, refl, sym, ap, ◌∙◌, subst}
 use Rattle.std.specs.Prelude.{nat_lt, is_none, is_some, replicate, slice_index}
 use Rattle.axp_access.specs.declared.Wanted.{Wanted}
 use Rattle.axp_base.specs.Lists.{is_empty}
 use Rattle.axp_base.specs.declared.processors.TheConstants.{MAX_CPUS}
 use Rattle.axp_image.specs.Contents.{Contents, IsValid}
-use Rattle.axp_image.specs.declared.limits.TheConstants.{INSTRUCTION_BYTES}
+use Rattle.axp_image.specs.declared.limits.TheConstants.{INSTRUCTION_BYTES, PAGE_BYTES}
 use Rattle.axp_regs.specs.States.{ps_of, locked_of, with_fetched}
 use Rattle.axp_regs.specs.declared.states.TheConstants.{ENTRIES}
 use Rattle.axp_cpu.specs.declared.phases.Stage.{Stage}
@@ -15,9 +15,11 @@ use Rattle.axp_cpu.specs.declared.cpu_states.CpuState.{CpuState}
 use Rattle.axp_cpu.specs.Phases.{Fits, after}
 use Rattle.axp_cpu.specs.Plans.{Plan, End, Want, given, along, table_in}
 use Rattle.axp_cpu.specs.Rows.{arrived, group}
-use Rattle.axp_cpu.specs.Seats.{Seat, intent_of, is_finished, wanted, wanted_by, first_seat, first_table, seat_after_none, seat_at_plan, plan_now, seat_after_value}
+use Rattle.axp_cpu.specs.Seats.{Seat, intent_of, is_at_boundary, is_finished, next_wanted, wanted, wanted_by, first_seat, first_table, seat_after_none, seat_at_plan, seat_interrupted, plan_now, seat_after_value}
+use Rattle.axp_trap.specs.declared.causes.Cause.TheVariants.{Int}
+use Rattle.axp_cpu.specs.CpuStates.{raising}
 use Rattle.axp_cpu.specs.Soundness.{IsSettled, IsSound}
-use Rattle.axp_cpu.specs.Stands.{HasSameRegisters, IsAtEnd, IsMakeable, IsWanting, Stands, plan_left}
+use Rattle.axp_cpu.specs.Stands.{HasSameRegisters, IsAtBoundary, IsAtEnd, IsMakeable, IsWanting, Stands, plan_left}
 use Rattle.axp_cpu.proofs.PlanLemmas.{arrived_settled, group_sound, along_sound}
 use Rattle.axp_cpu.proofs.TableLemmas.{group_begins, registers_stay}
 
@@ -100,6 +102,53 @@ passes p s u y stands left is =
     let there = arrives p s u y stands sound is in
     subst (Stands (record { size = p.size; cpus = p.cpus; budget = p.budget; table = y; making = None; steps = p.steps + 1 })) (ap (seat_at_plan s s.values) comes) (goes_to_end_at p s s.values u y stands there.1 there.0)
 
+-- the registers of the processor are its seat's, but for the count of fetched instructions
+pub has_registers : (p : Sequencer) (s : Seat) → Stands p s → HasSameRegisters s.start p.table
+has_registers p s stands = let same = registers_stay s in record { state = ap (λ (t : CpuState). with_fetched t.state 0) stands.table ∙ same.state; halted = ap (λ (t : CpuState). t.halted) stands.table ∙ same.halted; pending = ap (λ (t : CpuState). t.pending) stands.table ∙ same.pending }
+
+-- an interrupt at a boundary begins its entry
+no_values : (s : Seat) → is_at_boundary s ≡ true → s.values ≡ []
+no_values s is = by s.values is where
+  by : (vs : List ℕ) → (is_empty vs && is_none s.start.pending) ≡ true → vs ≡ []
+  by [] is = refl
+  by (v ∷ vs) is = cc
+
+begins_group : (p : Sequencer) (s : Seat) → Stands p s → is_at_boundary s ≡ true → p.table ≡ s.start
+begins_group p s stands is = stands.table ∙ ap (λ vs. table_in s.start (along vs (group s.size s.cpus s.start))) (no_values s is) ∙ group_begins s.size s.cpus s.start
+
+makes_nothing : (o : Option (Wanted × Stage)) → is_none o ≡ true → o ≡ None
+makes_nothing None is = refl
+makes_nothing (Some x) is = cc
+
+pub interrupted_settled : (code : ℕ) (s : Seat) → s.size % PAGE_BYTES ≡ 0 → IsSettled s.start.state → IsSettled (seat_interrupted code s).start.state
+interrupted_settled code s pages settled = arrived_settled s.size (raising (Int code) s.start) pages settled
+
+-- whichever seat the processor stands at
+pub boundary_at : (p : Sequencer) (s : Seat) → Stands p s → IsAtBoundary p → is_at_boundary s ≡ true
+boundary_at p s stands at = sym (boundary_of p s stands) ∙ boundary_of p at.seat at.stands ∙ at.boundary where
+  boundary_of : (p : Sequencer) (s : Seat) → Stands p s → (is_none p.making && is_none p.table.pending) ≡ is_at_boundary s
+  boundary_of p s stands = ap (λ b. b && is_none p.table.pending) stands.boundary ∙ ap (λ o. is_empty s.values && is_none o) (has_registers p s stands).pending
+
+pub interrupted : (p : Sequencer) (s : Seat) (code : ℕ) (t : CpuState) → Stands p s → is_at_boundary s ≡ true → t ≡ arrived p.size (raising (Int code) p.table)
+    → Stands (record { size = p.size; cpus = p.cpus; budget = p.budget; table = t; making = p.making; steps = p.steps }) (seat_interrupted code s)
+interrupted p s code t stands is comes =
+    let there : t ≡ arrived s.size (raising (Int code) s.start) = comes ∙ ap (λ n. arrived n (raising (Int code) p.table)) stands.size ∙ ap (λ u. arrived s.size (raising (Int code) u)) (begins_group p s stands is) in
+    let nothing : p.making ≡ None = makes_nothing p.making (stands.boundary ∙ ap is_empty (no_values s is)) in
+    subst (λ o. Stands (record { size = p.size; cpus = p.cpus; budget = p.budget; table = t; making = o; steps = p.steps }) (seat_interrupted code s)) (sym nothing) (record {
+      size = stands.size;
+      cpus = stands.cpus;
+      budget = stands.budget;
+      table = there ∙ sym (group_begins s.size s.cpus (arrived s.size (raising (Int code) s.start)));
+      plan = ap (λ n. group n p.cpus t) stands.size ∙ ap (λ n. group s.size n t) stands.cpus ∙ ap (group s.size s.cpus) there;
+      fits = tt;
+      boundary = refl;
+      steps = stands.steps;
+      pages = stands.pages;
+      most = stands.most;
+      settled = interrupted_settled code s stands.pages stands.settled;
+      few = stands.few;
+    })
+
 -- what a processor wants is what its plan wants
 wanted_of : (s : Seat) → is_finished s ≡ false → wanted s ≡ wanted_by (plan_now s)
 wanted_of s going = rw going refl
@@ -112,15 +161,18 @@ pub never_wants : (p : Sequencer) (w : Wanted) (k : ℕ → Plan) → IsAtEnd p 
 never_wants p w k is left =
     let some : Some w ≡ None = ap wanted_by (left ∙ is.stands.plan) ∙ sym (wanted_of is.seat is.unfinished) ∙ is.wants in cc
 
--- the registers of the processor are its seat's, but for the count of fetched instructions
-pub has_registers : (p : Sequencer) (s : Seat) → Stands p s → HasSameRegisters s.start p.table
-has_registers p s stands = let same = registers_stay s in record { state = ap (λ (t : CpuState). with_fetched t.state 0) stands.table ∙ same.state; halted = ap (λ (t : CpuState). t.halted) stands.table ∙ same.halted; pending = ap (λ (t : CpuState). t.pending) stands.table ∙ same.pending }
-
 pub state_is : (p : Sequencer) (s : Seat) → Stands p s → with_fetched p.table.state 0 ≡ with_fetched s.start.state 0
 state_is p s stands = (has_registers p s stands).state
 
 pub halted_is : (p : Sequencer) (s : Seat) → Stands p s → p.table.halted ≡ s.start.halted
 halted_is p s stands = (has_registers p s stands).halted
+
+-- a halted processor would make no access, and any other the one that its plan wants
+pub no_next : (p : Sequencer) (s : Seat) → Stands p s → is_some p.table.halted ≡ true → None ≡ next_wanted s
+no_next p s stands is = rw (ap is_some (sym (halted_is p s stands)) ∙ is) refl
+
+pub next_is : (p : Sequencer) (s : Seat) (w : Wanted) (k : ℕ → Plan) → Stands p s → is_some p.table.halted ≡ false → Want p.table w k ≡ plan_left p → Some w ≡ next_wanted s
+next_is p s w k stands is left = rw (ap is_some (sym (halted_is p s stands)) ∙ is) (ap wanted_by (left ∙ stands.plan))
 
 pub finished_is : (p : Sequencer) (s : Seat) → Stands p s → is_some p.table.halted || leb p.budget p.steps ≡ is_finished s
 finished_is p s stands = rw (halted_is p s stands, stands.budget, stands.steps) refl

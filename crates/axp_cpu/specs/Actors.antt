@@ -1,6 +1,6 @@
 -- One processor whole: the instruction table's side and what it keeps of memory. What it asks of the bus,
 -- what it gives and what it becomes are fixed by this and by the bus's answer.
-use Rattle.std.specs.Prelude.{ℕ, Bool, true, false, Option, Some, None, Result, Ok, Err}
+use Rattle.std.specs.Prelude.{ℕ, Option, Some, None, Result, Ok, Err}
 use Rattle.axp_access.specs.declared.Act.{Act}
 use Rattle.axp_access.specs.declared.Act.TheVariants as act
 use Rattle.axp_access.specs.declared.Intent.{Intent}
@@ -12,12 +12,13 @@ use Rattle.axp_image.specs.Contents.{Contents}
 use Rattle.axp_line.specs.declared.messages.Reply.{Reply}
 use Rattle.axp_lsu.specs.declared.asks.Ask2.{Ask2}
 use Rattle.axp_lsu.specs.Asking.{ask_of}
+use Rattle.axp_lsu.specs.Going.{is_entered}
 use Rattle.axp_lsu.specs.Going as going
 use Rattle.axp_lsu.specs.Keeping.{LocalMemory, empty_memory}
-use Rattle.axp_cpu.specs.declared.refusals.Refusal.{Refusal}
-use Rattle.axp_cpu.specs.declared.refusals.Refusal.TheVariants.{NotLegal, NotBuilt}
-use Rattle.axp_cpu.specs.Seats.{Seat, first_seat, intent_of, seat_after_none, seat_after_value, table_now}
-use Rattle.axp_cpu.specs.Unbuilt.{is_access_built}
+use Rattle.axp_trap.specs.declared.causes.TheConstants.{CLOCK}
+use Rattle.axp_cpu.specs.declared.refusals.NotLegal.{NotLegal}
+use Rattle.axp_cpu.specs.Following.{seat_entered}
+use Rattle.axp_cpu.specs.Seats.{Seat, first_seat, intent_of, seat_after_none, seat_after_value, seat_interrupted}
 
 pub record Actor : Type 0 where
   pub cpu : Cpu
@@ -32,34 +33,27 @@ first_actor image cpus budget cpu = record { cpu = cpu; seat = first_seat image 
 abbrev pub actor_intent : Actor → Intent
 actor_intent a = intent_of a.seat
 
--- a step that wants this access
-abbrev pub is_step_built : Option Wanted → Actor → Bool
-is_step_built None a = true
-is_step_built (Some w) a = is_access_built w.kind (going.value_of w a.kept None) (table_now a.seat).state
+abbrev pub asked_or_refused : Option Ask2 → Result Ask2 NotLegal
+asked_or_refused None = Err (record { })
+asked_or_refused (Some q) = Ok q
 
--- an interrupt is not built, nor is what a step may fetch
-abbrev pub is_built : Act → Actor → Bool
-is_built act.Poll a = false
-is_built act.Tick a = false
-is_built act.Step a = is_step_built (actor_intent a).wanted a
-is_built _ a = true
-
-abbrev pub asked_by : Option Ask2 → Bool → Result Ask2 Refusal
-asked_by None built = Err NotLegal
-asked_by (Some q) true = Ok q
-asked_by (Some q) false = Err NotBuilt
-
--- what an act asks, or why it is refused: not legal, as far as the processor knows; or legal, and not built
-unfoldable pub request_of : Actor → Act → Result Ask2 Refusal
-request_of a e = asked_by (ask_of e (actor_intent a) a.kept) (is_built e a)
+-- what an act asks, or that it is not legal, as far as the processor knows
+unfoldable pub request_of : Actor → Act → Result Ask2 NotLegal
+request_of a e = asked_or_refused (ask_of e (actor_intent a) a.kept)
 
 -- a Step goes on with the value that its access gave, or with none
 abbrev pub moved_by : Option Wanted → Option Reply → Actor → Seat
 moved_by None r a = seat_after_none a.seat
 moved_by (Some w) r a = seat_after_value a.seat (going.value_of w a.kept r)
 
+-- a Poll enters as its outcome tells
+abbrev pub polled_by : Option Reply → Actor → Seat
+polled_by r a = seat_entered (is_entered (actor_intent a).takes_interrupts r) a.seat
+
 abbrev pub seat_after : Act → Option Reply → Actor → Seat
 seat_after act.Step r a = moved_by (actor_intent a).wanted r a
+seat_after act.Poll r a = polled_by r a
+seat_after act.Tick r a = seat_interrupted CLOCK a.seat
 seat_after _ r a = a.seat
 
 -- the processor after an act, with the bus's answer where it asked

@@ -1,6 +1,6 @@
 -- One processor by the records of a history alone: what it is about to do is the instruction table
 -- applied to the values that its own accesses show.
-use Rattle.std.specs.Prelude.{ℕ, if◌then◌else◌, List, [], ◌∷◌}
+use Rattle.std.specs.Prelude.{ℕ, Bool, if◌then◌else◌, List, [], ◌∷◌}
 use Rattle.axp_access.specs.declared.Access.{Access}
 use Rattle.axp_access.specs.declared.Act.{Act}
 use Rattle.axp_access.specs.declared.Act.TheVariants as act
@@ -12,7 +12,8 @@ use Rattle.axp_model.specs.Processors.{Processors}
 use Rattle.axp_model.specs.Records.{is_of}
 use Rattle.axp_regs.specs.declared.asks.Kind.{Kind}
 use Rattle.axp_regs.specs.declared.asks.Kind.TheVariants.{Fetch, Read, Locked, Conditional}
-use Rattle.axp_cpu.specs.Seats.{Seat, first_seat, intent_of, seat_after_none, seat_after_value}
+use Rattle.axp_trap.specs.declared.causes.TheConstants.{CLOCK, INTERPROCESSOR}
+use Rattle.axp_cpu.specs.Seats.{Seat, first_seat, intent_of, seat_after_none, seat_after_value, seat_interrupted}
 
 -- the value that an access of this kind gives to its instruction, as its record shows it: what was
 -- read, or whether a store-conditional succeeded; 0 where it gives none
@@ -32,9 +33,19 @@ seat_after_step (outcome.Access a) s = seat_after_value s (value_shown a)
 seat_after_step outcome.NoAccess s = seat_after_none s
 seat_after_step _ s = s
 
--- no other act moves a processor: interrupts are not built
+-- a Poll that enters begins the entry of another processor's interrupt
+abbrev pub seat_entered : Bool → Seat → Seat
+seat_entered entered s = if entered then seat_interrupted INTERPROCESSOR s else s
+
+abbrev pub seat_after_poll : Outcome → Seat → Seat
+seat_after_poll (outcome.Polled pending entered turn) s = seat_entered entered s
+seat_after_poll _ s = s
+
+-- a Tick begins the entry of the clock's interrupt; no other act moves a processor
 abbrev pub seat_after : Act → Outcome → Seat → Seat
 seat_after act.Step o s = seat_after_step o s
+seat_after act.Poll o s = seat_after_poll o s
+seat_after act.Tick o s = seat_interrupted CLOCK s
 seat_after _ o s = s
 
 -- where processor p stands after a history

@@ -10,6 +10,5 @@ pub mod Showing
 pub mod Halting
 pub mod Soundness
 pub mod Stands
-pub mod Unbuilt
 pub mod Actors
 pub mod ActorStands

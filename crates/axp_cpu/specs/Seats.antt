@@ -7,7 +7,9 @@ use Rattle.axp_base.specs.declared.processors.TheConstants.{MAX_CPUS}
 use Rattle.axp_image.specs.Contents.{Contents}
 use Rattle.axp_regs.specs.States.{first_state, locked_of, ps_of, with_pc, with_ptbr, with_register}
 use Rattle.axp_regs.specs.declared.states.State.{State}
+use Rattle.axp_trap.specs.declared.causes.Cause.TheVariants.{Int}
 use Rattle.axp_cpu.specs.declared.cpu_states.CpuState.{CpuState}
+use Rattle.axp_cpu.specs.CpuStates.{raising}
 use Rattle.axp_cpu.specs.Plans.{Plan, End, Want, along, table_in}
 use Rattle.axp_cpu.specs.Rows.{arrived, group}
 
@@ -59,6 +61,10 @@ wanted_by (Want t w k) = Some w
 abbrev pub wanted : Seat → Option Wanted
 wanted s = if is_finished s then None else wanted_by (plan_now s)
 
+-- the access that it would make with a step left; None: it is halted, or its group ends with no access
+abbrev pub next_wanted : Seat → Option Wanted
+next_wanted s = if is_some s.start.halted then None else wanted_by (plan_now s)
+
 -- after a step that gave the group its values and left this plan
 abbrev pub seat_at_plan : Seat → List ℕ → Plan → Seat
 seat_at_plan s values (End t) = record { size = s.size; cpus = s.cpus; budget = s.budget; start = arrived s.size t; values = []; steps = s.steps + 1 }
@@ -71,6 +77,11 @@ seat_after_value s v = seat_at_plan s (s.values ++ v ∷ []) (along (s.values ++
 -- after a step that made no access
 abbrev pub seat_after_none : Seat → Seat
 seat_after_none s = seat_at_plan s s.values (plan_now s)
+
+-- after an interrupt with this code, at a boundary: its entry begins at once, and halts the processor where
+-- its frame cannot be written; it is no step
+abbrev pub seat_interrupted : ℕ → Seat → Seat
+seat_interrupted code s = record { size = s.size; cpus = s.cpus; budget = s.budget; start = arrived s.size (raising (Int code) s.start); values = []; steps = s.steps }
 
 -- the interrupt level: the three low bits of PS
 abbrev pub interrupt_level : State → ℕ

@@ -1,5 +1,5 @@
 -- How a processor of the code stands for a seat.
-use Rattle.std.specs.Prelude.{is_none, ◌≡◌, ℕ, ◌%◌, ◌≤◌, false, Option, Some, None}
+use Rattle.std.specs.Prelude.{is_none, ◌≡◌, ℕ, ◌%◌, ◌≤◌, true, false, Option, Some, None}
 use Rattle.axp_access.specs.declared.Wanted.{Wanted}
 use Rattle.axp_image.specs.declared.limits.TheConstants.{MAX_MEMORY, PAGE_BYTES}
 use Rattle.axp_base.specs.declared.processors.TheConstants.{MAX_CPUS}
@@ -11,7 +11,7 @@ use Rattle.axp_base.specs.Lists.{is_empty}
 use Rattle.axp_cpu.specs.Phases.{Fits, FitsKind, after}
 use Rattle.axp_cpu.specs.Plans.{Plan, Want}
 use Rattle.axp_cpu.specs.Rows.{group}
-use Rattle.axp_cpu.specs.Seats.{Seat, is_finished, plan_now, table_now, wanted}
+use Rattle.axp_cpu.specs.Seats.{Seat, is_at_boundary, is_finished, plan_now, table_now, wanted}
 use Rattle.axp_cpu.specs.Soundness.{IsSettled, IsSoundAs}
 
 -- what a processor's group still has to do
@@ -66,6 +66,12 @@ pub record IsAtEnd (p : Sequencer) : Type 0 where
   pub stands : Stands p seat
   pub unfinished : is_finished seat ≡ false
   pub wants : wanted seat ≡ None
+
+-- it is at a boundary
+pub record IsAtBoundary (p : Sequencer) : Type 0 where
+  pub seat : Seat
+  pub stands : Stands p seat
+  pub boundary : is_at_boundary seat ≡ true
 
 -- a wanted access lies in memory, and what it stores has its size
 pub record IsMakeable (size cpus : ℕ) (w : Wanted) : Type 0 where

@@ -16,7 +16,6 @@ mod refusals;
 mod rows;
 mod sequencers;
 mod translation;
-mod unbuilt;
 mod values;
 mod walks;
 
@@ -26,5 +25,5 @@ pub use laws::{
     kept_translations_lead_where_walks_led, registers_get_what_is_shown, walks_go_by_three_entries,
 };
 pub use processors::Processor;
-pub use refusals::Refusal;
+pub use refusals::NotLegal;
 pub use sequencers::Sequencer;

@@ -1,27 +1,30 @@
-ghost use Rattle.std.specs.Prelude.{◌≡◌, ◌==◌, ◌<◌, ◌≤◌, IfOk, length};
+ghost use Rattle.std.specs.Prelude.{◌≡◌, ◌==◌, ◌<◌, ◌≤◌, true, IfOk, is_ok, length};
+ghost use Rattle.axp_access.specs.Offers.{are_ascending, is_offered};
+ghost use Rattle.axp_access.specs.declared.Act.{Act};
 ghost use Rattle.axp_access.specs.declared.Act.TheVariants.{Step};
 ghost use Rattle.axp_base.specs.declared.processors.TheConstants.{MAX_BUDGET, MAX_CPUS, MIN_CPUS};
 ghost use Rattle.axp_base.specs.Cpus.{cpu_number};
 ghost use Rattle.axp_lsu.specs.Fitting.{ShowsFitting};
+ghost use Rattle.axp_lsu.specs.Going.{is_entered};
+ghost use Rattle.axp_lsu.specs.Offering.{full_bank, is_open};
 ghost use Rattle.axp_lsu.specs.Within.{IsAskWithin};
-ghost use Rattle.axp_cpu.specs.Actors.{Actor, actor_intent, advanced, first_actor, is_built};
-ghost use Rattle.axp_cpu.specs.Actors.{is_step_built};
+ghost use Rattle.axp_cpu.specs.Actors.{Actor, actor_intent, advanced, first_actor};
 ghost use Rattle.axp_cpu.specs.Actors.{moved_by, outcome_of, request_of, seat_after};
-ghost use Rattle.axp_cpu.specs.ActorStands.{IsAnswered, IsAt, IsMovable, IsSeated, IsSeatedWith};
+ghost use Rattle.axp_cpu.specs.ActorStands.{IsAnswered, IsAt, IsMovable, IsSeated};
 ghost use Rattle.axp_cpu.specs.Following as following;
-ghost use Rattle.axp_cpu.specs.Seats.{is_finished, table_now};
+ghost use Rattle.axp_cpu.specs.Seats.{is_finished, next_wanted, table_now};
 ghost use Rattle.axp_cpu.specs.Stands.{Stands};
 ghost use Rattle.axp_regs.specs.States.{with_fetched};
 
-use crate::refusals::Refusal;
+use crate::refusals::NotLegal;
 use crate::sequencers::Sequencer;
-use crate::unbuilt::is_access_built;
-use axp_access::{Act, Intent, Outcome, Wanted};
+use axp_access::{Act, Intent, Offer, Outcome};
 use axp_base::Cpu;
 use axp_image::Image;
 use axp_line::Reply;
 use axp_lsu::{Ask2, Lsu};
 use axp_regs::State;
+use axp_trap::{CLOCK, INTERPROCESSOR};
 
 /// One processor: it goes by the instruction table, and has a write buffer and banks of copies.
 /// What it needs from the others it asks of the bus.
@@ -89,25 +92,35 @@ impl Processor {
         self.unit.is_drained()
     }
 
-    /// What an act asks of the bus, or why it is refused: [`Refusal::NotLegal`] exactly where it is
-    /// not legal, whether something is late aside, which the bus alone knows.
+    /// What an act asks of the bus; [`NotLegal`] exactly where it is not legal, whether something is
+    /// late aside, which the bus alone knows.
     #[tactic(auto, unfolding(crate::specs::Actors::request_of))]
-    pub fn request(&self, act: Act) -> Result<Ask2, Refusal>
+    pub fn request(&self, act: Act) -> Result<Ask2, NotLegal>
         requires { IsSeated self.now }
         ensures asked { (a : Actor) → IsAt self.now a → result ≡ request_of a act }
         ensures within { (a : Actor) → IsAt self.now a → IfOk result (IsAskWithin a.seat.size) }
     {
         let intent = self.sequencer.intent();
-        match self.unit.ask(act, &intent) {
-            None => Err(Refusal::NotLegal),
-            Some(ask) => {
-                if self.is_built(act, intent.wanted) {
-                    Ok(ask)
-                } else {
-                    Err(Refusal::NotBuilt)
-                }
-            }
-        }
+        self.unit.ask(act, &intent).ok_or(NotLegal)
+    }
+
+    /// The acts that [`Processor::request`] allows: so a late invalidation is offered also where
+    /// none is late, which the bus alone knows.
+    #[tactic(auto, unfolding(crate::specs::Actors::request_of))]
+    pub fn offer(&self) -> Offer
+        requires { IsSeated self.now }
+        ensures acts { (a : Actor) → IsAt self.now a
+            → (e : Act) → is_offered result e ≡ is_ok (request_of a e) }
+        ensures late { (a : Actor) → IsAt self.now a → result.late
+            ≡ (is_open (is_finished a.seat) a.kept, is_open (is_finished a.seat) a.kept) }
+        ensures spent { (a : Actor) → IsAt self.now a → result.spent ≡ is_finished a.seat }
+        ensures ascending { are_ascending result.drops.items ≡ true }
+        ensures needs { (a : Actor) → IsAt self.now a
+            → result.needs ≡ full_bank (next_wanted a.seat) a.kept }
+    {
+        let intent = self.sequencer.intent();
+        let next = self.sequencer.next_wanted();
+        self.unit.offer(&intent, &next)
     }
 
     /// Does an act that was asked for, with the bus's answer where it asked, and tells its outcome.
@@ -122,63 +135,55 @@ impl Processor {
             → (advanced a act reply).seat ≡ following.seat_after act result a.seat }
     {
         let intent = self.sequencer.intent();
-        self.sequence(act, intent.wanted, reply);
+        self.sequence(act, &intent, reply);
         self.unit.advance(act, self.cpu, &intent, reply)
     }
 
-    /// Moves the sequencer by an act: a step goes on with the value of the wanted access.
-    fn sequence(&mut self, act: Act, wanted: Option<Wanted>, reply: Option<Reply>)
-        requires { IsMovable self.old act wanted }
+    /// Moves the sequencer by an act: a step goes on with the value of the wanted access, and an
+    /// interrupt begins its entry.
+    fn sequence(&mut self, act: Act, intent: &Intent, reply: Option<Reply>)
+        requires { IsMovable self.old act intent.now }
         ensures seat { (a : Actor) → IsAt self.old a
             → Stands self.new.sequencer (seat_after act reply a) }
         ensures cpu { self.new.cpu ≡ self.old.cpu }
         ensures unit { self.new.unit ≡ self.old.unit }
     {
-        if let Act::Step = act {
-            self.step(wanted, reply);
+        match act {
+            Act::Step => self.step(intent, reply),
+            Act::Poll => {
+                if is_entered(intent.takes_interrupts, reply) {
+                    self.sequencer.interrupt(INTERPROCESSOR);
+                }
+            }
+            Act::Tick => self.sequencer.interrupt(CLOCK),
+            Act::Fill | Act::Drain(_) | Act::Take(_) | Act::Drop(_, _) => {}
         }
     }
 
     /// Moves the sequencer by a step.
-    fn step(&mut self, wanted: Option<Wanted>, reply: Option<Reply>)
-        requires { IsMovable self.old Step wanted }
+    fn step(&mut self, intent: &Intent, reply: Option<Reply>)
+        requires { IsMovable self.old Step intent.now }
         ensures seat { (a : Actor) → IsAt self.old a
             → Stands self.new.sequencer (moved_by (actor_intent a).wanted reply a) }
         ensures cpu { self.new.cpu ≡ self.old.cpu }
         ensures unit { self.new.unit ≡ self.old.unit }
     {
-        match wanted {
+        match &intent.wanted {
             Some(wanted) => {
-                let value = self.unit.value(&wanted, reply);
+                let value = self.unit.value(wanted, reply);
                 self.sequencer.advance(value);
             }
             None => self.sequencer.pass(),
         }
     }
+}
 
-    /// Whether an act is built: an interrupt is not, nor is all that a step may fetch.
-    fn is_built(&self, act: Act, wanted: Option<Wanted>) -> bool
-        requires { IsSeatedWith self.now wanted }
-        ensures { (a : Actor) → IsAt self.now a → result ≡ is_built act a }
-    {
-        match act {
-            Act::Poll | Act::Tick => false,
-            Act::Step => self.is_step_built(wanted),
-            Act::Fill | Act::Drain(_) | Act::Take(_) | Act::Drop(_, _) => true,
-        }
-    }
-
-    /// Whether a step that wants this access is built.
-    fn is_step_built(&self, wanted: Option<Wanted>) -> bool
-        requires { IsSeatedWith self.now wanted }
-        ensures { (a : Actor) → IsAt self.now a → result ≡ is_step_built wanted a }
-    {
-        match wanted {
-            None => true,
-            Some(wanted) => {
-                let value = self.unit.value(&wanted, None);
-                is_access_built(wanted.kind, value, self.sequencer.state())
-            }
-        }
+/// Whether a poll with this answer enters.
+fn is_entered(takes_interrupts: bool, reply: Option<Reply>) -> bool
+    ensures { result ≡ is_entered takes_interrupts reply }
+{
+    match reply {
+        Some(Reply::Polled { pending, .. }) => pending && takes_interrupts,
+        _ => false,
     }
 }

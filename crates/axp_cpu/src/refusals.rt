@@ -1,8 +1,3 @@
-/// Why an event is refused; nothing changes then.
+/// An event is not legal (docs/MACHINE.md, "Which events are legal"); nothing changes then.
 #[derive(Clone, Copy, Debug, PartialEq, Eq)]
-pub enum Refusal {
-    /// It is not legal.
-    NotLegal,
-    /// It is legal, and comes to what is not built.
-    NotBuilt,
-}
+pub struct NotLegal;

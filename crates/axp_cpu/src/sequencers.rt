@@ -3,9 +3,9 @@ ghost use Rattle.axp_base.specs.Cpus.{cpu_number};
 ghost use Rattle.axp_base.specs.declared.processors.TheConstants.{MAX_CPUS};
 ghost use Rattle.axp_cpu.specs.Phases.{ended, plan_of, EndingFits, PhaseFits};
 ghost use Rattle.axp_cpu.specs.Rows.{arrived};
-ghost use Rattle.axp_cpu.specs.Seats.{Seat, first_seat, intent_of, is_finished, seat_after_none};
-ghost use Rattle.axp_cpu.specs.Seats.{seat_after_value, table_now, wanted};
-ghost use Rattle.axp_cpu.specs.Stands.{IsAtEnd, IsMakeable, IsWanting, MakesFit, Standing, Stands};
+ghost use Rattle.axp_cpu.specs.Seats.{Seat, first_seat, intent_of, is_finished, next_wanted};
+ghost use Rattle.axp_cpu.specs.Seats.{seat_after_none, seat_after_value, seat_interrupted, table_now, wanted};
+ghost use Rattle.axp_cpu.specs.Stands.{IsAtBoundary, IsAtEnd, IsMakeable, IsWanting, MakesFit, Standing, Stands};
 ghost use Rattle.axp_cpu.specs.Stands.{plan_left};
 ghost use Rattle.axp_regs.specs.States.{with_fetched};
 
@@ -18,6 +18,7 @@ use axp_base::Cpu;
 use axp_image::Image;
 use axp_regs::State;
 use axp_tb::Tb;
+use axp_trap::Cause;
 
 /// One processor: its table state, the access that it wants inside of a group, and the number of
 /// steps that it made.
@@ -106,6 +107,21 @@ impl Sequencer {
         }
     }
 
+    /// The access that it would make with a step left; `None` where it is halted, or its group ends
+    /// with no access.
+    pub fn next_wanted(&self) -> Option<Wanted>
+        requires { Standing self.now }
+        ensures { (s : Seat) → Stands self.now s → result ≡ next_wanted s }
+    {
+        if self.table.halted.is_some() {
+            return None;
+        }
+        match self.next() {
+            Phase::Wants(wanted, _) => Some(wanted),
+            Phase::Ends(_) => None,
+        }
+    }
+
     /// What the processor is about to do.
     pub fn intent(&self) -> Intent
         requires { Standing self.now }
@@ -152,6 +168,16 @@ impl Sequencer {
         self.steps += 1;
         finish(self.size, &mut self.table, ending);
         self.making = None;
+    }
+
+    /// Begins the entry of an interrupt with this code at a boundary; the processor halts where the
+    /// entry's frame cannot be written. It is no step.
+    pub fn interrupt(&mut self, code: u64)
+        requires { IsAtBoundary self.old }
+        ensures { (s : Seat) → Stands self.old s → Stands self.new (seat_interrupted code s) }
+    {
+        self.table.pending = Some(Cause::Int { code });
+        arrive(self.size, &mut self.table);
     }
 
     /// What its group still has to do.

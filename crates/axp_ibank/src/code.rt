@@ -117,8 +117,8 @@ impl CodeBank {
     }
 }
 
-/// The lines of a list of lines with stamps.
-fn without_stamps(held: &[(Line, u64)]) -> ArrayVec<Line, BANK_COPIES>
+/// The lines of a list of lines with stamps, in the same order.
+pub fn without_stamps(held: &[(Line, u64)]) -> ArrayVec<Line, BANK_COPIES>
     requires { length held.now ≤ BANK_COPIES }
     ensures { result.items ≡ lines_beside held.now }
 {

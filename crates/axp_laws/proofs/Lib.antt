@@ -36,7 +36,8 @@ pub mod LockGuards
 pub mod EntryNumbers
 pub mod EntryGroups
 pub mod EntryDrains
--- interprocessor interrupts
+-- interrupts
 pub mod PollSignals
+pub mod InterruptTimes
 -- causes
 pub mod CauseMoments

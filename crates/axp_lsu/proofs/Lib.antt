@@ -9,3 +9,4 @@ pub mod EntryCountLemmas
 pub mod LineLemmas
 pub mod HeldLineLemmas
 pub mod KeptRangeLemmas
+pub mod OfferLemmas

@@ -130,6 +130,11 @@ abbrev pub take_outcome : LocalMemory → Option Reply → Outcome
 take_outcome u (Some (reply.Late line turn)) = outcome.Taken line turn (has_older (line_number line) turn (data_copies (line_number line) u))
 take_outcome u _ = outcome.NoAccess
 
+-- an interrupt is entered where one is requested and the processor takes it
+abbrev pub is_entered : Bool → Option Reply → Bool
+is_entered low (Some (reply.Polled pending turn)) = pending && low
+is_entered low _ = false
+
 abbrev pub poll_outcome : Bool → Option Reply → Outcome
 poll_outcome low (Some (reply.Polled pending turn)) = outcome.Polled pending (pending && low) turn
 poll_outcome low _ = outcome.NoAccess

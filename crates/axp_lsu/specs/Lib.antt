@@ -1,5 +1,6 @@
 pub mod Keeping
 pub mod Asking
+pub mod Offering
 pub mod Going
 pub mod Within
 pub mod Fitting

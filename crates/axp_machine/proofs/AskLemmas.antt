@@ -139,7 +139,7 @@ pub asked_may : (p : Processor) (a : Actor) (e : Act) (q : Ask2) (cpus : ℕ) �
 asked_may p a e q cpus at few is inside =
     let n = a.seat.cpus in
     let sound : IsWantedSound a.seat.size n (actor_intent a).wanted = wanted_by_sound p.sequencer a.seat (actor_intent a).wanted at.seat refl in
-    let asked : ask_of e (actor_intent a) a.kept ≡ Some q = (was_asked a e q is).0 in
+    let asked : ask_of e (actor_intent a) a.kept ≡ Some q = was_asked a e q is in
     ask_may q a.seat.size n cpus few inside (subst (TargetsIf n) asked (ask_targets e a.seat.size n (actor_intent a) a.kept sound))
 
 -- the size and processors that the bus has

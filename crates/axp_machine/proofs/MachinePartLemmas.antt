@@ -146,7 +146,7 @@ is_spelled a e q p r o ties is at answer gives fits =
     let calls : List BusCall = (world_of (seen a)).calls in
     let told : IsToldWithin x.seat.size r = rw (size, answer) (told_within a.image.size (image_bytes a.image) calls (cpu_number e.cpu) q ties.asked) in
     let tidy : IsTidy x.kept.buffer = ((joined a.image (length a.processors.items) a.budget (history a) ties.valid ties.run).buffers (cpu_number e.cpu)).alike.tidy in
-    let asked : ask_of e.act (actor_intent x) x.kept ≡ Some q = (was_asked x e.act q is.asked).0 in
+    let asked : ask_of e.act (actor_intent x) x.kept ≡ Some q = was_asked x e.act q is.asked in
     subst (λ (z : Outcome). Spells e z) (sym gives)
     (spells p x e r at (actor_cpu a.image (length a.processors.items) a.budget (history a) e.cpu) tidy (subst (λ (z : Option Ask2). ReplyFits z r) (sym asked) (answer_fits a e q r ties is answer)) told (subst (λ (z : Outcome). ShowsFitting z) gives fits))
 

@@ -14,10 +14,11 @@ use Rattle.axp_cpu.specs.Actors.{Actor, actor_intent, advanced, moved_by, seat_a
 use Rattle.axp_cpu.specs.Plans.{Plan, End, Want, along}
 use Rattle.axp_cpu.specs.Rows.{group}
 use Rattle.axp_cpu.specs.Seats.{Seat, plan_now, seat_at_plan}
-use Rattle.axp_cpu.specs.declared.refusals.Refusal.{Refusal}
+use Rattle.axp_cpu.specs.declared.refusals.NotLegal.{NotLegal}
 use Rattle.axp_image.specs.Contents.{Contents}
 use Rattle.axp_line.specs.declared.messages.Reply.{Reply}
-use Rattle.axp_lsu.specs.Going.{value_of}
+use Rattle.axp_lsu.specs.Going.{is_entered, value_of}
+use Rattle.axp_cpu.specs.Following.{seat_entered}
 use Rattle.axp_lsu.specs.declared.asks.Ask2.{Ask2}
 use Rattle.axp_lsu.specs.declared.asks.Ask2.TheVariants as ask
 use Rattle.axp_line.specs.BusCalls.{BusCall, console, printed_by}
@@ -41,14 +42,18 @@ over_by image cpus None r a over = over_moved image cpus a.seat a.seat.values (p
 over_by image cpus (Some w) r a over =
     let values : List ℕ = a.seat.values ++ value_of w a.kept r ∷ [] in over_moved image cpus a.seat values (along values (group a.seat.size a.seat.cpus a.seat.start)) over
 
+over_entered : (image : Contents) (cpus : ℕ) (entered : Bool) (s : Seat) → IsOver image cpus s → IsOver image cpus (seat_entered entered s)
+over_entered image cpus true s over = record { size = over.size; few = over.few }
+over_entered image cpus false s over = over
+
 over_after : (image : Contents) (cpus : ℕ) (e : Act) (r : Option Reply) (a : Actor) → IsOver image cpus a.seat → IsOver image cpus (seat_after e r a)
 over_after image cpus act.Step r a over = over_by image cpus (actor_intent a).wanted r a over
 over_after image cpus act.Fill r a over = over
 over_after image cpus (act.Drain k) r a over = over
 over_after image cpus (act.Take b) r a over = over
 over_after image cpus (act.Drop b line) r a over = over
-over_after image cpus act.Poll r a over = over
-over_after image cpus act.Tick r a over = over
+over_after image cpus act.Poll r a over = over_entered image cpus (is_entered (actor_intent a).takes_interrupts r) a.seat over
+over_after image cpus act.Tick r a over = record { size = over.size; few = over.few }
 
 over_advanced : (image : Contents) (cpus : ℕ) (a : Actor) (e : Act) (r : Option Reply) → IsOver image cpus a.seat → IsOver image cpus (advanced a e r).seat
 unfolding advanced
@@ -73,7 +78,7 @@ steps_few [] = omega arith
 steps_few (r ∷ h) = let one = step_one (is_step r.event.act) (steps_in h) (length h) (steps_few h) in omega (arith, one)
 
 -- no more bytes on the console than records
-console_by : (image : ℕ → ℕ) (cs : List BusCall) (cpu : Cpu) (a : Result Ask2 Refusal) (n : ℕ) → length (console cs) ≤ n → length (console (calls_for image cs cpu a)) ≤ n + 1
+console_by : (image : ℕ → ℕ) (cs : List BusCall) (cpu : Cpu) (a : Result Ask2 NotLegal) (n : ℕ) → length (console cs) ≤ n → length (console (calls_for image cs cpu a)) ≤ n + 1
 console_by image cs cpu (Err refusal) n few = omega (arith, few)
 console_by image cs cpu (Ok ask.Private) n few = omega (arith, few)
 console_by image cs cpu (Ok (ask.Bus q)) n few = let sum = length-append (console cs) (printed_by q) in let one = printed_few q in omega (arith, sum, one, few)

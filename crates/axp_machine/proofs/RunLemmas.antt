@@ -4,13 +4,15 @@ use Rattle.std.specs.Prelude.{Result, Ok, Err, not}
 use Rattle.axp_access.specs.declared.Event.{Event}
 use Rattle.axp_access.specs.declared.Outcome.{Outcome}
 use Rattle.axp_access.specs.declared.Record.{Record}
-use Rattle.axp_cpu.specs.declared.refusals.Refusal.{Refusal}
+use Rattle.axp_cpu.specs.declared.refusals.NotLegal.{NotLegal}
 use Rattle.axp_image.specs.Contents.{Contents, IsValid}
 use Rattle.axp_image.proofs.BytePlaceLemmas.{byte_small}
 use Rattle.axp_laws.proofs.CauseMoments.{no_loop}
 use Rattle.axp_laws.proofs.RunRecords.{run_fits}
 use Rattle.axp_laws.proofs.LockGuards.{keeps_locking}
 use Rattle.axp_laws.proofs.OrderPlaces.{run_located, run_prefix}
+use Rattle.axp_laws.proofs.InterruptTimes.{taken_between}
+use Rattle.axp_model.specs.Interrupts.{KeepsInterrupts}
 use Rattle.axp_laws.proofs.PollSignals.{entered_exactly, pending_exactly}
 use Rattle.axp_laws.proofs.SourceRuns.{run_bytes}
 use Rattle.axp_laws.proofs.RunSteps.{keeps_order}
@@ -53,7 +55,7 @@ runs_again image cpus budget (r ∷ h) is =
 pub run_again : (m : Seen) → IsRun m → run (started m.image m.cpus m.budget) (events_of m.records) ≡ m
 run_again m is = runs_again m.image m.cpus m.budget m.records is
 
-outcome_runs : (m : Seen) (e : Event) (o : Result Outcome Refusal) → answer_of m e ≡ o → IsRun m → IsRun (after_answer m e o)
+outcome_runs : (m : Seen) (e : Event) (o : Result Outcome NotLegal) → answer_of m e ≡ o → IsRun m → IsRun (after_answer m e o)
 unfolding answer_of
 outcome_runs m e (Err refusal) gave is = is
 outcome_runs m e (Ok o) gave is = (gave, is)
@@ -82,6 +84,9 @@ keeps_polls image ps k inside is later e pending entered turn h at =
       taken = entered_exactly image ps e pending entered turn h (run_prefix image ps later (polled e pending entered turn ∷ h) split);
     }
 
+keeps_interrupts : (image : ℕ → ℕ) (ps : Processors) (k : List Record) → model_runs.IsRun image ps k → KeepsInterrupts ps k
+keeps_interrupts image ps k run later r h at is = taken_between image ps later r h (subst (model_runs.IsRun image ps) at run) is
+
 -- a run keeps the constraints of shared memory
 pub keeps_constraints : (m : Seen) → IsValid m.image → IsRun m → KeepsConstraints m
 keeps_constraints m valid is =
@@ -97,11 +102,12 @@ keeps_constraints m valid is =
       bytes = run_bytes image ps m.records (λ at. byte_small m.image.size 0 m.image.segments at valid.placed) inside run;
       locking = keeps_locking m.records (run_fits image ps m.records inside run);
       no_loop = no_loop image ps m.records inside run;
+      interrupts = keeps_interrupts image ps m.records run;
       polls = keeps_polls image ps m.records inside run;
     }
 
 -- an event is refused as not legal exactly where it is not
-pub refused_exactly : (m : Seen) (e : Event) (a : Result Outcome Refusal) → a ≡ answer_of m e → IsValid m.image → IsRun m → is_not_legal a ≡ not (legal (processors_of m) m.records e)
+pub refused_exactly : (m : Seen) (e : Event) (a : Result Outcome NotLegal) → a ≡ answer_of m e → IsValid m.image → IsRun m → is_not_legal a ≡ not (legal (processors_of m) m.records e)
 unfolding answer_of
 refused_exactly m e a is valid run = ap is_not_legal is ∙ refused m.image m.cpus m.budget m.records e valid run
 

@@ -8,6 +8,7 @@ use Rattle.axp_model.specs.Location.{IsLocated}
 use Rattle.axp_model.specs.Outcomes as model
 use Rattle.axp_model.specs.Accesses.{accesses, times}
 use Rattle.axp_access.specs.Numbering.{NumberedAccess}
+use Rattle.axp_model.specs.Interrupts.{KeepsInterrupts}
 use Rattle.axp_model.specs.Polls.{KeepsPolls}
 use Rattle.axp_model.specs.Storage.{KeepsEachByte, KeepsStorage}
 use Rattle.axp_world.specs.Worlds.{image_bytes}
@@ -27,5 +28,7 @@ pub record KeepsConstraints (m : Seen) : Type 0 where
   pub locking : KeepsLocking m.records
   -- no value has itself as a cause
   pub no_loop : (u : NumberedAccess) (via : List NumberedAccess) → IsChain m.records u via u → ⊥
+  -- no interrupt falls inside an instruction, a PAL call or an entry
+  pub interrupts : KeepsInterrupts (processors_of m) m.records
   -- interrupts between processors: what each Poll shows, and when it enters
   pub polls : KeepsPolls (processors_of m) m.records

@@ -6,8 +6,7 @@ use Rattle.axp_base.specs.declared.lines.Bank.{Bank}
 use Rattle.axp_base.specs.declared.processors.Cpu.{Cpu}
 use Rattle.axp_bus.specs.Buses.{State, MayAsk}
 use Rattle.axp_bus.specs.BusStands.{Stands}
-use Rattle.axp_cpu.specs.declared.refusals.Refusal.{Refusal}
-use Rattle.axp_cpu.specs.declared.refusals.Refusal.TheVariants.{NotLegal}
+use Rattle.axp_cpu.specs.declared.refusals.NotLegal.{NotLegal}
 use Rattle.axp_image.specs.Contents.{Contents}
 use Rattle.axp_line.specs.declared.messages.Reply.{Reply}
 use Rattle.axp_line.specs.declared.messages.Reply.TheVariants as reply
@@ -21,17 +20,17 @@ use Rattle.axp_cpu.specs.Seats.{is_finished}
 use Rattle.axp_machine.specs.Runs.{Seen, world_of}
 
 -- what is asked is granted, but for a take where nothing is late
-abbrev pub granted_by : Result Ask2 Refusal → Option Reply → Result Ask2 Refusal
-granted_by (Err refusal) r = Err refusal
-granted_by (Ok q) (Some reply.Nothing) = Err NotLegal
+abbrev pub granted_by : Result Ask2 NotLegal → Option Reply → Result Ask2 NotLegal
+granted_by (Err e) r = Err e
+granted_by (Ok q) (Some reply.Nothing) = Err (record { })
 granted_by (Ok q) r = Ok q
 
-abbrev pub granted : Contents → World → Event → Result Ask2 Refusal
+abbrev pub granted : Contents → World → Event → Result Ask2 NotLegal
 granted image w e = granted_by (asked w e) (reply_at image w e)
 
 -- what an event of a machine's processor asks
-unfoldable pub granted_in : Seen → Event → Result Ask2 Refusal
-granted_in m e = if nat_lt (cpu_number e.cpu) m.cpus then granted m.image (world_of m) e else Err NotLegal
+unfoldable pub granted_in : Seen → Event → Result Ask2 NotLegal
+granted_in m e = if nat_lt (cpu_number e.cpu) m.cpus then granted m.image (world_of m) e else Err (record { })
 
 -- the bus answers that there is nothing
 abbrev pub is_nothing : Option Reply → Bool

@@ -5,7 +5,7 @@ use Rattle.axp_access.specs.declared.Outcome.{Outcome}
 use Rattle.axp_access.specs.declared.Record.{Record}
 use Rattle.axp_cpu.specs.Following.{processors, seat_in}
 use Rattle.axp_cpu.specs.Seats.{Seat}
-use Rattle.axp_cpu.specs.declared.refusals.Refusal.{Refusal}
+use Rattle.axp_cpu.specs.declared.refusals.NotLegal.{NotLegal}
 use Rattle.axp_cpu.specs.declared.cpu_states.CpuState.{CpuState}
 use Rattle.axp_image.specs.Contents.{Contents}
 use Rattle.axp_model.specs.Legal as model
@@ -29,17 +29,17 @@ started image cpus budget = record { image = image; cpus = cpus; budget = budget
 abbrev pub world_of : Seen → World
 world_of m = world m.image m.cpus m.budget m.records
 
--- what an event gives, or why it is refused
-unfoldable pub answer_of : Seen → Event → Result Outcome Refusal
+-- what an event gives, or that it is not legal
+unfoldable pub answer_of : Seen → Event → Result Outcome NotLegal
 answer_of m e = worlds.answer_of m.image m.cpus (world_of m) e
 
 -- the machine with one record more
 abbrev pub with_record : Seen → Record → Seen
 with_record m r = record m { records = r ∷ m.records }
 
-abbrev pub after_answer : Seen → Event → Result Outcome Refusal → Seen
+abbrev pub after_answer : Seen → Event → Result Outcome NotLegal → Seen
 after_answer m e (Ok o) = with_record m (record { event = e; outcome = o })
-after_answer m e (Err refusal) = m
+after_answer m e (Err refused) = m
 
 -- the machine after an event: one record more, or unchanged where it is refused
 unfoldable pub after_event : Seen → Event → Seen

@@ -12,7 +12,7 @@ ghost use Rattle.axp_machine.specs.Starts.{StartsAll};
 use axp_access::{Act, Event, Outcome, Record};
 use axp_base::{Bank, Cpu, MAX_BUDGET, MAX_CPUS, MIN_CPUS, NoMemory, QUADWORD_BYTES};
 use axp_bus::Bus;
-use axp_cpu::{Processor, Refusal};
+use axp_cpu::{NotLegal, Processor};
 use axp_image::Image;
 use axp_line::{Reply, Request};
 use axp_lsu::Ask2;
@@ -185,14 +185,13 @@ impl Machine {
         self.bus.tail_memory(quadword * QUADWORD_BYTES)
     }
 
-    /// Does an event and tells its outcome, and keeps the record of both. [`Refusal::NotLegal`]
-    /// exactly where its processor is not one of the machine's, or the event is not legal after the
-    /// records so far; [`Refusal::NotBuilt`] exactly where it is legal and comes to what is not
-    /// built. A refused event leaves the machine as it was. That an event is not legal is said once
+    /// Does an event and tells its outcome, and keeps the record of both. [`NotLegal`] exactly
+    /// where its processor is not one of the machine's, or the event is not legal after the records
+    /// so far; a refused event leaves the machine as it was. That an event is not legal is said once
     /// more in the memory model's words (`legal`). The records are always a run, so they keep the
     /// constraints of shared memory, and one line of a trace spells each of them.
     #[tactic(auto, unfolding(crate::specs::Runs::after_event), using(crate::proofs::RunLemmas::keeps_constraints))]
-    pub fn event(&mut self, event: Event) -> Result<Outcome, Refusal>
+    pub fn event(&mut self, event: Event) -> Result<Outcome, NotLegal>
         ensures answer { result ≡ answer_of self.old event }
         ensures legal { is_not_legal result
             ≡ not (legal (processors_of self.old) self.old.records event) }
@@ -203,27 +202,27 @@ impl Machine {
     {
         match self.grant(event) {
             Ok(ask) => Ok(self.make(event, ask)),
-            Err(refusal) => Err(refusal),
+            Err(NotLegal) => Err(NotLegal),
         }
     }
 
-    /// What an event asks of the bus, or why it is refused: a take where nothing is late is not
+    /// What an event asks of the bus, or that it is not legal: a take where nothing is late is not
     /// legal.
-    fn grant(&self, event: Event) -> Result<Ask2, Refusal>
+    fn grant(&self, event: Event) -> Result<Ask2, NotLegal>
         ensures granted { result ≡ granted_in self.now event }
         ensures within { IfOk result (IsAskWithin self.now.image.size) }
-        ensures answer { IfErr result (λ refusal. answer_of self.now event ≡ Err refusal) }
+        ensures answer { IfErr result (λ refused. answer_of self.now event ≡ Err refused) }
         ensures run { IsRun self.now }
         ensures valid { IsValid self.now.image }
     {
         if usize::from(event.cpu.number()) >= self.processors.len() {
-            return Err(Refusal::NotLegal);
+            return Err(NotLegal);
         }
         match self.processor(event.cpu).request(event.act) {
-            Err(refusal) => Err(refusal),
+            Err(NotLegal) => Err(NotLegal),
             Ok(ask) => {
                 if is_taken_in_vain(&ask, &self.bus, event.cpu) {
-                    Err(Refusal::NotLegal)
+                    Err(NotLegal)
                 } else {
                     Ok(ask)
                 }

@@ -8,6 +8,7 @@ pub mod Locks
 pub mod Late
 pub mod Processors
 pub mod Legal
+pub mod Waits
 pub mod Outcomes
 pub mod Issue
 pub mod Location
@@ -15,4 +16,5 @@ pub mod Storage
 pub mod Locking
 pub mod Causality
 pub mod Polls
+pub mod Interrupts
 pub mod Examples

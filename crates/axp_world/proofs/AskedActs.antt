@@ -12,30 +12,29 @@ use Rattle.axp_lsu.specs.declared.asks.Ask2.{Ask2}
 use Rattle.axp_lsu.specs.declared.asks.Ask2.TheVariants as ask
 use Rattle.axp_lsu.specs.declared.since.Since.{Since}
 use Rattle.axp_cpu.proofs.ActorLemmas.{steps_left}
-use Rattle.axp_cpu.specs.Actors.{Actor, actor_intent, asked_by, is_built, request_of}
+use Rattle.axp_cpu.specs.Actors.{Actor, actor_intent, asked_or_refused, request_of}
 use Rattle.axp_cpu.specs.Seats.{Seat, is_finished}
 
-asked_parts : (x : Option Ask2) (built : Bool) (q : Ask2) → asked_by x built ≡ Ok q → (x ≡ Some q) × (built ≡ true)
-asked_parts None built q h = cc
-asked_parts (Some m) true q h = (cc, refl)
-asked_parts (Some m) false q h = cc
+-- what is asked is what the act asks
+pub asked_ok : (o : Option Ask2) (q : Ask2) → asked_or_refused o ≡ Ok q → o ≡ Some q
+asked_ok None q is = cc
+asked_ok (Some m) q is = cc
 
 pub some_if : (b : Bool) (x : Option Ask2) (q : Ask2) → cond b x None ≡ Some q → (b ≡ true) × (x ≡ Some q)
 some_if true x q h = (refl, h)
 some_if false x q h = cc
 
--- what is asked for is built, may be made now, and has its own condition
+-- what is asked for may be made now, and has its own condition
 pub record IsAsked (a : Actor) (e : Act) (q : Ask2) : Type 0 where
-  pub built : is_built e a ≡ true
   pub now : is_timely e (is_finished a.seat) a.kept.since.filled ≡ true
   pub asks : act_ask e (actor_intent a) a.kept ≡ Some q
 
 pub is_asked : (a : Actor) (e : Act) (q : Ask2) → request_of a e ≡ Ok q → IsAsked a e q
 unfolding request_of ask_of
 is_asked a e q h =
-    let both = asked_parts (cond (is_timely e (is_finished a.seat) a.kept.since.filled) (act_ask e (actor_intent a) a.kept) None) (is_built e a) q h in
-    let parts = some_if (is_timely e (is_finished a.seat) a.kept.since.filled) (act_ask e (actor_intent a) a.kept) q both.0 in
-    record { built = both.1; now = parts.0; asks = parts.1 }
+    let asks : cond (is_timely e (is_finished a.seat) a.kept.since.filled) (act_ask e (actor_intent a) a.kept) None ≡ Some q = asked_ok (cond (is_timely e (is_finished a.seat) a.kept.since.filled) (act_ask e (actor_intent a) a.kept) None) q h in
+    let parts = some_if (is_timely e (is_finished a.seat) a.kept.since.filled) (act_ask e (actor_intent a) a.kept) q asks in
+    record { now = parts.0; asks = parts.1 }
 
 -- the bounds that allow an act to a processor with so many steps made: but for a Drain or a Take it has a
 -- step left, and did not do the same since its last Step

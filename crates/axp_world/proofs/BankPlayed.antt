@@ -14,7 +14,8 @@ use Rattle.axp_bank.proofs.BankLemmas.{whole_empty}
 use Rattle.axp_base.specs.Cpus.{cpu_number}
 use Rattle.axp_base.specs.Lines.{data_bank, in_bank}
 use Rattle.axp_base.specs.declared.lines.Bank.TheVariants.{Even, Odd}
-use Rattle.axp_cpu.specs.Actors.{Actor, actor_intent, advanced, asked_by, is_built, outcome_of, request_of}
+use Rattle.axp_world.proofs.AskedActs.{asked_ok}
+use Rattle.axp_cpu.specs.Actors.{Actor, actor_intent, advanced, outcome_of, request_of}
 use Rattle.axp_image.specs.Contents.{Contents}
 use Rattle.axp_line.specs.declared.contents.LineData.{LineData}
 use Rattle.axp_line.specs.declared.messages.Reply.{Reply}
@@ -59,18 +60,13 @@ banks_start image cpus budget p = record {
 }
 
 -- what a played record asked
-asked_act : (o : Option Ask2) (built : Bool) (q : Ask2) → asked_by o built ≡ Ok q → o ≡ Some q
-asked_act None built q e = cc
-asked_act (Some x) true q e = cc
-asked_act (Some x) false q e = cc
-
 may_act : (may : Bool) (o : Option Ask2) (q : Ask2) → cond may o None ≡ Some q → o ≡ Some q
 may_act true o q e = e
 may_act false o q e = cc
 
 act_asked : (a : Actor) (e : Act) (q : Ask2) → request_of a e ≡ Ok q → act_ask e (actor_intent a) a.kept ≡ Some q
 unfolding request_of ask_of
-act_asked a e q asks = may_act (is_timely e (actor_intent a).finished a.kept.since.filled) (act_ask e (actor_intent a) a.kept) q (asked_act (ask_of e (actor_intent a) a.kept) (is_built e a) q asks)
+act_asked a e q asks = may_act (is_timely e (actor_intent a).finished a.kept.since.filled) (act_ask e (actor_intent a) a.kept) q (asked_ok (ask_of e (actor_intent a) a.kept) q asks)
 
 -- the processor that acted
 own_step : (image : Contents) (cpus budget : ℕ) (r : Record) (h : List Record) → WantsInLine (world_intent image cpus budget (cpu_number r.event.cpu) h).wanted → Shown image (world image cpus budget h) r.event r.outcome → Fitting (r ∷ h)

@@ -17,8 +17,10 @@ use Rattle.axp_access.specs.declared.Intent.{Intent}
 use Rattle.axp_access.specs.declared.Outcome.{Outcome}
 use Rattle.axp_access.specs.declared.Record.{Record}
 use Rattle.axp_access.specs.declared.Wanted.{Wanted}
+use Rattle.axp_world.proofs.AskedActs.{asked_ok}
 use Rattle.axp_cpu.specs.Actors as actors
-use Rattle.axp_cpu.specs.Actors.{Actor, actor_intent, asked_by, is_built, request_of}
+use Rattle.axp_world.proofs.AskedActs.{asked_ok}
+use Rattle.axp_cpu.specs.Actors.{Actor, actor_intent, request_of}
 use Rattle.axp_lsu.specs.Asking.{act_ask, access_ask, ask_of, drain_ask, is_ready, step_ask}
 use Rattle.axp_lsu.specs.Going as going
 use Rattle.axp_lsu.specs.Going.{after_access, after_line, after_late, after_drain, after_barrier, after_fill, fill_outcome, drain_outcome, after_act, outcome_by, poll_outcome, after_stored, step_outcome, after_step, take_outcome}
@@ -77,10 +79,6 @@ access_step kind.Console cpu a s x t u e h ok fits was = leaves_buffer e _ h u.b
 access_step kind.Poll cpu a s x t u e h ok fits was = leaves_buffer e _ h u.buffer u.buffer refl (refl, refl) fits was
 
 -- what was asked was legal, as far as the processor knew
-asked_some : (o : Option Ask2) (built : Bool) (q : Ask2) → asked_by o built ≡ Ok q → (r : Ask2) × (o ≡ Some r)
-asked_some None built q is = cc
-asked_some (Some r) built q is = (r, refl)
-
 asked_act : (a : Act) (i : Intent) (u : LocalMemory) (q : Ask2) → ask_of a i u ≡ Some q → act_ask a i u ≡ Some q
 unfolding ask_of
 asked_act a i u q is =
@@ -91,7 +89,7 @@ asked_act a i u q is =
 
 asked_of : (x : Actor) (a : Act) (q : Ask2) → request_of x a ≡ Ok q → (r : Ask2) × (act_ask a (actor_intent x) x.kept ≡ Some r)
 unfolding request_of
-asked_of x a q is = let some = asked_some (ask_of a (actor_intent x) x.kept) (is_built a x) q is in (some.0, asked_act a (actor_intent x) x.kept some.0 some.1)
+asked_of x a q is = (q, asked_act a (actor_intent x) x.kept q (asked_ok (ask_of a (actor_intent x) x.kept) q is))
 
 -- a Step
 ready_of : (b : Bool) (q r : Ask2) → cond b (Some q) None ≡ Some r → b ≡ true

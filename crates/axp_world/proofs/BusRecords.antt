@@ -20,7 +20,8 @@ use Rattle.axp_access.specs.declared.Outcome.TheVariants as outcome
 use Rattle.axp_access.specs.declared.Place.TheVariants.{At}
 use Rattle.axp_access.specs.declared.Record.{Record}
 use Rattle.axp_access.specs.declared.Wanted.{Wanted}
-use Rattle.axp_cpu.specs.Actors.{Actor, actor_intent, asked_by, is_built, outcome_of, request_of}
+use Rattle.axp_world.proofs.AskedActs.{asked_ok}
+use Rattle.axp_cpu.specs.Actors.{Actor, actor_intent, outcome_of, request_of}
 use Rattle.axp_image.specs.Contents.{Contents}
 use Rattle.axp_base.specs.LatePairs.{others}
 use Rattle.axp_line.specs.Lines.{data_of}
@@ -443,14 +444,9 @@ follows_after image cs e o h ask.Private s bus = stays_after image cs e o h s bu
 follows_after image cs e o h (ask.Bus q) m bus = matches_after image cs e o h q (bus_reply image cs (cpu_number e.cpu) q) m bus
 
 -- what is asked is what the act asks
-pub asked_ok : (o : Option Ask2) (built : Bool) (z : Ask2) → asked_by o built ≡ Ok z → o ≡ Some z
-asked_ok None built z is = cc
-asked_ok (Some q) true z is = cc
-asked_ok (Some q) false z is = cc
-
 pub asked_act : (a : Actor) (e : Act) (z : Ask2) → request_of a e ≡ Ok z → (act_ask e (actor_intent a) a.kept ≡ Some z) × (is_timely e (actor_intent a).finished a.kept.since.filled ≡ true)
 unfolding request_of ask_of
-asked_act a e z is = chosen (is_timely e (actor_intent a).finished a.kept.since.filled) (act_ask e (actor_intent a) a.kept) (asked_ok (cond (is_timely e (actor_intent a).finished a.kept.since.filled) (act_ask e (actor_intent a) a.kept) None) (is_built e a) z is) where
+asked_act a e z is = chosen (is_timely e (actor_intent a).finished a.kept.since.filled) (act_ask e (actor_intent a) a.kept) (asked_ok (cond (is_timely e (actor_intent a).finished a.kept.since.filled) (act_ask e (actor_intent a) a.kept) None) z is) where
   chosen : (b : Bool) (o : Option Ask2) → cond b o None ≡ Some z → (o ≡ Some z) × (b ≡ true)
   chosen true o same = (same, refl)
   chosen false o same = cc

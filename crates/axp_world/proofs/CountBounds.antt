@@ -17,7 +17,8 @@ use Rattle.axp_lsu.specs.Going.{after_act}
 use Rattle.axp_lsu.specs.Keeping.{LocalMemory, has_dropped, with_drop}
 use Rattle.axp_lsu.specs.declared.asks.Ask2.{Ask2}
 use Rattle.axp_lsu.specs.declared.since.Since.{Since}
-use Rattle.axp_cpu.specs.Actors.{Actor, actor_intent, advanced, is_built, moved_by, request_of, seat_after}
+use Rattle.axp_cpu.specs.Actors.{Actor, actor_intent, advanced, moved_by, request_of, seat_after}
+use Rattle.axp_cpu.specs.Following.{seat_entered}
 use Rattle.axp_cpu.specs.Plans.{Plan, End, Want}
 use Rattle.axp_cpu.specs.Seats.{Seat, plan_now, seat_at_plan}
 use Rattle.axp_world.specs.Worlds.{reply_for}
@@ -94,14 +95,18 @@ step_moves : (o : Option Wanted) (r : Option Reply) (a : Actor) → ((moved_by o
 step_moves None r a = moved_steps a.seat a.seat.values (plan_now a.seat)
 step_moves (Some w) r a = moved_steps a.seat _ _
 
-seat_moves : (e : Act) (r : Option Reply) (a : Actor) → is_built e a ≡ true → ((seat_after e r a).budget ≡ a.seat.budget) × ((seat_after e r a).steps ≡ a.seat.steps + cond (is_step e) 1 0)
-seat_moves act.Step r a built = step_moves (actor_intent a).wanted r a
-seat_moves act.Fill r a built = (refl, omega arith)
-seat_moves (act.Drain k) r a built = (refl, omega arith)
-seat_moves (act.Take b) r a built = (refl, omega arith)
-seat_moves (act.Drop b line) r a built = (refl, omega arith)
-seat_moves act.Poll r a built = cc
-seat_moves act.Tick r a built = cc
+entered_moves : (entered : Bool) (s : Seat) → ((seat_entered entered s).budget ≡ s.budget) × ((seat_entered entered s).steps ≡ s.steps + 0)
+entered_moves true s = (refl, omega arith)
+entered_moves false s = (refl, omega arith)
+
+seat_moves : (e : Act) (r : Option Reply) (a : Actor) → ((seat_after e r a).budget ≡ a.seat.budget) × ((seat_after e r a).steps ≡ a.seat.steps + cond (is_step e) 1 0)
+seat_moves act.Step r a = step_moves (actor_intent a).wanted r a
+seat_moves act.Fill r a = (refl, omega arith)
+seat_moves (act.Drain k) r a = (refl, omega arith)
+seat_moves (act.Take b) r a = (refl, omega arith)
+seat_moves (act.Drop b line) r a = (refl, omega arith)
+seat_moves act.Poll r a = entered_moves (going.is_entered (actor_intent a).takes_interrupts r) a.seat
+seat_moves act.Tick r a = (refl, omega arith)
 
 -- the entries
 pub record AreDrained (t : Tally) (own entries : ℕ) : Type 0 where
@@ -158,7 +163,7 @@ unfolding advanced going.advanced
 bounded_after image cs p most a e q t own requested was =
     let r = reply_for image cs p (Ok q) in
     let asked = is_asked a e q requested in
-    let seat = seat_moves e r a asked.built in
+    let seat = seat_moves e r a in
     let free = subst (λ n. IsAllowed e most n a.kept.since) was.made (subst (λ n. IsAllowed e n a.seat.steps a.kept.since) was.limit (allowed a e q asked)) in
     let entries = are_drained image cs p e (actor_intent a) a.kept q t own asked.asks (record { drained = was.drained; turned = was.turned }) in
     record {

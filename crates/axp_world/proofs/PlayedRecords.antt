@@ -5,7 +5,7 @@ use Rattle.std.proofs.lemmas.Bool.{cases_Bool}
 use Rattle.axp_access.specs.declared.Event.{Event}
 use Rattle.axp_access.specs.declared.Outcome.{Outcome}
 use Rattle.axp_base.specs.Cpus.{cpu_number}
-use Rattle.axp_cpu.specs.declared.refusals.Refusal.{Refusal}
+use Rattle.axp_cpu.specs.declared.refusals.NotLegal.{NotLegal}
 use Rattle.axp_cpu.specs.Actors.{advanced, outcome_of, request_of}
 use Rattle.axp_image.specs.Contents.{Contents}
 use Rattle.axp_line.specs.declared.messages.Reply.{Reply}
@@ -21,7 +21,7 @@ pub record Shown (image : Contents) (w : World) (e : Event) (o : Outcome) : Type
   pub something : reply_at image w e ≡ Some reply.Nothing → ⊥
   pub outcome : o ≡ outcome_of (w.actors (cpu_number e.cpu)) e.act (reply_at image w e)
 
-shown_by : (image : Contents) (w : World) (e : Event) (o : Outcome) (a : Result Ask2 Refusal) (r : Option Reply) → asked w e ≡ a → reply_at image w e ≡ r
+shown_by : (image : Contents) (w : World) (e : Event) (o : Outcome) (a : Result Ask2 NotLegal) (r : Option Reply) → asked w e ≡ a → reply_at image w e ≡ r
     → answer_by a r (outcome_of (w.actors (cpu_number e.cpu)) e.act (reply_at image w e)) ≡ Ok o → Shown image w e o
 shown_by image w e o (Err refusal) r is answered h = cc
 shown_by image w e o (Ok q) (Some reply.Nothing) is answered h = cc

@@ -12,12 +12,11 @@ use Rattle.axp_access.specs.declared.Event.{Event}
 use Rattle.axp_access.specs.declared.Outcome.{Outcome}
 use Rattle.axp_access.specs.declared.Record.{Record}
 use Rattle.axp_base.specs.Cpus.{cpu_number}
-use Rattle.axp_cpu.specs.declared.refusals.Refusal.{Refusal}
-use Rattle.axp_cpu.specs.declared.refusals.Refusal.TheVariants.{NotLegal, NotBuilt}
+use Rattle.axp_cpu.specs.declared.refusals.NotLegal.{NotLegal}
 use Rattle.axp_image.specs.Contents.{Contents, IsValid}
 use Rattle.axp_model.specs.Processors.{AreInLine}
 use Rattle.axp_model.specs.Outcomes.{IsRun, outcome_of}
-use Rattle.axp_world.specs.RunLaws.{IsBuilt, is_not_legal}
+use Rattle.axp_world.specs.RunLaws.{is_not_legal}
 use Rattle.axp_world.specs.Worlds.{IsPlayed, answer_of, image_bytes, world}
 use Rattle.axp_world.proofs.BankPlayed.{Banked, banks_agree, banks_start, banks_step}
 use Rattle.axp_world.proofs.BufferPlayed.{IsBuffered, buffer_agrees, buffer_start, buffer_step}
@@ -78,23 +77,22 @@ refused image cpus budget h e valid played =
     let is : Joined image cpus budget h = joined image cpus budget h valid played in
     refused_agrees image cpus budget h e (agrees image cpus budget h is (cpu_number e.cpu) (cpu_small e.cpu)) is.bus
 
--- a legal event that comes to nothing that is not built has the model's outcome
-answered_by : (image : Contents) (cpus budget : ℕ) (r : Record) (h : List Record) (a : Result Outcome Refusal) → IsValid image → Joined image cpus budget h → answer_of image cpus (world image cpus budget h) r.event ≡ a
-    → is_not_legal a ≡ false → (a ≡ Err NotBuilt → ⊥) → r.outcome ≡ outcome_of (image_bytes image) (processors image cpus budget) h r.event → a ≡ Ok r.outcome
-answered_by image cpus budget r h (Ok o) valid is answer able built same =
+-- a legal event has the model's outcome
+answered_by : (image : Contents) (cpus budget : ℕ) (r : Record) (h : List Record) (a : Result Outcome NotLegal) → IsValid image → Joined image cpus budget h → answer_of image cpus (world image cpus budget h) r.event ≡ a
+    → is_not_legal a ≡ false → r.outcome ≡ outcome_of (image_bytes image) (processors image cpus budget) h r.event → a ≡ Ok r.outcome
+answered_by image cpus budget r h (Ok o) valid is answer able same =
     let inside : AreInLine (processors image cpus budget) = in_line image cpus budget valid in
     let fit = run_fits (image_bytes image) (processors image cpus budget) h inside is.run in
     let p : ℕ = cpu_number r.event.cpu in
     let says : o ≡ outcome_of (image_bytes image) (processors image cpus budget) h r.event =
     played_outcome image cpus budget (record { event = r.event; outcome = o }) h answer fit (intents_in_line image cpus budget valid p h) (intents_name_targets image cpus budget valid p h) (agrees image cpus budget h is p (cpu_small r.event.cpu)) is.bus in
     ap (λ (x : Outcome). Ok x) (says ∙ sym same)
-answered_by image cpus budget r h (Err NotLegal) valid is answer able built same = cc
-answered_by image cpus budget r h (Err NotBuilt) valid is answer able built same = absurd (built refl)
+answered_by image cpus budget r h (Err e) valid is answer able same = cc
 
-pub runs_are_played : (image : Contents) (cpus budget : ℕ) (h : List Record) → IsValid image → IsRun (image_bytes image) (processors image cpus budget) h → IsBuilt image cpus budget h → IsPlayed image cpus budget h
-runs_are_played image cpus budget [] valid run built = tt
-runs_are_played image cpus budget (r ∷ h) valid run built =
-    let played : IsPlayed image cpus budget h = runs_are_played image cpus budget h valid run.2 built.1 in
+pub runs_are_played : (image : Contents) (cpus budget : ℕ) (h : List Record) → IsValid image → IsRun (image_bytes image) (processors image cpus budget) h → IsPlayed image cpus budget h
+runs_are_played image cpus budget [] valid run = tt
+runs_are_played image cpus budget (r ∷ h) valid run =
+    let played : IsPlayed image cpus budget h = runs_are_played image cpus budget h valid run.2 in
     let is : Joined image cpus budget h = joined image cpus budget h valid played in
     let able : is_not_legal (answer_of image cpus (world image cpus budget h) r.event) ≡ false = refused image cpus budget h r.event valid played ∙ ap not run.0 in
-    (answered_by image cpus budget r h (answer_of image cpus (world image cpus budget h) r.event) valid is refl able built.0 run.1, played)
+    (answered_by image cpus budget r h (answer_of image cpus (world image cpus budget h) r.event) valid is refl able run.1, played)

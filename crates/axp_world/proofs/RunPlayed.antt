@@ -20,7 +20,7 @@ use Rattle.axp_base.proofs.CpuLemmas.{cpu_of_number}
 use Rattle.axp_access.specs.declared.Act.{Act}
 use Rattle.axp_access.specs.declared.Act.TheVariants as act
 use Rattle.axp_access.specs.declared.Record.{Record}
-use Rattle.axp_cpu.specs.Actors.{Actor, actor_intent, advanced, is_built, outcome_of, request_of}
+use Rattle.axp_cpu.specs.Actors.{Actor, actor_intent, advanced, outcome_of, request_of}
 use Rattle.axp_image.specs.Contents.{Contents, IsValid}
 use Rattle.axp_line.specs.declared.messages.Reply.{Reply}
 use Rattle.axp_line.specs.declared.messages.Reply.TheVariants as reply
@@ -40,7 +40,8 @@ use Rattle.axp_model.specs.Outcomes as model
 use Rattle.axp_model.specs.Outcomes.{IsRun}
 use Rattle.axp_laws.proofs.RunFacts.{Fitting}
 use Rattle.axp_world.specs.Worlds.{World, answer_of, cpu_or_first, image_bytes, reply_at, world}
-use Rattle.axp_world.proofs.BusRecords.{asked_act, asked_ok}
+use Rattle.axp_world.proofs.BusRecords.{asked_act}
+use Rattle.axp_world.proofs.AskedActs.{asked_ok}
 use Rattle.axp_world.proofs.RunLegality.{has_late, legal_agrees}
 use Rattle.axp_world.proofs.PlayedRecords.{actor_other, actor_own, shown}
 use Rattle.axp_world.proofs.RunOutcomes.{WantsTarget, answer, outcome_agrees}
@@ -82,7 +83,7 @@ act_some act.Tick i u image cs c z something is = refl
 -- what is asked
 asked_is : (a : Actor) (e : Act) (z : Ask2) → request_of a e ≡ Ok z → ask_of e (actor_intent a) a.kept ≡ Some z
 unfolding request_of
-asked_is a e z is = asked_ok (ask_of e (actor_intent a) a.kept) (is_built e a) z is
+asked_is a e z is = asked_ok (ask_of e (actor_intent a) a.kept) z is
 
 -- what each processor has of the world, after a history
 pub record Agrees (image : Contents) (cpus budget : ℕ) (h : List Record) (p : ℕ) : Type 0 where

@@ -4,7 +4,7 @@ use Rattle.axp_cpu.specs.Seats.{intent_of}
 use Rattle.axp_access.specs.declared.Intent.{Intent}
 use Rattle.axp_world.proofs.Agreement.{BusAgrees}
 use Rattle.axp_model.specs.Legal.{legal, is_timely}
-use Rattle.std.proofs.lemmas.Bool.{cases_Bool, ltb-true, lt-ltb, false≢true}
+use Rattle.std.proofs.lemmas.Bool.{cases_Bool, ltb-true, lt-ltb}
 use Rattle.std.proofs.Common.{ltb, ⊎_elim, true, false, ℕ, ◌<◌, ◌≡◌, cond, Bool, not, ◌&&◌, List, [], ◌∷◌, slice_get, Option, Some, None, is_some, refl, sym, ap, ◌∙◌}
 use Rattle.std.specs.Prelude.{Ok}
 use Rattle.axp_bank.specs.Copies.{is_held}
@@ -20,7 +20,7 @@ use Rattle.axp_access.specs.declared.Event.{Event}
 use Rattle.axp_access.specs.declared.Outcome.{Outcome}
 use Rattle.axp_access.specs.declared.Record.{Record}
 use Rattle.axp_access.specs.declared.Wanted.{Wanted}
-use Rattle.axp_cpu.specs.Actors.{Actor, actor_intent, asked_by, is_built, outcome_of, request_of}
+use Rattle.axp_cpu.specs.Actors.{Actor, actor_intent, asked_or_refused, outcome_of, request_of}
 use Rattle.axp_image.specs.Contents.{Contents}
 use Rattle.axp_line.specs.Lines.{data_of}
 use Rattle.axp_line.specs.declared.messages.Reply.{Reply}
@@ -123,26 +123,15 @@ act_nothing (act.Drop b line) i u image cs c z is = only_takes z image cs c (ap 
 act_nothing act.Poll i u image cs c z is = only_takes z image cs c (ap is_take (sym (some_if (i.boundary && not u.since.polled) (ask.Bus (request.Poll i.takes_interrupts)) z is)))
 act_nothing act.Tick i u image cs c z is = only_takes z image cs c (ap is_take (sym (some_if (i.boundary && (i.takes_interrupts && not u.since.ticked)) ask.Private z is)))
 
--- a Take is built
-unbuilt_late : (a : Act) (who : Actor) (cs : List BusCall) (p : ℕ) → is_built a who ≡ false → has_late a cs p ≡ true
-unbuilt_late (act.Take b) who cs p is = absurd (false≢true (sym is))
-unbuilt_late act.Step who cs p is = refl
-unbuilt_late act.Fill who cs p is = refl
-unbuilt_late (act.Drain k) who cs p is = refl
-unbuilt_late (act.Drop b line) who cs p is = refl
-unbuilt_late act.Poll who cs p is = refl
-unbuilt_late act.Tick who cs p is = refl
-
 by_reply : (q : Ask2) (r : Option Reply) (o : Outcome) → is_not_legal (answer_by (Ok q) r o) ≡ is_nothing r
 by_reply q None o = refl
 by_reply q (Some reply.Nothing) o = refl
 by_reply q (Some _) o = refl
 
-by_ask : (o : Option Ask2) (built some : Bool) (image : ℕ → ℕ) (cs : List BusCall) (c : Cpu) (out : Outcome) → (built ≡ false → some ≡ true) → ((z : Ask2) → o ≡ Some z → is_nothing (answer image cs c z) ≡ not some)
-    → is_not_legal (answer_by (asked_by o built) (reply_for image cs (cpu_number c) (asked_by o built)) out) ≡ not (is_some o && some)
-by_ask None built some image cs c out unbuilt nothing = refl
-by_ask (Some q) true some image cs c out unbuilt nothing = by_reply q (answer image cs c q) out ∙ nothing q refl
-by_ask (Some q) false some image cs c out unbuilt nothing = rw (unbuilt refl) refl
+by_ask : (o : Option Ask2) (some : Bool) (image : ℕ → ℕ) (cs : List BusCall) (c : Cpu) (out : Outcome) → ((z : Ask2) → o ≡ Some z → is_nothing (answer image cs c z) ≡ not some)
+    → is_not_legal (answer_by (asked_or_refused o) (reply_for image cs (cpu_number c) (asked_or_refused o)) out) ≡ not (is_some o && some)
+by_ask None some image cs c out nothing = refl
+by_ask (Some q) some image cs c out nothing = by_reply q (answer image cs c q) out ∙ nothing q refl
 
 ask_act : (now : Bool) (o : Option Ask2) (z : Ask2) → cond now o None ≡ Some z → o ≡ Some z
 ask_act true o z is = is
@@ -155,7 +144,7 @@ below_agrees image cpus budget h e below agrees bus =
     let w : World = world image cpus budget h in
     let a : Actor = w.actors (cpu_number e.cpu) in
     rw (lt-ltb (cpu_number e.cpu) cpus below)
-    (by_ask (ask_of e.act (actor_intent a) a.kept) (is_built e.act a) (has_late e.act w.calls (cpu_number e.cpu)) (image_bytes image) w.calls e.cpu (outcome_of a e.act (reply_at image w e)) (unbuilt_late e.act a w.calls (cpu_number e.cpu))
+    (by_ask (ask_of e.act (actor_intent a) a.kept) (has_late e.act w.calls (cpu_number e.cpu)) (image_bytes image) w.calls e.cpu (outcome_of a e.act (reply_at image w e))
     (λ z is. act_nothing e.act (actor_intent a) a.kept (image_bytes image) w.calls e.cpu z (ask_act (is_timely e.act (actor_intent a).finished a.kept.since.filled) (act_ask e.act (actor_intent a) a.kept) z is))
     ∙ ap not (legal_agrees (image_bytes image) (cpu_number e.cpu) h (actor_intent a) a.kept w.calls e.act agrees.buffer agrees.banks agrees.since bus)
     ∙ ap not (sym (legal_by (processors image cpus budget) h e (actor_intent a) below (ap intent_of agrees.seat))))

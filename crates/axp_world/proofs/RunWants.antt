@@ -12,20 +12,20 @@ use Rattle.axp_cpu.specs.Actors.{Actor, actor_intent, advanced, moved_by, seat_a
 use Rattle.axp_access.specs.declared.Outcome.{Outcome}
 use Rattle.axp_access.specs.declared.Outcome.TheVariants as outcome
 use Rattle.axp_cpu.specs.Following as following
-use Rattle.axp_cpu.specs.Following.{processors, seat_after_step, seat_in, value_shown}
+use Rattle.axp_cpu.specs.Following.{processors, seat_after_poll, seat_after_step, seat_entered, seat_in, value_shown}
 use Rattle.axp_model.specs.Records.{is_of}
 use Rattle.axp_world.proofs.Agreement.{world_intent}
 use Rattle.axp_cpu.specs.Plans.{Plan, End, Want, along}
 use Rattle.axp_cpu.specs.Rows.{group}
-use Rattle.axp_cpu.specs.Seats.{Seat, first_seat, is_finished, seat_at_plan, plan_now, wanted, wanted_by}
+use Rattle.axp_cpu.specs.Seats.{Seat, first_seat, is_finished, seat_at_plan, seat_interrupted, plan_now, wanted, wanted_by}
 use Rattle.axp_cpu.specs.Soundness.{IsSettled, IsSound, IsSoundAs}
 use Rattle.axp_cpu.proofs.PlanLemmas.{along_sound, arrived_settled, group_sound}
-use Rattle.axp_cpu.proofs.SeatLemmas.{first_settled}
+use Rattle.axp_cpu.proofs.SeatLemmas.{first_settled, interrupted_settled}
 use Rattle.axp_image.specs.Contents.{Contents, IsValid}
 use Rattle.axp_base.specs.declared.processors.TheConstants.{MAX_CPUS}
 use Rattle.axp_image.specs.declared.limits.TheConstants.{MAX_MEMORY, PAGE_BYTES}
 use Rattle.axp_line.specs.declared.messages.Reply.{Reply}
-use Rattle.axp_lsu.specs.Going.{value_of}
+use Rattle.axp_lsu.specs.Going.{is_entered, value_of}
 use Rattle.axp_lsu.specs.Within.{IsInMemory}
 use Rattle.axp_model.specs.Processors.{AreInLine, IsInLine, WantsInLine}
 use Rattle.axp_access.specs.Kinds.{is_poll}
@@ -57,14 +57,22 @@ wanted_seated : (o : Option Wanted) (r : Option Reply) (a : Actor) → IsSeated 
 wanted_seated None r a seated = values_seated a.seat a.seat.values seated
 wanted_seated (Some w) r a seated = values_seated a.seat (a.seat.values ++ value_of w a.kept r ∷ []) seated
 
+-- after an interrupt
+interrupted_seated : (code : ℕ) (s : Seat) → IsSeated s → IsSeated (seat_interrupted code s)
+interrupted_seated code s seated = record { pages = seated.pages; most = seated.most; few = seated.few; settled = interrupted_settled code s seated.pages seated.settled }
+
+entered_seated : (entered : Bool) (s : Seat) → IsSeated s → IsSeated (seat_entered entered s)
+entered_seated true s seated = interrupted_seated _ s seated
+entered_seated false s seated = seated
+
 act_seated : (e : Act) (r : Option Reply) (a : Actor) → IsSeated a.seat → IsSeated (seat_after e r a)
 act_seated act.Step r a seated = wanted_seated (actor_intent a).wanted r a seated
 act_seated act.Fill r a seated = seated
 act_seated (act.Drain k) r a seated = seated
 act_seated (act.Take b) r a seated = seated
 act_seated (act.Drop b line) r a seated = seated
-act_seated act.Poll r a seated = seated
-act_seated act.Tick r a seated = seated
+act_seated act.Poll r a seated = entered_seated (is_entered (actor_intent a).takes_interrupts r) a.seat seated
+act_seated act.Tick r a seated = interrupted_seated _ a.seat seated
 
 advanced_seated : (a : Actor) (e : Act) (r : Option Reply) → IsSeated a.seat → IsSeated (advanced a e r).seat
 unfolding advanced
@@ -153,8 +161,14 @@ shown_seated (outcome.Access a) s seated = values_seated s (s.values ++ value_sh
 shown_seated outcome.NoAccess s seated = values_seated s s.values seated
 shown_seated _ s seated = seated
 
+polled_seated : (o : Outcome) (s : Seat) → IsSeated s → IsSeated (seat_after_poll o s)
+polled_seated (outcome.Polled pending entered turn) s seated = entered_seated entered s seated
+polled_seated _ s seated = seated
+
 record_seated : (e : Act) (o : Outcome) (s : Seat) → IsSeated s → IsSeated (following.seat_after e o s)
 record_seated act.Step o s seated = shown_seated o s seated
+record_seated act.Poll o s seated = polled_seated o s seated
+record_seated act.Tick o s seated = interrupted_seated _ s seated
 record_seated _ o s seated = seated
 
 followed_seated : (image : Contents) (cpus budget : ℕ) → IsValid image → (h : List Record) (p : ℕ) → IsSeated (seat_in image cpus budget p h)

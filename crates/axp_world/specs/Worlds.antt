@@ -6,8 +6,7 @@ use Rattle.axp_access.specs.declared.Outcome.{Outcome}
 use Rattle.axp_access.specs.declared.Record.{Record}
 use Rattle.axp_base.specs.Cpus.{cpu_number, cpu_of}
 use Rattle.axp_base.specs.declared.processors.Cpu.{Cpu}
-use Rattle.axp_cpu.specs.declared.refusals.Refusal.{Refusal}
-use Rattle.axp_cpu.specs.declared.refusals.Refusal.TheVariants.{NotLegal}
+use Rattle.axp_cpu.specs.declared.refusals.NotLegal.{NotLegal}
 use Rattle.axp_cpu.specs.Actors.{Actor, first_actor, request_of, advanced, outcome_of}
 use Rattle.axp_image.specs.Contents.{Contents, byte_in}
 use Rattle.axp_line.specs.declared.messages.Reply.{Reply}
@@ -25,12 +24,12 @@ pub record World : Type 0 where
 abbrev pub image_bytes : Contents → ℕ → ℕ
 image_bytes image at = byte_in image.segments at
 
--- what the event's processor asks, or why it is refused
-abbrev pub asked : World → Event → Result Ask2 Refusal
+-- what the event's processor asks, or that it is not legal
+abbrev pub asked : World → Event → Result Ask2 NotLegal
 asked w e = request_of (w.actors (cpu_number e.cpu)) e.act
 
 -- the bus's answer, where it is asked
-abbrev pub reply_for : (ℕ → ℕ) → List BusCall → ℕ → Result Ask2 Refusal → Option Reply
+abbrev pub reply_for : (ℕ → ℕ) → List BusCall → ℕ → Result Ask2 NotLegal → Option Reply
 reply_for image cs p (Ok (ask.Bus q)) = Some (bus_reply image cs p q)
 reply_for image cs p _ = None
 
@@ -38,24 +37,24 @@ abbrev pub reply_at : Contents → World → Event → Option Reply
 reply_at image w e = reply_for (image_bytes image) w.calls (cpu_number e.cpu) (asked w e)
 
 -- the call that is made
-abbrev pub calls_for : (ℕ → ℕ) → List BusCall → Cpu → Result Ask2 Refusal → List BusCall
+abbrev pub calls_for : (ℕ → ℕ) → List BusCall → Cpu → Result Ask2 NotLegal → List BusCall
 calls_for image cs cpu (Ok (ask.Bus q)) = record { cpu = cpu; ask = q; answer = bus_reply image cs (cpu_number cpu) q } ∷ cs
 calls_for image cs cpu _ = cs
 
 -- a Take is not legal where nothing is late, which the bus alone knows
-abbrev pub answer_by : Result Ask2 Refusal → Option Reply → Outcome → Result Outcome Refusal
-answer_by (Err refusal) r o = Err refusal
-answer_by (Ok q) (Some reply.Nothing) o = Err NotLegal
+abbrev pub answer_by : Result Ask2 NotLegal → Option Reply → Outcome → Result Outcome NotLegal
+answer_by (Err e) r o = Err e
+answer_by (Ok q) (Some reply.Nothing) o = Err (record { })
 answer_by (Ok q) r o = Ok o
 
--- what an event gives, in a world of so many processors, or why it is refused
-unfoldable pub answer_of : Contents → ℕ → World → Event → Result Outcome Refusal
+-- what an event gives, in a world of so many processors, or that it is not legal
+unfoldable pub answer_of : Contents → ℕ → World → Event → Result Outcome NotLegal
 answer_of image cpus w e =
     if nat_lt (cpu_number e.cpu) cpus
     then answer_by (asked w e) (reply_at image w e) (outcome_of (w.actors (cpu_number e.cpu)) e.act (reply_at image w e))
-    else Err NotLegal
+    else Err (record { })
 
--- the world after an event that is not refused
+-- the world after a legal event
 unfoldable pub after_event : Contents → World → Event → World
 after_event image w e = record {
   actors = λ p. if cpu_number e.cpu == p then advanced (w.actors p) e.act (reply_at image w e) else w.actors p;

@@ -16,7 +16,7 @@ ghost use Rattle.axp_model.specs.Memory.{final_byte, is_touched};
 ghost use Rattle.axp_model.specs.Outcomes.{IsRun};
 ghost use Rattle.axp_model.specs.Processors.{AreInLine};
 ghost use Rattle.axp_model.specs.Turns.{turns};
-ghost use Rattle.axp_world.specs.RunLaws.{IsBuilt, Played, bytes_in, intent_in, is_legal_in};
+ghost use Rattle.axp_world.specs.RunLaws.{Played, bytes_in, intent_in, is_legal_in};
 ghost use Rattle.axp_world.specs.RunLaws.{is_not_legal, is_progress, processors_in, world_in};
 ghost use Rattle.axp_world.specs.Worlds.{IsPlayed, answer_of, image_bytes};
 
@@ -44,16 +44,16 @@ pub fn refused_where_not_legal()
         → is_not_legal (answer_of g.image g.cpus (world_in g) e) ≡ not (is_legal_in g e) }
 {}
 
-/// Every run of the memory model is played, where no event comes to what is not built.
+/// Every run of the memory model is played.
 pub fn runs_are_played()
     ensures { (image : Contents) (cpus budget : ℕ) (h : List Record) → IsValid image
         → IsRun (image_bytes image) (processors image cpus budget) h
-        → IsBuilt image cpus budget h → IsPlayed image cpus budget h }
+        → IsPlayed image cpus budget h }
 {}
 
 /// No processor is stuck after a played history: one that is not finished has a legal Step, Fill,
-/// Drain or Drop, and one that is finished with a write that waits may drain. Legal is the memory
-/// model's word: a legal Step that comes to what is not built is refused all the same.
+/// Drain or Drop, and one that is finished with a write that waits may drain. What is legal is not
+/// refused ([`refused_where_not_legal`]).
 pub fn processors_are_never_stuck()
     ensures acts { (g : Played) (c : Cpu) → cpu_number c < g.cpus → (intent_in g c).finished ≡ false
         → (a : Act) × (is_progress a ≡ true)

@@ -200,7 +200,7 @@ fn private_if(legal: bool) -> Option<Ask2>
 
 /// Whether an act has its time: a finished processor may drain alone, and after a fill only the
 /// step is left.
-fn is_timely(act: Act, finished: bool, filled: bool) -> bool
+pub(super) fn is_timely(act: Act, finished: bool, filled: bool) -> bool
     ensures { result ≡ is_timely act finished filled }
 {
     match act {

@@ -3,17 +3,12 @@ use Rattle.axp_lsu.specs.Asking.{ask_of}
 use Rattle.axp_lsu.specs.Fitting.{ReplyFits}
 use Rattle.axp_lsu.specs.Going as going
 use Rattle.axp_lsu.specs.Within.{IsKeptWithin}
-use Rattle.axp_cpu.proofs.ActorLemmas.{at_after, fits_is, kept_within, wanted_fits, wanted_within, was_going}
+use Rattle.axp_cpu.proofs.ActorLemmas.{at_after, fits_is, kept_within, movable, wanted_fits, wanted_within}
 use Rattle.axp_cpu.proofs.FollowingLemmas.{outcome_shows}
 use Rattle.axp_cpu.proofs.processors.Processor.advance.Goals as goal
 
 pub sequence-requires : goal.sequence-requires
-sequence-requires c = record {
-  actor = c.requires.actor;
-  at = c.requires.at;
-  wants = λ a at. ap (λ i. i.wanted) (c.intent-intent.ensures.value a.seat at.seat);
-  unfinished = was_going c.requires.actor c.args.act c.requires.ask c.requires.asked;
-}
+sequence-requires c = movable c.args.self.now c.args.act c.args.reply c.intent-intent.result c.requires (λ a at. c.intent-intent.ensures.value a.seat at.seat)
 
 pub advance-requires-clause-fits : goal.advance-requires-clause-fits
 advance-requires-clause-fits c =

@@ -1,4 +1,4 @@
-//! Interprocessor interrupts.
+//! Interrupts.
 ghost use Rattle.std.specs.Prelude.{ℕ, Bool, true, Contains, List, ◌∷◌, ◌++◌, ◌≡◌, ◌↔◌, ◌&&◌};
 ghost use Rattle.axp_laws.specs.Runs.{Run};
 ghost use Rattle.axp_access.specs.declared.Event.{Event};
@@ -7,6 +7,7 @@ ghost use Rattle.axp_base.specs.Cpus.{cpu_number};
 ghost use Rattle.axp_access.specs.Order.{before};
 ghost use Rattle.axp_access.specs.Numbering.{NumberedAccess};
 ghost use Rattle.axp_model.specs.Accesses.{accesses, times};
+ghost use Rattle.axp_model.specs.Interrupts.{TakesInterrupt, is_interrupt};
 ghost use Rattle.axp_model.specs.Polls.{IsAwaited, poll_item, polled};
 ghost use Rattle.axp_laws.specs.PollLaws.{is_signal_or_poll};
 
@@ -28,4 +29,13 @@ pub fn poll_rule()
     ensures entered { (e : Event) (pending entered : Bool) (turn : ℕ) (h : List Record)
         (run : Run (polled e pending entered turn ∷ h))
         → entered ≡ (pending && (run.processors.intent (cpu_number e.cpu) h).takes_interrupts) }
+{}
+
+/// No interrupt falls inside an instruction, a PAL call or an entry: where a Tick is made, or a
+/// Poll enters, the processor stands between two groups of accesses, is not finished, and its
+/// interrupt level is below 5.
+pub fn interrupts_fall_between_groups()
+    ensures { (later : List Record) (r : Record) (h : List Record) (run : Run (later ++ r ∷ h))
+        → is_interrupt r ≡ true
+        → TakesInterrupt (run.processors.intent (cpu_number r.event.cpu) h) }
 {}

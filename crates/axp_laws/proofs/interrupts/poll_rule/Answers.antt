@@ -1,5 +1,5 @@
 use Rattle.axp_laws.proofs.PollSignals.{pending_exactly, order_stays, entered_exactly}
-use Rattle.axp_laws.proofs.polls.poll_rule.Goals as goal
+use Rattle.axp_laws.proofs.interrupts.poll_rule.Goals as goal
 
 pub returns-clause-pending : goal.returns-clause-pending
 returns-clause-pending c = λ later e pending entered turn h run. pending_exactly run.image run.processors later e pending entered turn h run.inside run.legal
