@@ -7,6 +7,8 @@ pub mod GrantLemmas
 pub mod AskLemmas
 pub mod VainTakeLemmas
 pub mod LateLineLemmas
+-- what is legal
+pub mod OfferLemmas
 -- what a granted event leaves and gives
 pub mod SpellingLemmas
 pub mod MachinePartLemmas

@@ -1,5 +1,5 @@
 -- Records and the run of their events.
-use Rattle.std.proofs.Common.{◌≡◌, ◌↔◌, ◌<◌, ◌*◌, ℕ, Bool, true, List, [], ◌∷◌, ◌++◌, refl, ap, sym, subst, ◌∙◌}
+use Rattle.std.proofs.Common.{◌≡◌, ◌↔◌, ◌<◌, ◌*◌, ℕ, Bool, true, List, [], ◌∷◌, ◌++◌, refl, ap, sym, subst, ◌∙◌, Option}
 use Rattle.std.specs.Prelude.{Result, Ok, Err, not}
 use Rattle.axp_access.specs.declared.Event.{Event}
 use Rattle.axp_access.specs.declared.Outcome.{Outcome}
@@ -22,7 +22,13 @@ use Rattle.axp_model.specs.Legal.{legal}
 use Rattle.axp_model.specs.Legal as model
 use Rattle.axp_model.specs.Outcomes as model_runs
 use Rattle.axp_model.specs.Polls.{IsAwaited, KeepsPolls, poll_item, polled}
-use Rattle.axp_world.specs.Worlds.{IsPlayed, image_bytes}
+use Rattle.axp_base.specs.Cpus.{cpu_number}
+use Rattle.axp_cpu.specs.Actors.{Actor, outcome_of, request_of}
+use Rattle.axp_line.specs.declared.messages.Reply.{Reply}
+use Rattle.std.proofs.lemmas.Bool.{lt-ltb}
+use Rattle.axp_world.proofs.RunDeeds.{led_actors, led_answers}
+use Rattle.axp_world.specs.Worlds as worlds
+use Rattle.axp_world.specs.Worlds.{IsPlayed, answer_by, image_bytes}
 use Rattle.axp_base.specs.Parts.{number_at}
 use Rattle.axp_base.specs.declared.parts.TheConstants.{QUADWORD_BYTES}
 use Rattle.axp_base.specs.declared.processors.TheConstants.{MAX_CPUS}
@@ -35,7 +41,7 @@ use Rattle.axp_world.proofs.RunJoined.{agrees, joined, refused}
 use Rattle.axp_world.specs.RunLaws.{is_not_legal}
 use Rattle.axp_world.proofs.RunWants.{in_line}
 use Rattle.axp_machine.specs.Constraints.{KeepsConstraints}
-use Rattle.axp_machine.specs.Runs.{Seen, IsRun, after_answer, after_event, answer_of, events_of, processors_of, quadword_of, run, seat_of, started, touches, with_record, world_of}
+use Rattle.axp_machine.specs.Runs.{Seen, IsRun, after_answer, after_event, answer_alone_in, answer_of, result_alone, events_of, processors_of, quadword_of, run, seat_of, started, touches, with_record, world_of}
 
 -- the machine with these records
 abbrev with_records : Contents → ℕ → ℕ → List Record → Seen
@@ -110,6 +116,14 @@ keeps_constraints m valid is =
 pub refused_exactly : (m : Seen) (e : Event) (a : Result Outcome NotLegal) → a ≡ answer_of m e → IsValid m.image → IsRun m → is_not_legal a ≡ not (legal (processors_of m) m.records e)
 unfolding answer_of
 refused_exactly m e a is valid run = ap is_not_legal is ∙ refused m.image m.cpus m.budget m.records e valid run
+
+-- what an event gives, by its processor alone
+pub gives_alone : (m : Seen) (e : Event) (a : Result Outcome NotLegal) → cpu_number e.cpu < m.cpus → a ≡ answer_of m e → a ≡ result_alone m e
+unfolding answer_of worlds.answer_of
+gives_alone m e a below is =
+    let p : ℕ = cpu_number e.cpu in
+    let by : Actor → Option Reply → Result Outcome NotLegal = λ who r. answer_by (request_of who e.act) r (outcome_of who e.act r) in
+    is ∙ rw (lt-ltb p m.cpus below) (ap (λ (r : Option Reply). by (actor_of m p) r) (led_answers m.image m.cpus m.budget m.records e) ∙ ap (λ (who : Actor). by who (answer_alone_in m e)) (led_actors m.image m.cpus m.budget m.records p))
 
 -- a processor of the world is done where it is by the records
 pub done_shown : (m : Seen) (p : ℕ) → IsValid m.image → IsRun m → p < MAX_CPUS → is_done (actor_of m p) ≡ model.is_done (processors_of m) m.records p

@@ -21,6 +21,8 @@ use axp_world::EVENTS_PER_STEP;
 use std::alloc::Global;
 use std::marker::Model;
 
+mod offering;
+
 /// Processors over the bus, with the records of what they did.
 #[derive(Drop)]
 pub struct Machine {
@@ -57,7 +59,7 @@ impl Machine {
     ghost use Rattle.axp_machine.specs.Playing.{actor_of, granted_in};
     ghost use Rattle.axp_machine.specs.Runs.{started, answer_of, after_event, with_record, IsRun};
     ghost use Rattle.axp_machine.specs.Runs.{is_complete, processors_of, seat_of, table_of};
-    ghost use Rattle.axp_machine.specs.Runs.{steps_of, quadword_of, touches};
+    ghost use Rattle.axp_machine.specs.Runs.{result_alone, steps_of, quadword_of, touches};
 
     /// A machine at the start: `cpus` processors, 2 to 8, each with a budget of steps, 1 to 32,768,
     /// over the image's memory. All room that the records, the late invalidations and the console
@@ -189,7 +191,9 @@ impl Machine {
     /// where its processor is not one of the machine's, or the event is not legal after the records
     /// so far; a refused event leaves the machine as it was. That an event is not legal is said once
     /// more in the memory model's words (`legal`). The records are always a run, so they keep the
-    /// constraints of shared memory, and one line of a trace spells each of them.
+    /// constraints of shared memory, and one line of a trace spells each of them. What the event
+    /// gives is fixed by its processor, as its own acts and the bus's answers to them made it, and
+    /// by what the bus answers now (`alone`).
     #[tactic(auto, unfolding(crate::specs::Runs::after_event), using(crate::proofs::RunLemmas::keeps_constraints))]
     pub fn event(&mut self, event: Event) -> Result<Outcome, NotLegal>
         ensures answer { result ≡ answer_of self.old event }
@@ -199,6 +203,7 @@ impl Machine {
         ensures run { IsRun self.new }
         ensures constraints { KeepsConstraints self.new }
         ensures spelled { IfOk result (Spells event) }
+        ensures alone { cpu_number event.cpu < self.old.cpus → result ≡ result_alone self.old event }
     {
         match self.grant(event) {
             Ok(ask) => Ok(self.make(event, ask)),

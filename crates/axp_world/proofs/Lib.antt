@@ -42,6 +42,7 @@ pub mod RunLegality
 pub mod RunPlayed
 pub mod RunRefusals
 pub mod RunJoined
+pub mod RunDeeds
 -- no processor is stuck
 pub mod ProgressFilled
 pub mod ProgressMidway

@@ -29,7 +29,8 @@ use Rattle.axp_world.proofs.AskedActs.{IsAsked, is_asked}
 use Rattle.axp_world.proofs.BankRooms.{AreFew, HasRooms, act_rooms, rooms_start}
 use Rattle.axp_world.proofs.ProgressFilled.{IsReady, act_ready}
 use Rattle.axp_world.proofs.RunJoined.{Joined, agrees, joined}
-use Rattle.axp_world.proofs.RunLegality.{has_late, legal_agrees}
+use Rattle.axp_world.specs.Deeds.{has_late}
+use Rattle.axp_world.proofs.RunLegality.{legal_agrees}
 use Rattle.axp_world.proofs.ProgressMidway.{WantsWithin, act_wants}
 use Rattle.axp_world.proofs.ProgressOffered.{Offer, first_leaves, offered}
 use Rattle.axp_world.proofs.PlayedRecords.{Shown, actor_other, actor_own, shown}

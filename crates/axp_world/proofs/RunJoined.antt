@@ -6,8 +6,8 @@ use Rattle.axp_world.proofs.RunSeats.{cpu_small, seats_agree}
 use Rattle.axp_world.proofs.RunWants.{in_line, intents_in_line, intents_name_targets}
 use Rattle.axp_laws.proofs.RunRecords.{run_fits}
 use Rattle.axp_model.specs.Legal.{legal}
-use Rattle.std.proofs.Common.{◌≡◌, ℕ, ◌<◌, false, not, List, [], ◌∷◌, refl, sym, ap, ◌∙◌}
-use Rattle.std.specs.Prelude.{Result, Ok, Err}
+use Rattle.std.proofs.Common.{◌&&◌, ◌≡◌, ℕ, ◌<◌, false, not, List, [], ◌∷◌, refl, sym, ap, ◌∙◌}
+use Rattle.std.specs.Prelude.{Result, Ok, Err, is_ok}
 use Rattle.axp_access.specs.declared.Event.{Event}
 use Rattle.axp_access.specs.declared.Outcome.{Outcome}
 use Rattle.axp_access.specs.declared.Record.{Record}
@@ -21,7 +21,9 @@ use Rattle.axp_world.specs.Worlds.{IsPlayed, answer_of, image_bytes, world}
 use Rattle.axp_world.proofs.BankPlayed.{Banked, banks_agree, banks_start, banks_step}
 use Rattle.axp_world.proofs.BufferPlayed.{IsBuffered, buffer_agrees, buffer_start, buffer_step}
 use Rattle.axp_world.proofs.BusRecords.{bus_start, bus_step}
-use Rattle.axp_world.proofs.RunRefusals.{refused_agrees}
+use Rattle.axp_cpu.specs.Actors.{request_of}
+use Rattle.axp_world.specs.Deeds.{has_late}
+use Rattle.axp_world.proofs.RunRefusals.{allowed_agrees, refused_agrees}
 use Rattle.axp_world.proofs.RunPlayed.{Agrees, played_outcome, run_goes_on}
 use Rattle.axp_world.proofs.SinceSteps.{since_start, since_agrees_step}
 
@@ -76,6 +78,13 @@ pub refused : (image : Contents) (cpus budget : ℕ) (h : List Record) (e : Even
 refused image cpus budget h e valid played =
     let is : Joined image cpus budget h = joined image cpus budget h valid played in
     refused_agrees image cpus budget h e (agrees image cpus budget h is (cpu_number e.cpu) (cpu_small e.cpu)) is.bus
+
+-- what a processor may ask is what is legal, but for a Take where nothing is late
+pub allowed : (image : Contents) (cpus budget : ℕ) (h : List Record) (e : Event) → IsValid image → IsPlayed image cpus budget h → cpu_number e.cpu < cpus
+    → (is_ok (request_of ((world image cpus budget h).actors (cpu_number e.cpu)) e.act) && has_late e.act (world image cpus budget h).calls (cpu_number e.cpu)) ≡ legal (processors image cpus budget) h e
+allowed image cpus budget h e valid played below =
+    let is : Joined image cpus budget h = joined image cpus budget h valid played in
+    allowed_agrees image cpus budget h e below (agrees image cpus budget h is (cpu_number e.cpu) (cpu_small e.cpu)) is.bus
 
 -- a legal event has the model's outcome
 answered_by : (image : Contents) (cpus budget : ℕ) (r : Record) (h : List Record) (a : Result Outcome NotLegal) → IsValid image → Joined image cpus budget h → answer_of image cpus (world image cpus budget h) r.event ≡ a

@@ -18,6 +18,8 @@ use Rattle.axp_access.specs.declared.Wanted.{Wanted}
 use Rattle.axp_lsu.specs.declared.asks.Ask2.{Ask2}
 use Rattle.axp_lsu.specs.declared.asks.Ask2.TheVariants as ask
 use Rattle.axp_lsu.specs.Asking as asking
+use Rattle.axp_lsu.specs.Offering as offering
+use Rattle.axp_model.specs.Waits.{full_bank, full_bank_for}
 use Rattle.axp_lsu.specs.Asking.{access_ask, act_ask, ask_of, drain_ask, fill_ask, fill_for, may_bring, step_ask}
 use Rattle.axp_lsu.specs.Keeping.{LocalMemory, copies_of, data_copies, has_dropped}
 use Rattle.axp_line.specs.declared.messages.Request.TheVariants as request
@@ -36,6 +38,7 @@ use Rattle.axp_regs.specs.declared.asks.Kind.{Kind}
 use Rattle.axp_regs.specs.declared.asks.Kind.TheVariants as kind
 use Rattle.axp_wbuf.specs.Drains.{oldest_group}
 use Rattle.axp_wbuf.specs.Pending.{Pending}
+use Rattle.axp_world.specs.Deeds.{has_late}
 use Rattle.axp_world.proofs.Agreement.{AreEntriesOf, BanksAgree, BufferAgrees, BusAgrees, SinceAgrees}
 
 asked_if : (b : Bool) (x : Ask2) → is_some (cond b (Some x) None) ≡ b
@@ -136,10 +139,6 @@ drop_since Even p h u since = since.even
 drop_since Odd p h u since = since.odd
 drop_since Code p h u since = since.code
 
--- a Take is refused where the bus has nothing late
-abbrev pub has_late : Act → List BusCall → ℕ → Bool
-has_late (act.Take b) cs p = not (is_empty (calls.late p b cs))
-has_late _ cs p = true
 
 none_of_code : (pairs : List (Line × ℕ)) → AllByRecursion (InBank Code) pairs → is_empty pairs ≡ true
 none_of_code [] all = refl
@@ -179,3 +178,14 @@ legal_agrees image p h i u cs a buffers banks since bus =
         none_right : (b : Bool) → (b && false) ≡ false
         none_right true = refl
         none_right false = refl
+
+-- the full bank that an access waits for
+full_for_agrees : (k : Kind) (image : ℕ → ℕ) (p l : ℕ) (h : List Record) (u : LocalMemory) → BanksAgree image p h u → offering.full_bank_for k l u ≡ full_bank_for k l p h
+full_for_agrees kind.Fetch image p l h u banks = rw (banks.code_lines_held l, code_length image p h u banks) refl
+full_for_agrees kind.Read image p l h u banks = rw (banks.lines l, room_agrees image p l h u banks) refl
+full_for_agrees kind.Locked image p l h u banks = rw (banks.lines l, room_agrees image p l h u banks) refl
+full_for_agrees _ image p l h u banks = refl
+
+pub full_agrees : (o : Option Wanted) (image : ℕ → ℕ) (p : ℕ) (h : List Record) (u : LocalMemory) → BanksAgree image p h u → offering.full_bank o u ≡ full_bank o p h
+full_agrees None image p h u banks = refl
+full_agrees (Some w) image p h u banks = full_for_agrees w.kind image p (line_of w.address) h u banks

@@ -6,7 +6,7 @@ use Rattle.axp_world.proofs.Agreement.{BusAgrees}
 use Rattle.axp_model.specs.Legal.{legal, is_timely}
 use Rattle.std.proofs.lemmas.Bool.{cases_Bool, ltb-true, lt-ltb}
 use Rattle.std.proofs.Common.{ltb, ⊎_elim, true, false, ℕ, ◌<◌, ◌≡◌, cond, Bool, not, ◌&&◌, List, [], ◌∷◌, slice_get, Option, Some, None, is_some, refl, sym, ap, ◌∙◌}
-use Rattle.std.specs.Prelude.{Ok}
+use Rattle.std.specs.Prelude.{Ok, is_ok}
 use Rattle.axp_bank.specs.Copies.{is_held}
 use Rattle.axp_base.specs.Cpus.{cpu_number, cpu_of}
 use Rattle.axp_base.specs.Lines.{line_number, line_at, line_numbered, line_of}
@@ -43,7 +43,8 @@ use Rattle.axp_wbuf.specs.Pending.{Pending}
 use Rattle.axp_world.specs.RunLaws.{is_not_legal}
 use Rattle.axp_world.specs.Worlds.{World, answer_by, answer_of, image_bytes, reply_at, reply_for, world}
 use Rattle.axp_world.proofs.BusRecords.{some_if}
-use Rattle.axp_world.proofs.RunLegality.{has_late, legal_agrees}
+use Rattle.axp_world.specs.Deeds.{has_late}
+use Rattle.axp_world.proofs.RunLegality.{legal_agrees}
 use Rattle.axp_world.proofs.RunSeats.{legal_by}
 use Rattle.axp_world.proofs.RunPlayed.{Agrees}
 use Rattle.axp_world.proofs.RunOutcomes.{answer}
@@ -148,6 +149,20 @@ below_agrees image cpus budget h e below agrees bus =
     (λ z is. act_nothing e.act (actor_intent a) a.kept (image_bytes image) w.calls e.cpu z (ask_act (is_timely e.act (actor_intent a).finished a.kept.since.filled) (act_ask e.act (actor_intent a) a.kept) z is))
     ∙ ap not (legal_agrees (image_bytes image) (cpu_number e.cpu) h (actor_intent a) a.kept w.calls e.act agrees.buffer agrees.banks agrees.since bus)
     ∙ ap not (sym (legal_by (processors image cpus budget) h e (actor_intent a) below (ap intent_of agrees.seat))))
+
+-- so what is allowed is what is legal
+pub allowed_agrees : (image : Contents) (cpus budget : ℕ) (h : List Record) (e : Event) → cpu_number e.cpu < cpus → Agrees image cpus budget h (cpu_number e.cpu) → BusAgrees (image_bytes image) h (world image cpus budget h).calls
+    → (is_ok (request_of ((world image cpus budget h).actors (cpu_number e.cpu)) e.act) && has_late e.act (world image cpus budget h).calls (cpu_number e.cpu)) ≡ legal (processors image cpus budget) h e
+unfolding request_of
+allowed_agrees image cpus budget h e below agrees bus =
+    let w : World = world image cpus budget h in
+    let a : Actor = w.actors (cpu_number e.cpu) in
+    ap (λ b. b && has_late e.act w.calls (cpu_number e.cpu)) (asks_if (ask_of e.act (actor_intent a) a.kept))
+    ∙ legal_agrees (image_bytes image) (cpu_number e.cpu) h (actor_intent a) a.kept w.calls e.act agrees.buffer agrees.banks agrees.since bus
+    ∙ sym (legal_by (processors image cpus budget) h e (actor_intent a) below (ap intent_of agrees.seat)) where
+      asks_if : (o : Option Ask2) → is_ok (asked_or_refused o) ≡ is_some o
+      asks_if None = refl
+      asks_if (Some q) = refl
 
 -- an event of a processor that there is not is not legal
 pub refused_agrees : (image : Contents) (cpus budget : ℕ) (h : List Record) (e : Event) → Agrees image cpus budget h (cpu_number e.cpu) → BusAgrees (image_bytes image) h (world image cpus budget h).calls

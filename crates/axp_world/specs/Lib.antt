@@ -1,3 +1,4 @@
 pub mod Worlds
+pub mod Deeds
 pub mod Lengths
 pub mod RunLaws

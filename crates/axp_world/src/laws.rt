@@ -1,13 +1,15 @@
 //! What processors play over the bus is what the memory model says.
-ghost use Rattle.std.specs.Prelude.{ℕ, List, ◌≡◌, ◌<◌, not, true, false};
+ghost use Rattle.std.specs.Prelude.{ℕ, List, Ok, ◌≡◌, ◌<◌, ◌&&◌, not, true, false, is_ok};
 ghost use Rattle.axp_access.specs.declared.Act.{Act};
 ghost use Rattle.axp_access.specs.declared.Act.TheVariants as act;
 ghost use Rattle.axp_access.specs.declared.Event.{Event};
+ghost use Rattle.axp_access.specs.declared.Outcome.{Outcome};
 ghost use Rattle.axp_access.specs.declared.Record.{Record};
 ghost use Rattle.axp_base.specs.Cpus.{cpu_number};
 ghost use Rattle.axp_base.specs.Lists.{is_empty};
 ghost use Rattle.axp_base.specs.declared.processors.Cpu.{Cpu};
 ghost use Rattle.axp_base.specs.declared.processors.TheConstants.{MAX_CPUS};
+ghost use Rattle.axp_cpu.specs.Actors.{outcome_of, request_of};
 ghost use Rattle.axp_cpu.specs.Following.{processors, seat_in};
 ghost use Rattle.axp_image.specs.Contents.{Contents, IsValid};
 ghost use Rattle.axp_line.specs.BusCalls as calls;
@@ -18,7 +20,8 @@ ghost use Rattle.axp_model.specs.Processors.{AreInLine};
 ghost use Rattle.axp_model.specs.Turns.{turns};
 ghost use Rattle.axp_world.specs.RunLaws.{Played, bytes_in, intent_in, is_legal_in};
 ghost use Rattle.axp_world.specs.RunLaws.{is_not_legal, is_progress, processors_in, world_in};
-ghost use Rattle.axp_world.specs.Worlds.{IsPlayed, answer_of, image_bytes};
+ghost use Rattle.axp_world.specs.Deeds.{alone, answer_alone, has_late};
+ghost use Rattle.axp_world.specs.Worlds.{IsPlayed, answer_of, image_bytes, reply_at};
 
 /// Every history that processors play over the bus is a run of the memory model: each event was
 /// legal after the records before it, and has the outcome that the model says. What processors want
@@ -62,4 +65,24 @@ pub fn processors_are_never_stuck()
         → (intent_in g c).finished ≡ true
         → is_empty (buffer (cpu_number c) g.history).waiting ≡ false
         → is_legal_in g (record { cpu = c; act = act.Drain 0 }) ≡ true }
+{}
+
+/// Each processor can be taken by itself. It is what its own deeds make of it, its own acts with
+/// the bus's answers to them (`led` in `specs/Deeds.antt`), so it is the same whatever else
+/// happened; and an answer is the bus's, by the list of all calls, to what it asks as they left it.
+/// An event is legal exactly where the processor as its deeds left it may ask for its act, and
+/// where the act is a take, something is late, which the bus alone knows; its outcome is fixed by
+/// the processor as its deeds left it and by the answer.
+pub fn processors_go_by_their_own_deeds()
+    ensures state { (g : Played) (p : ℕ)
+        → (world_in g).actors p ≡ alone g.image g.cpus g.budget p g.history }
+    ensures answers { (g : Played) (e : Event) → reply_at g.image (world_in g) e
+        ≡ answer_alone g.image g.cpus g.budget (cpu_number e.cpu) g.history e.act }
+    ensures legal { (g : Played) (e : Event) → cpu_number e.cpu < g.cpus → is_legal_in g e
+        ≡ (is_ok (request_of (alone g.image g.cpus g.budget (cpu_number e.cpu) g.history) e.act)
+        && has_late e.act (world_in g).calls (cpu_number e.cpu)) }
+    ensures outcomes { (g : Played) (e : Event) (o : Outcome)
+        → answer_of g.image g.cpus (world_in g) e ≡ Ok o
+        → o ≡ outcome_of (alone g.image g.cpus g.budget (cpu_number e.cpu) g.history) e.act
+        (answer_alone g.image g.cpus g.budget (cpu_number e.cpu) g.history e.act) }
 {}

@@ -6,6 +6,7 @@ mod laws;
 mod lengths;
 
 pub use laws::{
-    played_histories_are_runs, processors_are_never_stuck, refused_where_not_legal, runs_are_played,
+    played_histories_are_runs, processors_are_never_stuck, processors_go_by_their_own_deeds,
+    refused_where_not_legal, runs_are_played,
 };
 pub use lengths::{EVENTS_PER_STEP, length_of_a_history};
