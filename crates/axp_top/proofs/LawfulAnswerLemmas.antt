@@ -1,12 +1,13 @@
 -- The answer to an event list shows a run that keeps the constraints of shared memory, and why it ended.
-use Rattle.std.proofs.Common.{◌≡◌, ◌⊎◌, ℕ, Bool, true, false, cond, List, [], ◌∷◌, ◌++◌, length, map, reverse, Option, Some, None, Ok, Err, Result, IfSome, refl, sym, ap, ◌∙◌, subst, inl, inr, append_assoc}
+use Rattle.std.proofs.Common.{◌≡◌, ℕ, Bool, true, false, cond, List, [], ◌∷◌, ◌++◌, length, map, reverse, Option, Some, None, Ok, Err, Result, IfSome, refl, sym, ap, ◌∙◌, subst, inl, inr, append_assoc}
 use Rattle.std.specs.Prelude.{nat_lt, not}
 use Rattle.std.proofs.lemmas.List.{reverse-append}
 use Rattle.axp_access.specs.declared.Event.{Event}
 use Rattle.axp_access.specs.declared.Outcome.{Outcome}
 use Rattle.axp_access.specs.declared.Record.{Record}
-use Rattle.axp_cpu.specs.declared.refusals.Refusal.{Refusal}
-use Rattle.axp_cpu.specs.declared.refusals.Refusal.TheVariants.{NotLegal, NotBuilt}
+use Rattle.axp_cpu.specs.declared.refusals.NotLegal as cpu
+use Rattle.axp_top.specs.declared.refusals.Refusal.{Refusal}
+use Rattle.axp_top.specs.declared.refusals.Refusal.TheVariants.{NotLegal, NotBuilt}
 use Rattle.axp_image.specs.Contents.{AreBytes, Contents, IsValid}
 use Rattle.axp_image.specs.Grammar.{image_of}
 use Rattle.axp_image.proofs.ValidityLemmas.{image_says}
@@ -20,14 +21,14 @@ use Rattle.axp_top.specs.declared.limits.TheConstants.{MAX_IMAGE_BYTES, MAX_TRAC
 use Rattle.axp_top.specs.declared.status.Status.TheVariants as status
 use Rattle.axp_top.specs.Answers as answers
 use Rattle.axp_top.specs.Answers.{answer_by, answer_of_files, answer_of_image, answer_of_trace, answer_over, image_in, image_told, trace_told}
-use Rattle.axp_top.specs.Lawful.{IsCause, IsLawful, IsNotBuilt, IsNotLegal, image_of_file, image_over, lines_of_file}
+use Rattle.axp_top.specs.Lawful.{IsCause, IsLawful, IsNotLegal, image_of_file, image_over, lines_of_file}
 use Rattle.axp_top.specs.Replays.{Answer, FileLine, answer_of_lines, answer_of_list, answer_of_run, event_in, not_built_at_all, record_of, recorded, replayed}
 use Rattle.axp_top.specs.Words.{Order, Replay}
 
 -- ---- a line's record
 
 -- it was its event's answer
-record_runs : (m : Seen) (e : Event) (o : Result Outcome Refusal) (r : Record) → answer_of m e ≡ o → recorded e o ≡ Ok r → IsRun m → IsRun (with_record m r)
+record_runs : (m : Seen) (e : Event) (o : Result Outcome cpu.NotLegal) (r : Record) → answer_of m e ≡ o → recorded e o ≡ Ok r → IsRun m → IsRun (with_record m r)
 unfolding answer_of
 record_runs m e (Ok o) r gave is run = let same : record { event = e; outcome = o } ≡ r = cc in subst (λ (x : Record). IsRun (with_record m x)) same (gave, run)
 record_runs m e (Err refusal) r gave is run = cc
@@ -37,7 +38,7 @@ line_runs m None r is run = cc
 line_runs m (Some e) r is run = record_runs m e (answer_of m e) r refl is run
 
 -- and of its event
-recorded_event : (e : Event) (o : Result Outcome Refusal) (r : Record) → recorded e o ≡ Ok r → Some e ≡ Some r.event
+recorded_event : (e : Event) (o : Result Outcome cpu.NotLegal) (r : Record) → recorded e o ≡ Ok r → Some e ≡ Some r.event
 recorded_event e (Ok o) r is = let same : record { event = e; outcome = o } ≡ r = cc in ap (λ (x : Record). Some x.event) same
 recorded_event e (Err refusal) r is = cc
 
@@ -51,30 +52,26 @@ line_event m (Some e) r is = recorded_event e (answer_of m e) r is
 abbrev IsReason : Seen → Option Refusal → List FileLine → Type 0
 IsReason m None [] = Unit {0}
 IsReason m (Some NotLegal) (line ∷ more) = IsNotLegal m line
-IsReason m (Some NotBuilt) (line ∷ more) = (event_in m.cpus line ≡ None) ⊎ IsNotBuilt m line
+IsReason m (Some NotBuilt) (line ∷ more) = event_in m.cpus line ≡ None
 IsReason m refused rest = ⊥
 
-recorded_refusal : (e : Event) (o : Result Outcome Refusal) (f : Refusal) → recorded e o ≡ Err f → o ≡ Err f
+recorded_refusal : (e : Event) (o : Result Outcome cpu.NotLegal) (f : Refusal) → recorded e o ≡ Err f → (o ≡ Err (record { })) × (NotLegal ≡ f)
 recorded_refusal e (Ok o) f is = cc
-recorded_refusal e (Err x) f is = cc
+recorded_refusal e (Err x) f is = (refl, cc)
 
 not_true : (b : Bool) → true ≡ not b → b ≡ false
 not_true true is = cc
 not_true false is = refl
 
-not_false : (b : Bool) → false ≡ not b → b ≡ true
-not_false true is = refl
-not_false false is = cc
-
-event_reason : (m : Seen) (line : FileLine) (more : List FileLine) (e : Event) (f : Refusal) → event_in m.cpus line ≡ Some e → answer_of m e ≡ Err f → IsValid m.image → IsRun m → IsReason m (Some f) (line ∷ more)
-event_reason m line more e NotLegal reads is valid run = record { event = e; read = reads; refused = not_true (legal (processors_of m) m.records e) (refused_exactly m e (Err NotLegal) (sym is) valid run) }
-event_reason m line more e NotBuilt reads is valid run =
-    inr (record { event = e; read = reads; allowed = not_false (legal (processors_of m) m.records e) (refused_exactly m e (Err NotBuilt) (sym is) valid run); refused = is })
+event_reason : (m : Seen) (line : FileLine) (more : List FileLine) (e : Event) → event_in m.cpus line ≡ Some e → answer_of m e ≡ Err (record { }) → IsValid m.image → IsRun m → IsReason m (Some NotLegal) (line ∷ more)
+event_reason m line more e reads is valid run = record { event = e; read = reads; refused = not_true (legal (processors_of m) m.records e) (refused_exactly m e (Err (record { })) (sym is) valid run) }
 
 line_reason : (m : Seen) (line : FileLine) (more : List FileLine) (e : Option Event) (f : Refusal) → event_in m.cpus line ≡ e → record_of m e ≡ Err f → IsValid m.image → IsRun m → IsReason m (Some f) (line ∷ more)
 line_reason m line more None NotLegal reads is valid run = cc
-line_reason m line more None NotBuilt reads is valid run = inl reads
-line_reason m line more (Some e) f reads is valid run = event_reason m line more e f reads (recorded_refusal e (answer_of m e) f is) valid run
+line_reason m line more None NotBuilt reads is valid run = reads
+line_reason m line more (Some e) f reads is valid run =
+    let parts = recorded_refusal e (answer_of m e) f is in
+    subst (λ (x : Refusal). IsReason m (Some x) (line ∷ more)) parts.1 (event_reason m line more e reads parts.0 valid run)
 
 -- ---- the front of a list
 

@@ -4,8 +4,9 @@ use Rattle.std.specs.Prelude.{IsErrAnd, IfOk, ◌==◌, if◌then◌else◌}
 use Rattle.axp_access.specs.declared.Event.{Event}
 use Rattle.axp_access.specs.declared.Outcome.{Outcome}
 use Rattle.axp_access.specs.declared.Record.{Record}
-use Rattle.axp_cpu.specs.declared.refusals.Refusal.{Refusal}
-use Rattle.axp_cpu.specs.declared.refusals.Refusal.TheVariants.{NotBuilt}
+use Rattle.axp_cpu.specs.declared.refusals.NotLegal as cpu
+use Rattle.axp_top.specs.declared.refusals.Refusal.{Refusal}
+use Rattle.axp_top.specs.declared.refusals.Refusal.TheVariants.{NotBuilt, NotLegal}
 use Rattle.axp_machine.specs.Runs.{Seen, answer_of, after_event, with_record}
 use Rattle.axp_trace.specs.Lines.{with_feed, line_text, trace_header}
 use Rattle.axp_trace.specs.Reading.{event_of}
@@ -17,20 +18,20 @@ use Rattle.axp_top.specs.Replays.{FileLine, event_in, record_of, replayed, front
 use Rattle.axp_top.specs.Texts.{Lines, record_text, record_lines, header_text, lines}
 use Rattle.axp_top.proofs.PrintingLemmas.{printed_none, printed_then, prints_then, stopped_then, stopped_longer}
 
-unchanged : (m : Seen) (e : Event) (refusal : Refusal) → answer_of m e ≡ Err refusal → after_event m e ≡ m
+unchanged : (m : Seen) (e : Event) (refused : cpu.NotLegal) → answer_of m e ≡ Err refused → after_event m e ≡ m
 unfolding after_event
-unchanged m e refusal is = rw is refl
+unchanged m e refused is = rw is refl
 
 longer : (m : Seen) (e : Event) (o : Outcome) → answer_of m e ≡ Ok o → after_event m e ≡ with_record m (record { event = e; outcome = o })
 unfolding after_event
 longer m e o is = rw is refl
 
 -- the event of a line was refused
-pub event_refused : (cpus : ℕ) (m m' : Seen) (line : List ℕ) (e : Event) (refusal : Refusal) (b : SinkState) → cpus ≡ m.cpus → Some e ≡ event_of cpus line → Err refusal ≡ answer_of m e → m' ≡ after_event m e
-    → PrintsEvent b b m m' (record_of m (event_of m.cpus line)) (Ok (Some refusal))
-event_refused cpus m m' line e refusal b count is refuses after =
+pub event_refused : (cpus : ℕ) (m m' : Seen) (line : List ℕ) (e : Event) (refused : cpu.NotLegal) (b : SinkState) → cpus ≡ m.cpus → Some e ≡ event_of cpus line → Err refused ≡ answer_of m e → m' ≡ after_event m e
+    → PrintsEvent b b m m' (record_of m (event_of m.cpus line)) (Ok (Some NotLegal))
+event_refused cpus m m' line e refused b count is refuses after =
     let read : event_of m.cpus line ≡ Some e = subst (λ k. event_of k line ≡ Some e) count (sym is) in
-    rw (read, sym refuses) (refl, after ∙ unchanged m e refusal (sym refuses), printed_none b)
+    rw (read, sym refuses) (refl, after ∙ unchanged m e refused (sym refuses), printed_none b)
 
 -- the event of a line was done, and its line printed
 pub event_done : (cpus : ℕ) (m m' : Seen) (line items : List ℕ) (e : Event) (o : Outcome) (b n : SinkState) → cpus ≡ m.cpus → Some e ≡ event_of cpus line → Ok o ≡ answer_of m e → m' ≡ after_event m e

@@ -1,11 +1,10 @@
 -- What is printed of an event list shows a run that keeps the constraints of shared memory, and why it ended.
-use Rattle.std.specs.Prelude.{◌≡◌, ◌⊎◌, ℕ, ◌+◌, true, false, List, ◌∷◌, [], ◌++◌, length, map, reverse, Option, Some, None, Err}
+use Rattle.std.specs.Prelude.{◌≡◌, ◌⊎◌, ℕ, ◌+◌, true, false, List, ◌∷◌, [], ◌++◌, length, map, reverse, Option, Some, None}
 use Rattle.axp_access.specs.declared.Event.{Event}
-use Rattle.axp_cpu.specs.declared.refusals.Refusal.{Refusal}
-use Rattle.axp_cpu.specs.declared.refusals.Refusal.TheVariants.{NotBuilt}
+use Rattle.axp_top.specs.declared.refusals.Refusal.{Refusal}
 use Rattle.axp_image.specs.Contents.{Contents}
 use Rattle.axp_machine.specs.Constraints.{KeepsConstraints}
-use Rattle.axp_machine.specs.Runs.{Seen, IsRun, answer_of, events_of, is_complete, processors_of}
+use Rattle.axp_machine.specs.Runs.{Seen, IsRun, events_of, is_complete, processors_of}
 use Rattle.axp_model.specs.Legal.{legal}
 use Rattle.axp_trace.specs.Files.{lines_of}
 use Rattle.axp_trace.specs.Reading.{header_of}
@@ -21,13 +20,6 @@ pub record IsNotLegal (m : Seen) (line : FileLine) : Type 0 where
   pub read : event_in m.cpus line ≡ Some event
   pub refused : legal (processors_of m) m.records event ≡ false
 
--- the line is an event that the memory model allows, and that comes to what is not built
-pub record IsNotBuilt (m : Seen) (line : FileLine) : Type 0 where
-  pub event : Event
-  pub read : event_in m.cpus line ≡ Some event
-  pub allowed : legal (processors_of m) m.records event ≡ true
-  pub refused : answer_of m event ≡ Err NotBuilt
-
 -- Why a run ended with a status, by the lines behind those of its events: there are none, and the machine
 -- is complete or not; or the first of them is refused, and its number is told.
 abbrev pub IsCause : Seen → List FileLine → Status → Type 0
@@ -35,7 +27,7 @@ IsCause m [] status.Done = is_complete m ≡ true
 IsCause m [] (status.Incomplete n) = (is_complete m ≡ false) × (n ≡ length m.records)
 IsCause m (line ∷ more) (status.NotLegal n) = IsNotLegal m line × (n ≡ length m.records + 1)
 IsCause m (line ∷ more) (status.NotBuilt n) =
-    ((event_in m.cpus line ≡ None) ⊎ IsNotBuilt m line) × (n ≡ length m.records + 1)
+    (event_in m.cpus line ≡ None) × (n ≡ length m.records + 1)
 IsCause m rest s = ⊥
 
 -- An answer to a file of these lines is the header and all records of a machine's run over an image, and

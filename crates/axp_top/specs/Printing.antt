@@ -7,7 +7,7 @@ use Rattle.axp_top.specs.declared.printing.Stop.TheVariants as stop
 use Rattle.axp_top.specs.declared.status.Status.{Status}
 use Rattle.axp_top.specs.declared.status.Status.TheVariants as status
 use Rattle.axp_access.specs.declared.Record.{Record}
-use Rattle.axp_cpu.specs.declared.refusals.Refusal.{Refusal}
+use Rattle.axp_top.specs.declared.refusals.Refusal.{Refusal}
 use Rattle.axp_machine.specs.Runs.{Seen, with_record}
 use Rattle.axp_top.specs.Outside.{SinkState}
 use Rattle.axp_top.specs.Replays.{Answer, FileLine, front_lines, replayed}

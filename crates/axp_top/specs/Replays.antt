@@ -4,8 +4,9 @@ use Rattle.std.specs.List.{concat}
 use Rattle.axp_access.specs.declared.Event.{Event}
 use Rattle.axp_access.specs.declared.Outcome.{Outcome}
 use Rattle.axp_access.specs.declared.Record.{Record}
-use Rattle.axp_cpu.specs.declared.refusals.Refusal.{Refusal}
-use Rattle.axp_cpu.specs.declared.refusals.Refusal.TheVariants.{NotLegal, NotBuilt}
+use Rattle.axp_cpu.specs.declared.refusals.NotLegal as cpu
+use Rattle.axp_top.specs.declared.refusals.Refusal.{Refusal}
+use Rattle.axp_top.specs.declared.refusals.Refusal.TheVariants.{NotLegal, NotBuilt}
 use Rattle.axp_image.specs.Contents.{Contents}
 use Rattle.axp_machine.specs.Runs.{Seen, started, answer_of, with_record, is_complete}
 use Rattle.axp_trace.specs.declared.reading.Header.{Header}
@@ -50,9 +51,9 @@ abbrev pub event_in : ℕ → FileLine → Option Event
 event_in cpus None = None
 event_in cpus (Some line) = event_of cpus line
 
-abbrev pub recorded : Event → Result Outcome Refusal → Result Record Refusal
+abbrev pub recorded : Event → Result Outcome cpu.NotLegal → Result Record Refusal
 recorded e (Ok o) = Ok (record { event = e; outcome = o })
-recorded e (Err refusal) = Err refusal
+recorded e (Err refused) = Err NotLegal
 
 -- the record that a line leaves, or why it is refused: what is no event is not built
 abbrev pub record_of : Seen → Option Event → Result Record Refusal

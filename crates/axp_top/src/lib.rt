@@ -5,6 +5,7 @@
 mod laws;
 mod limits;
 mod printing;
+mod refusals;
 mod replay;
 mod serve;
 mod status;

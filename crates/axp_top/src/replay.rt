@@ -7,11 +7,12 @@ ghost use Rattle.axp_top.specs.Replays.{answer_of_lines, answer_of_replay, endin
 ghost use Rattle.axp_top.specs.Replays.{not_built_at_all, record_of, refused_at};
 
 use crate::Status;
+use crate::refusals::Refusal;
 use crate::printing::{Stop, print_line, refuse};
 use crate::tail::print_tail;
 use axp_image::Image;
 use axp_io::Sink;
-use axp_machine::{Machine, Refusal};
+use axp_machine::{Machine, NotLegal};
 use axp_trace::{
     first_line, read_event, read_header, write_event, write_header, write_incomplete,
     write_not_built, write_not_legal,
@@ -34,7 +35,7 @@ fn print_event<K: Sink>(
         return Ok(Some(Refusal::NotBuilt));
     };
     match machine.event(event) {
-        Err(refusal) => Ok(Some(refusal)),
+        Err(NotLegal) => Ok(Some(Refusal::NotLegal)),
         Ok(outcome) => {
             print_line(alloc, sink, write_event(event, outcome))?;
             Ok(None)
