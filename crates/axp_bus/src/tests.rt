@@ -281,8 +281,7 @@ fn ask_row(bus: &mut Bus, cpu: u8, asks: Asks, first: Cpu) -> Option<Reply> {
 
 /// A bus of two processors, with room for 16 turns.
 fn loaded(alloc: Global) -> Result<Bus, Fail> {
-    let read = read_image(alloc, &TWO_SEGMENTS).ok().ok_or("memory")?;
-    let image = read.ok_or("two segments are read")?;
+    let image = read_image(alloc, &TWO_SEGMENTS)?;
     Ok(Bus::load(alloc, &image, 2, 16).ok().ok_or("memory")?)
 }
 

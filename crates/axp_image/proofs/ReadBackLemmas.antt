@@ -11,7 +11,7 @@ use Rattle.axp_image.specs.declared.reading.Header.{Header}
 use Rattle.axp_image.specs.declared.reading.Extent.{Extent}
 use Rattle.axp_image.specs.Contents.{Segment, Contents, end_of, IsPlaced, ArePlaced, IsValid}
 use Rattle.axp_image.specs.Grammar.{piece_at, number_at, header_of, is_extent, extent, extent_at, extents_at, segments_at, image_of}
-use Rattle.axp_image.specs.Spelling.{record_of, bytes_of, spelling}
+use Rattle.axp_image.specs.Spelling.{number_bytes, format_bytes, header_bytes, record_of, bytes_of, spelling}
 use Rattle.axp_image.proofs.ValidityLemmas.{HasHeader}
 
 -- what stands in a file from an offset on: a piece, and the rest
@@ -46,7 +46,7 @@ number_again file at n x rest some small there =
 
 record_again : (file : List ℕ) (size from at : ℕ) (s : Segment) (rest : List ℕ) → size ≤ MAX_MEMORY → IsPlaced size from s → drop at file ≡ record_of s ++ rest
     → (extent_at file size from at ≡ Some (extent s.address (length s.bytes))) × (drop (at + RECORD_BYTES) file ≡ rest)
-unfolding extent_at
+unfolding extent_at record_of number_bytes
 record_again file size from at s rest most placed there =
     let found = stands file at (record_of s) rest (lit≤ tt) there in
     let a = number_again (record_of s) ADDRESS_AT 8 s.address (little_bytes 4 (length s.bytes) ++ little_bytes 4 0) (lit≤ tt) (omega (arith, placed.within)) refl in
@@ -87,12 +87,12 @@ segments_again file size from at (s ∷ ss) placed there =
 
 -- ---- the whole
 
-header_again : (bytes : List ℕ) (h : Header) → HasHeader bytes h → header_of bytes ≡ Some h
+pub header_again : (bytes : List ℕ) (h : Header) → HasHeader bytes h → header_of bytes ≡ Some h
 unfolding header_of
 header_again bytes h has =
     rw (has.magic, has.version, has.count, has.count_good, has.size, has.size_good, has.entry, has.entry_good, has.stack, has.table, has.table_good) refl
 
-header_fields : Contents → Header
+pub header_fields : Contents → Header
 header_fields c = record { count = length c.segments; size = c.size; entry = c.entry; stack = c.stack; table = c.table }
 
 -- the bytes of a file from each field on
@@ -155,5 +155,5 @@ read_again file c valid there =
     rw (found, records.0, segments) refl
 
 pub spelling_again : (c : Contents) → IsValid c → image_of (spelling c) ≡ Some c
-unfolding spelling
+unfolding spelling header_bytes format_bytes record_of number_bytes
 spelling_again c valid = read_again (spelling c) c valid refl

@@ -12,7 +12,7 @@ use Rattle.axp_image.specs.declared.reading.Header.{Header}
 use Rattle.axp_image.specs.declared.reading.Extent.{Extent}
 use Rattle.axp_image.specs.Contents.{Segment, Contents, contents, segment_of, AreBytes}
 use Rattle.axp_image.specs.Grammar.{◌>>=◌, piece_at, number_at, header_of, extent_at, extents_at, segments_at, image_of}
-use Rattle.axp_image.specs.Spelling.{record_of, bytes_of, spelling}
+use Rattle.axp_image.specs.Spelling.{number_bytes, format_bytes, header_bytes, record_of, bytes_of, spelling}
 use Rattle.axp_image.proofs.ValidityLemmas.{bind_some, guard_none, some_is, piece_some, piece_length, piece_bytes, HasHeader, header_has, HasExtent, extent_has, extent_end, extents_say, after_extents, after_header}
 
 -- ---- numbers
@@ -98,7 +98,7 @@ records_spelled bytes size (suc count) from at es all h =
 
 segments_spelled : (bytes : List ℕ) (at : ℕ) (es : List Extent) (ss : List Segment) → segments_at bytes at es ≡ Some ss
     → (drop at bytes ≡ flat_map bytes_of ss) × (flat_map extent_record es ≡ flat_map record_of ss) × (length ss ≡ length es)
-unfolding segments_at
+unfolding segments_at record_of number_bytes
 segments_spelled bytes at [] ss h =
     let passed = guard_none (ltb at (length bytes)) [] ss h in
     let past : length bytes ≤ at = ltb-false at (length bytes) passed.0 in
@@ -130,7 +130,7 @@ header_spelled bytes h all has =
 whole_spelled : (bytes : List ℕ) (h : Header) (es : List Extent) (ss : List Segment) → AreBytes bytes → HasHeader bytes h
     → extents_at bytes h.size h.count 0 HEADER_BYTES ≡ Some es → segments_at bytes (HEADER_BYTES + h.count * RECORD_BYTES) es ≡ Some ss
     → bytes ≡ spelling (contents h.size h.entry h.stack h.table ss)
-unfolding spelling
+unfolding spelling header_bytes format_bytes record_of number_bytes
 whole_spelled bytes h es ss all has records segments =
     let own = segments_spelled bytes (HEADER_BYTES + h.count * RECORD_BYTES) es ss segments in
     let said = extents_say bytes h.size h.count 0 HEADER_BYTES es records in

@@ -1,5 +1,5 @@
 -- What an image says of a machine's start: four numbers, and the segments that fill memory.
-use Rattle.std.specs.Prelude.{◌≡◌, ℕ, ◌+◌, ◌-◌, ◌/◌, ◌%◌, ◌^◌, ◌<◌, ◌≤◌, Bool, ◌&&◌, nat_le, nat_lt, if◌then◌else◌, List, [], ◌∷◌, length, slice_index}
+use Rattle.std.specs.Prelude.{◌≡◌, ℕ, ◌+◌, ◌-◌, ◌/◌, ◌%◌, ◌^◌, ◌<◌, ◌≤◌, Bool, ◌&&◌, nat_le, nat_lt, if◌then◌else◌, List, [], ◌∷◌, ◌++◌, length, slice_index}
 use Rattle.axp_image.specs.declared.limits.TheConstants.{PAGE_BYTES, MAX_MEMORY, MAX_SEGMENTS, KSEG, INSTRUCTION_BYTES}
 
 -- bytes that stand in memory from an address on
@@ -29,6 +29,19 @@ segment_of address bytes = record { address = address; bytes = bytes }
 -- the address behind a segment's last byte
 abbrev pub end_of : Segment → ℕ
 end_of s = s.address + length s.bytes
+
+-- the end of the last segment, or `from` where there is none
+abbrev pub end_after : ℕ → List Segment → ℕ
+end_after from [] = from
+end_after from (s ∷ rest) = end_after (end_of s) rest
+
+-- where the next segment may begin
+abbrev pub last_end : List Segment → ℕ
+last_end segments = end_after 0 segments
+
+-- the contents with one more segment, behind the others
+abbrev pub with_segment : Contents → Segment → Contents
+with_segment c s = contents c.size c.entry c.stack c.table (c.segments ++ s ∷ [])
 
 -- a segment has the byte at an address
 abbrev pub covers : Segment → ℕ → Bool

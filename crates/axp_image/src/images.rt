@@ -1,7 +1,11 @@
-ghost use Rattle.std.specs.Prelude.{◌≡◌, ◌+◌, ◌<◌, ◌≤◌, Some, length, slice_get, slice_index, IfOk};
-ghost use Rattle.std.specs.Prelude.{OnOk};
+ghost use Rattle.std.specs.Prelude.{◌≡◌, ◌+◌, ◌-◌, ◌/◌, ◌%◌, ◌<◌, ◌≤◌, [], Some, length};
+ghost use Rattle.std.specs.Prelude.{slice_get, slice_index, IfOk, OnOk, OnErr};
 ghost use Rattle.axp_image.specs.Contents.{IsValid, byte_in, contents, covers, segment_of};
+ghost use Rattle.axp_image.specs.Contents.{last_end, with_segment};
+ghost use Rattle.axp_image.specs.declared.limits.TheConstants.{PAGE_BYTES, MAX_MEMORY, KSEG};
+ghost use Rattle.axp_image.specs.declared.limits.TheConstants.{MAX_SEGMENTS, INSTRUCTION_BYTES};
 
+use crate::limits::MAX_SEGMENTS;
 use axp_base::{Bytes, NoMemory};
 use std::alloc::Global;
 use std::marker::Model;
@@ -104,6 +108,43 @@ impl Image {
             table,
             segments,
         }
+    }
+
+    /// An image with these four numbers and no segment. `docs/FORMATS.md` has the limits under "The
+    /// image file".
+    pub fn start(
+        alloc: Global,
+        size: u64,
+        entry: u64,
+        stack: u64,
+        table: u64,
+    ) -> Result<Image, NoMemory>
+        requires whole_pages { size % PAGE_BYTES ≡ 0 }
+        requires least_size { PAGE_BYTES ≤ size }
+        requires most_size { size ≤ MAX_MEMORY }
+        requires entry_aligned { entry % INSTRUCTION_BYTES ≡ 0 }
+        requires least_entry { KSEG ≤ entry }
+        requires most_entry { entry ≤ KSEG + size - INSTRUCTION_BYTES }
+        requires table_page { table < size / PAGE_BYTES }
+        ensures value { IfOk result (λ image. image ≡ contents size entry stack table []) }
+    {
+        // So a segment that is added takes no memory but that of its bytes.
+        let segments = Vec::with_capacity(alloc, MAX_SEGMENTS as usize)?;
+        Ok(Image::new(size, entry, stack, table, segments))
+    }
+
+    /// Puts a segment of these bytes behind the last; after want of memory the image is as before.
+    pub fn add(&mut self, alloc: Global, address: u64, bytes: &[u8]) -> Result<(), NoMemory>
+        requires room { length self.old.segments < MAX_SEGMENTS }
+        requires not_empty { 1 ≤ length bytes.now }
+        requires behind { last_end self.old.segments ≤ address }
+        requires within { address + length bytes.now ≤ self.old.size }
+        ensures ok { OnOk result (self.new ≡ with_segment self.old (segment_of address bytes.now)) }
+        ensures err { OnErr result (self.new ≡ self.old) }
+    {
+        let bytes = Bytes::copy(alloc, bytes)?;
+        self.segments.push(Segment::new(address, bytes))?;
+        Ok(())
     }
 
     /// A copy of the image.

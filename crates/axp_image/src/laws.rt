@@ -1,9 +1,11 @@
 //! Laws of images, each proved as the contract of a function that does nothing.
-ghost use Rattle.std.specs.Prelude.{ℕ, List, ◌≡◌, ◌<◌, Some, None, ◌++◌, ◌∷◌, []};
+ghost use Rattle.std.specs.Prelude.{ℕ, List, ◌≡◌, ◌<◌, Some, None, IsSome, ◌↔◌, ◌++◌, ◌∷◌, []};
 ghost use Rattle.axp_image.specs.declared.limits.TheConstants.{PAGE_BYTES, MAX_MEMORY, KSEG};
 ghost use Rattle.axp_image.specs.declared.limits.TheConstants.{MAX_SEGMENTS, INSTRUCTION_BYTES};
 ghost use Rattle.axp_image.specs.Contents.{AreBytes, Contents, IsValid, byte_in};
 ghost use Rattle.axp_image.specs.Grammar.{image_of};
+ghost use Rattle.axp_image.specs.declared.faults.ImageKind.TheVariants.{Short, Extra};
+ghost use Rattle.axp_image.specs.Faults.{first_fault};
 ghost use Rattle.axp_image.specs.Spelling.{spelling};
 ghost use Rattle.axp_image.specs.Laws.{DoNotOverlap, HaveTheirBytes, AreZeroElsewhere, smallest};
 ghost use Rattle.axp_image.specs.Laws.{smallest_file};
@@ -25,10 +27,12 @@ pub fn one_file()
     ensures read { (c : Contents) → IsValid c → image_of (spelling c) ≡ Some c }
 {}
 
-/// The smallest image file is read as one page of zeros. It is none with a byte more.
+/// The smallest image file is read as one page of zeros. With a byte more it is none, by the byte at
+/// its end, and an empty file is short.
 pub fn smallest_image()
     ensures read { image_of smallest_file ≡ Some smallest }
-    ensures extra { image_of (smallest_file ++ 0 ∷ []) ≡ None }
+    ensures extra { first_fault (smallest_file ++ 0 ∷ []) ≡ Some (Extra, 40) }
+    ensures short { first_fault [] ≡ Some (Short, 0) }
 {}
 
 /// The limits as numbers: definitions and code share each constant, so nothing else says these.
@@ -38,4 +42,9 @@ pub fn limits_as_numbers()
     ensures max_segments { MAX_SEGMENTS ≡ 64 }
     ensures kseg { KSEG ≡ 0xFFFFFC0000000000 }
     ensures instruction_bytes { INSTRUCTION_BYTES ≡ 4 }
+{}
+
+/// A file has no fault exactly where it is an image.
+pub fn no_fault_is_an_image()
+    ensures { (bytes : List ℕ) → (first_fault bytes ≡ None) ↔ IsSome (image_of bytes) }
 {}

@@ -2,16 +2,22 @@
 //! holds then.
 #![tactic(auto)]
 
+mod faults;
 mod images;
 mod laws;
 mod layout;
 mod limits;
 mod reading;
+mod writing;
 
+pub use faults::{ImageError, ImageKind};
 pub use images::Image;
-pub use laws::{limits_as_numbers, memory_of_segments, one_file, smallest_image};
+pub use laws::{
+    limits_as_numbers, memory_of_segments, no_fault_is_an_image, one_file, smallest_image,
+};
 pub use limits::{INSTRUCTION_BYTES, KSEG, MAX_MEMORY, MAX_SEGMENTS, PAGE_BYTES};
 pub use reading::read_image;
+pub use writing::write_image;
 
 #[cfg(test)]
 mod tests;

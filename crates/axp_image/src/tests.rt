@@ -24,27 +24,39 @@ const TWO_SEGMENTS: [u8; 77] = [
     11, 12, 13, 21, 22,
 ];
 
-/// The file with another byte at one place is an image.
-fn is_image_with(alloc: Global, file: &[u8], at: usize, byte: u8) -> Result<bool, NoMemory> {
+/// The first fault of a file, with its offset; `None` where the file is an image.
+fn fault_of(alloc: Global, file: &[u8]) -> Result<Option<(ImageKind, u64)>, NoMemory> {
+    match read_image(alloc, file) {
+        Ok(_) => Ok(None),
+        Err(ImageError::Bad { kind, offset }) => Ok(Some((kind, offset))),
+        Err(ImageError::Memory) => Err(NoMemory),
+    }
+}
+
+/// The first fault of the file with another byte at one place.
+fn fault_with(
+    alloc: Global,
+    file: &[u8],
+    at: usize,
+    byte: u8,
+) -> Result<Option<(ImageKind, u64)>, NoMemory> {
     let mut changed = Vec::from_slice(alloc, file)?;
     if let Some(place) = changed.get_mut(at) {
         *place = byte;
     }
-    Ok(read_image(alloc, changed.as_slice())?.is_some())
+    fault_of(alloc, changed.as_slice())
 }
 
 #[test]
 fn reads_numbers_and_bytes(rt: HostRuntime) -> Result<(), Fail> {
-    let read = read_image(rt.alloc(), &SMALLEST).ok().ok_or("memory")?;
-    let image = read.ok_or("the smallest image is read")?;
+    let image = read_image(rt.alloc(), &SMALLEST)?;
     assert_eq!(rt; image.size(), 8192);
     assert_eq!(rt; image.entry(), 0xFFFF_FC00_0000_0000);
     assert_eq!(rt; image.stack(), 0);
     assert_eq!(rt; image.table(), 0);
     assert_eq!(rt; image.segments(), 0);
 
-    let read = read_image(rt.alloc(), &TWO_SEGMENTS).ok().ok_or("memory")?;
-    let image = read.ok_or("two segments are read")?;
+    let image = read_image(rt.alloc(), &TWO_SEGMENTS)?;
     assert_eq!(rt; image.size(), 0x4000);
     assert_eq!(rt; image.entry(), 0xFFFF_FC00_0000_2004);
     assert_eq!(rt; image.stack(), 0xFFFF_FC00_0000_4000);
@@ -72,37 +84,97 @@ fn reads_numbers_and_bytes(rt: HostRuntime) -> Result<(), Fail> {
 }
 
 #[test]
-fn refuses_other_files(rt: HostRuntime) -> Result<(), Fail> {
-    for (at, byte, is_image) in [
-        (0, 0x42, false),
-        (4, 2, false),
-        (6, 1, false),
-        (9, 0x10, false),
-        (8, 1, false),
-        (16, 2, false),
-        (17, 0x1F, true),
-        (17, 0x20, false),
-        (24, 7, true),
-        (32, 1, false),
+fn each_byte_of_the_smallest_image_changed(rt: HostRuntime) -> Result<(), Fail> {
+    for (from, to, fault) in [
+        (0, 4, Some((ImageKind::Magic, 0))),
+        (4, 6, Some((ImageKind::Version, 4))),
+        (6, 8, Some((ImageKind::Count, 6))),
+        (8, 10, Some((ImageKind::Size, 8))),
+        (10, 11, None),
+        (11, 16, Some((ImageKind::Size, 8))),
+        (16, 22, Some((ImageKind::Entry, 16))),
+        (22, 32, None),
+        (32, 40, Some((ImageKind::Table, 32))),
     ] {
-        let found = is_image_with(rt.alloc(), &SMALLEST, at, byte).ok();
-        assert_eq!(rt; found, Some(is_image), "{byte} at {at}");
+        for at in from..to {
+            let found = fault_with(rt.alloc(), &SMALLEST, at, 0xFF)?;
+            assert_eq!(rt; found, fault, "FF at {at}");
+        }
     }
-    for (at, byte, is_image) in [
-        (48, 0, false),
-        (48, 4, false),
-        (52, 1, false),
-        (56, 0xF2, false),
-        (56, 0xF3, true),
-        (56, 0xFF, false),
+    Ok(())
+}
+
+#[test]
+fn the_first_fault_is_named(rt: HostRuntime) -> Result<(), Fail> {
+    for (at, byte, fault) in [
+        (6, 65, Some((ImageKind::Count, 6))),
+        (6, 3, Some((ImageKind::Short, 77))),
+        (17, 0x40, Some((ImageKind::Entry, 16))),
+        (32, 2, Some((ImageKind::Table, 32))),
+        (41, 0x40, Some((ImageKind::Segment, 40))),
+        (48, 0, Some((ImageKind::Segment, 40))),
+        (48, 15, Some((ImageKind::Segment, 56))),
+        (48, 4, Some((ImageKind::Short, 77))),
+        (48, 2, Some((ImageKind::Extra, 76))),
+        (52, 1, Some((ImageKind::Segment, 40))),
+        (56, 0xF2, Some((ImageKind::Segment, 56))),
+        (56, 0xF3, None),
+        (56, 0xFF, Some((ImageKind::Segment, 56))),
     ] {
-        let found = is_image_with(rt.alloc(), &TWO_SEGMENTS, at, byte).ok();
-        assert_eq!(rt; found, Some(is_image), "{byte} at {at} of two segments");
+        let found = fault_with(rt.alloc(), &TWO_SEGMENTS, at, byte)?;
+        assert_eq!(rt; found, fault, "{byte} at {at} of two segments");
     }
-    for file in [&[], &SMALLEST[..39], &TWO_SEGMENTS[..76]] {
-        let read = read_image(rt.alloc(), file).ok().ok_or("memory")?;
-        assert!(rt; read.is_none(), "a file of {} bytes", file.len());
+    for length in [0, 3, 5, 39, 40, 55, 71, 76] {
+        let fault = fault_of(rt.alloc(), &TWO_SEGMENTS[..length])?;
+        assert_eq!(rt;
+            fault,
+            Some((ImageKind::Short, length as u64)),
+            "a front of {length}"
+        );
     }
+    for (kind, name) in [
+        (ImageKind::Magic, "magic"),
+        (ImageKind::Version, "version"),
+        (ImageKind::Count, "count"),
+        (ImageKind::Size, "size"),
+        (ImageKind::Entry, "entry"),
+        (ImageKind::Table, "table"),
+        (ImageKind::Segment, "segment"),
+        (ImageKind::Short, "short"),
+        (ImageKind::Extra, "extra"),
+    ] {
+        assert_eq!(rt; kind.name(), name);
+    }
+    Ok(())
+}
+
+#[test]
+fn an_image_is_made_and_written(rt: HostRuntime) -> Result<(), Fail> {
+    let alloc = rt.alloc();
+    let smallest = Image::start(alloc, PAGE_BYTES, KSEG, 0, 0)?;
+    assert_eq!(rt;
+        write_image(alloc, &smallest)?.as_slice(),
+        SMALLEST.as_slice()
+    );
+
+    let mut image = Image::start(
+        alloc,
+        0x4000,
+        0xFFFF_FC00_0000_2004,
+        0xFFFF_FC00_0000_4000,
+        1,
+    )?;
+    image.add(alloc, 0x3FF0, &[11, 12, 13])?;
+    image.add(alloc, 0x3FFE, &[21, 22])?;
+    assert_eq!(rt;
+        write_image(alloc, &image)?.as_slice(),
+        TWO_SEGMENTS.as_slice()
+    );
+    let copy = image.copy(alloc)?;
+    assert_eq!(rt;
+        write_image(alloc, &copy)?.as_slice(),
+        TWO_SEGMENTS.as_slice()
+    );
     Ok(())
 }
 
@@ -130,25 +202,22 @@ fn file_of_sevens(alloc: Global, size: u64, count: u16, length: u32) -> Result<V
 #[test]
 fn reads_up_to_each_limit(rt: HostRuntime) -> Result<(), Fail> {
     let alloc = rt.alloc();
-    for (size, count, length, is_image) in [
-        (0x2000, 64, 3, true),
-        (0x2000, 65, 3, false),
-        (0x0100_0000, 0, 0, true),
-        (0x0100_2000, 0, 0, false),
-        (0x2_0000, 1, 0x1_0001, true),
-        (0x0100_0000, 1, 0x0100_0000, true),
-        (0x0100_0000, 1, 0x0100_0001, false),
+    for (size, count, length, fault) in [
+        (0x2000, 64, 3, None),
+        (0x2000, 65, 3, Some((ImageKind::Count, 6))),
+        (0x0100_0000, 0, 0, None),
+        (0x0100_2000, 0, 0, Some((ImageKind::Size, 8))),
+        (0x2_0000, 1, 0x1_0001, None),
+        (0x0100_0000, 1, 0x0100_0000, None),
+        (0x0100_0000, 1, 0x0100_0001, Some((ImageKind::Segment, 40))),
     ] {
-        let file = file_of_sevens(alloc, size, count, length)
-            .ok()
-            .ok_or("memory")?;
-        let read = read_image(alloc, file.as_slice()).ok().ok_or("memory")?;
+        let file = file_of_sevens(alloc, size, count, length)?;
         assert_eq!(rt;
-            read.is_some(),
-            is_image,
+            fault_of(alloc, file.as_slice())?,
+            fault,
             "{count} segments of {length} in {size}"
         );
-        if let Some(image) = read {
+        if let Ok(image) = read_image(alloc, file.as_slice()) {
             let bytes = u64::from(count) * u64::from(length);
             assert_eq!(rt; (image.size(), image.segments()), (size, u32::from(count)));
             if 0 < bytes && bytes <= image.size() {

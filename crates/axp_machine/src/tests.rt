@@ -12,7 +12,7 @@ mod translation;
 use self::tables::{Expected, both, first_difference, makes, register, start_with};
 use super::*;
 use axp_access::{Access, Act, Event, Kind, Outcome, Place};
-use axp_base::{Bank, Cpu, Line, NoMemory, QUADWORD_BYTES};
+use axp_base::{Bank, Cpu, Line, QUADWORD_BYTES};
 use axp_image::read_image;
 use std::alloc::Global;
 use std::test::Fail;
@@ -51,8 +51,8 @@ const STACK: u64 = 0x4000;
 
 const STACK_QUADWORD: u64 = 0x800;
 
-/// Two processors over a program, each with a budget of steps; `None` where the file is no image.
-fn load(alloc: Global, words: &[u32], budget: u32) -> Result<Option<Machine>, NoMemory>
+/// Two processors over a program, each with a budget of steps.
+fn load(alloc: Global, words: &[u32], budget: u32) -> Result<Machine, Fail>
     requires least { 1 ≤ budget }
     requires most { budget ≤ MAX_BUDGET }
 {
@@ -61,10 +61,8 @@ fn load(alloc: Global, words: &[u32], budget: u32) -> Result<Option<Machine>, No
     for word in words {
         file.extend_from_slice(&word.to_le_bytes())?;
     }
-    let Some(image) = read_image(alloc, file.as_slice())? else {
-        return Ok(None);
-    };
-    Ok(Some(Machine::load(alloc, &image, 2, budget)?))
+    let image = read_image(alloc, file.as_slice())?;
+    Ok(Machine::load(alloc, &image, 2, budget)?)
 }
 
 /// The events by which each processor of [`STORE_AND_LOAD`] stores and loads, and is then halted.

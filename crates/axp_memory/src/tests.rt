@@ -32,10 +32,7 @@ fn the_greatest_memory_is_loaded(rt: HostRuntime) -> Result<(), Fail> {
     for _ in 0..0x1_0001 {
         file.push(7)?;
     }
-    let read = read_image(rt.alloc(), file.as_slice())
-        .ok()
-        .ok_or("memory")?;
-    let image = read.ok_or("the greatest memory is read")?;
+    let image = read_image(rt.alloc(), file.as_slice())?;
     let ram = Ram::load(rt.alloc(), &image).ok().ok_or("memory")?;
     assert_eq!(rt; ram.size(), 0x0100_0000);
     if ram.size() == 0x0100_0000 {
@@ -56,8 +53,7 @@ fn the_greatest_memory_is_loaded(rt: HostRuntime) -> Result<(), Fail> {
 
 #[test]
 fn lines_are_read_and_written(rt: HostRuntime) -> Result<(), Fail> {
-    let read = read_image(rt.alloc(), &TWO_SEGMENTS).ok().ok_or("memory")?;
-    let image = read.ok_or("two segments are read")?;
+    let image = read_image(rt.alloc(), &TWO_SEGMENTS)?;
     let mut ram = Ram::load(rt.alloc(), &image).ok().ok_or("memory")?;
     assert_eq!(rt; ram.size(), 0x4000);
     if ram.size() == 0x4000 {

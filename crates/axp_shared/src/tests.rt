@@ -46,7 +46,7 @@ fn opened(
     ensures seats { IfOk result (λ t. AreSeatsOfBus t.0 t.1) }
     ensures all_there { IfOk result (λ t. AreAllThere t.1) }
 {
-    let image = read_image(alloc, &PAGE)?.ok_or("a page")?;
+    let image = read_image(alloc, &PAGE)?;
     assert_eq!(rt; image.size(), 0x2000);
     Ok(SharedBus::open(alloc, &image, cpus, budget)?)
 }

@@ -17,7 +17,7 @@ use crate::limits::{MAX_IMAGE_BYTES, MAX_TRACE_BYTES};
 use crate::printing::refuse;
 use crate::replay::{refuse_all, replay};
 use crate::words::{Command, Word, read_words};
-use axp_image::{Image, read_image};
+use axp_image::{Image, ImageError, read_image};
 use axp_io::{Desk, FetchFault, Sink};
 use axp_trace::write_read_fault;
 use std::alloc::Global;
@@ -102,9 +102,9 @@ fn replay_files<D: Desk, K: Sink>(
 {
     match desk.fetch(alloc, image, MAX_IMAGE_BYTES) {
         Ok(bytes) => match read_image(alloc, bytes.as_slice()) {
-            Ok(Some(image)) => replay_file(alloc, desk, sink, &image, trace),
-            Ok(None) => refuse_all(alloc, sink),
-            Err(_) => Status::Memory,
+            Ok(image) => replay_file(alloc, desk, sink, &image, trace),
+            Err(ImageError::Bad { .. }) => refuse_all(alloc, sink),
+            Err(ImageError::Memory) => Status::Memory,
         },
         Err(FetchFault::Failed) => refuse_read_fault(alloc, sink),
         Err(FetchFault::TooLong) => refuse_all(alloc, sink),

@@ -37,7 +37,7 @@ pub(super) fn start_over(
     for (_, value) in quadwords {
         file.extend_from_slice(&value.to_le_bytes())?;
     }
-    let image = read_image(alloc, file.as_slice())?.ok_or("the file is an image")?;
+    let image = read_image(alloc, file.as_slice())?;
     Ok(Machine::load(alloc, &image, 2, 300)?)
 }
 

@@ -133,8 +133,7 @@ pub(super) fn start_with(alloc: Global, words: &[u32], budget: u32) -> Result<Ma
     requires least { 1 ≤ budget }
     requires most { budget ≤ MAX_BUDGET }
 {
-    let loaded = load(alloc, words, budget).ok().ok_or("memory")?;
-    Ok(loaded.ok_or("the file is an image")?)
+    load(alloc, words, budget)
 }
 
 /// Whether each of these acts of a processor was legal and built.

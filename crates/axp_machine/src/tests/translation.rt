@@ -44,7 +44,7 @@ fn start_paged(alloc: Global, words: &[u32], pages: u64) -> Result<Machine, Fail
     for _ in 0..pages {
         file.extend_from_slice(&TO_PAGE.to_le_bytes())?;
     }
-    let image = read_image(alloc, file.as_slice())?.ok_or("the file is an image")?;
+    let image = read_image(alloc, file.as_slice())?;
     Ok(Machine::load(alloc, &image, 2, 300)?)
 }
 

@@ -1,0 +1,121 @@
+-- Which words are which command.
+use Rattle.std.proofs.Common.{◌≡◌, ◌≢◌, ℕ, suc, ◌-◌, ◌^◌, ◌<◌, ◌≤◌, Bool, true, false, cond, List, [], ◌∷◌, length, Option, Some, None, refl, sym, ap, subst, ◌∙◌, arith}
+use Rattle.std.specs.Prelude.{codes, decimal}
+use Rattle.std.specs.Str.{bytes_eq}
+use Rattle.std.proofs.lemmas.Bool.{ne_eqb}
+use Rattle.std.proofs.lemmas.Slice.Eq.{bytes_eq-Decides}
+use Rattle.axp_base.specs.declared.processors.TheConstants.{MIN_CPUS, MAX_CPUS, MAX_BUDGET}
+use Rattle.axp_words.specs.Numbers.{number_in}
+use Rattle.axp_words.specs.Words.{Order, Seed, Replay, Gen, ◌>>=◌, path_of, any_number, seed_of, replay_of, gen_of, order_of}
+use Rattle.axp_words.proofs.NumberLemmas.{decimals}
+
+-- the words of a command, in the subject's terms
+abbrev pub Spells : List (List ℕ) → Order → Type 0
+Spells words (Seed image cpus budget seed) = (words ≡ codes "seed" ∷ image ∷ decimal cpus ∷ decimal budget ∷ decimal seed ∷ [])
+    × (image ≢ []) × (MIN_CPUS ≤ cpus) × (cpus ≤ MAX_CPUS) × (1 ≤ budget) × (budget ≤ MAX_BUDGET) × (seed < 2 ^ 64)
+Spells words (Replay image trace) = (words ≡ codes "replay" ∷ image ∷ trace ∷ []) × (image ≢ []) × (trace ≢ [])
+Spells words (Gen number) = (words ≡ codes "gen" ∷ decimal number ∷ []) × (number < 2 ^ 64)
+
+bind_some : {A B : Type 0} (o : Option A) (f : A → Option B) (y : B) → (o >>= f) ≡ Some y → (x : A) × (o ≡ Some x) × (f x ≡ Some y)
+bind_some None f y h = absurd cc
+bind_some (Some x) f y h = (x, refl, h)
+
+some_is : {A : Type 0} (x y : A) → Some x ≡ Some y → x ≡ y
+some_is x y h = cc
+
+guard_some : {A : Type 0} (b : Bool) (x : Option A) (y : A) → cond b x None ≡ Some y → (b ≡ true) × (x ≡ Some y)
+guard_some true x y h = (refl, h)
+guard_some false x y h = absurd cc
+
+same_bytes : (xs ys : List ℕ) → bytes_eq xs ys ≡ true → xs ≡ ys
+same_bytes xs ys = (bytes_eq-Decides xs ys).0
+
+path_some : (c : ℕ) (cs : List ℕ) → path_of (c ∷ cs) ≡ Some (c ∷ cs)
+path_some c cs = rw (ne_eqb (suc (length cs)) 0 (λ none. omega (arith, none))) refl
+
+path_says : (word path : List ℕ) → path_of word ≡ Some path → (word ≡ path) × (word ≢ [])
+path_says [] path h = absurd cc
+path_says (c ∷ cs) path h = (some_is (c ∷ cs) path (sym (path_some c cs) ∙ h), λ none. absurd cc)
+
+path_has : (path : List ℕ) → path ≢ [] → path_of path ≡ Some path
+path_has [] some = absurd (some refl)
+path_has (c ∷ cs) some = path_some c cs
+
+any_says : (word : List ℕ) (n : ℕ) → any_number word ≡ Some n → (word ≡ decimal n) × (n < 2 ^ 64)
+any_says word n h =
+    let is = (decimals 0 (2 ^ 64 - 1) n word (omega arith)).0 h in
+    (is.0, omega (arith, is.2))
+
+any_has : (n : ℕ) → n < 2 ^ 64 → any_number (decimal n) ≡ Some n
+any_has n fits = (decimals 0 (2 ^ 64 - 1) n (decimal n) (omega arith)).1 (refl, omega arith, omega arith)
+
+-- ---- each command's words
+
+gen_says : (number : List ℕ) (o : Order) → gen_of number ≡ Some o → Spells (codes "gen" ∷ number ∷ []) o
+gen_says number o h =
+    let n = bind_some (any_number number) (λ x. Some (Gen x)) o h in
+    let is = any_says number n.0 n.1 in
+    let shown : Spells (codes "gen" ∷ number ∷ []) (Gen n.0) = (ap (λ (w : List ℕ). codes "gen" ∷ w ∷ []) is.0, is.1) in
+    subst (Spells (codes "gen" ∷ number ∷ [])) (some_is (Gen n.0) o n.2) shown
+
+replay_says : (image trace : List ℕ) (o : Order) → replay_of image trace ≡ Some o → Spells (codes "replay" ∷ image ∷ trace ∷ []) o
+replay_says image trace o h =
+    let i = bind_some (path_of image) (λ x. path_of trace >>= λ y. Some (Replay x y)) o h in
+    let t = bind_some (path_of trace) (λ y. Some (Replay i.0 y)) o i.2 in
+    let a = path_says image i.0 i.1 in
+    let b = path_says trace t.0 t.1 in
+    let shown : Spells (codes "replay" ∷ image ∷ trace ∷ []) (Replay image trace) = (refl, a.1, b.1) in
+    let same : Replay image trace ≡ Replay i.0 t.0 = ap (λ (x : List ℕ). Replay x trace) a.0 ∙ ap (Replay i.0) b.0 in
+    subst (Spells (codes "replay" ∷ image ∷ trace ∷ [])) (same ∙ some_is (Replay i.0 t.0) o t.2) shown
+
+seed_says : (image cpus budget seed : List ℕ) (o : Order) → seed_of image cpus budget seed ≡ Some o → Spells (codes "seed" ∷ image ∷ cpus ∷ budget ∷ seed ∷ []) o
+seed_says image cpus budget seed o h =
+    let words = codes "seed" ∷ image ∷ cpus ∷ budget ∷ seed ∷ [] in
+    let i = bind_some (path_of image) (λ x. number_in MIN_CPUS MAX_CPUS cpus >>= λ c. number_in 1 MAX_BUDGET budget >>= λ b. any_number seed >>= λ s. Some (Seed x c b s)) o h in
+    let c = bind_some (number_in MIN_CPUS MAX_CPUS cpus) (λ c. number_in 1 MAX_BUDGET budget >>= λ b. any_number seed >>= λ s. Some (Seed i.0 c b s)) o i.2 in
+    let b = bind_some (number_in 1 MAX_BUDGET budget) (λ b. any_number seed >>= λ s. Some (Seed i.0 c.0 b s)) o c.2 in
+    let s = bind_some (any_number seed) (λ s. Some (Seed i.0 c.0 b.0 s)) o b.2 in
+    let path = path_says image i.0 i.1 in
+    let processors = (decimals MIN_CPUS MAX_CPUS c.0 cpus (omega arith)).0 c.1 in
+    let steps = (decimals 1 MAX_BUDGET b.0 budget (omega arith)).0 b.1 in
+    let start = any_says seed s.0 s.1 in
+    let spelled : words ≡ codes "seed" ∷ image ∷ decimal c.0 ∷ decimal b.0 ∷ decimal s.0 ∷ [] =
+    ap (λ (w : List ℕ). codes "seed" ∷ image ∷ w ∷ budget ∷ seed ∷ []) processors.0
+    ∙ ap (λ (w : List ℕ). codes "seed" ∷ image ∷ decimal c.0 ∷ w ∷ seed ∷ []) steps.0
+    ∙ ap (λ (w : List ℕ). codes "seed" ∷ image ∷ decimal c.0 ∷ decimal b.0 ∷ w ∷ []) start.0 in
+    let shown : Spells words (Seed image c.0 b.0 s.0) = (spelled, path.1, processors.1, processors.2, steps.1, steps.2, start.1) in
+    let same : Seed image c.0 b.0 s.0 ≡ Seed i.0 c.0 b.0 s.0 = ap (λ (x : List ℕ). Seed x c.0 b.0 s.0) path.0 in
+    subst (Spells words) (same ∙ some_is (Seed i.0 c.0 b.0 s.0) o s.2) shown
+
+-- ---- both ways
+
+pub order_says : (words : List (List ℕ)) (o : Order) → order_of words ≡ Some o → Spells words o
+unfolding order_of
+order_says [] o h = absurd cc
+order_says (a ∷ []) o h = absurd cc
+order_says (verb ∷ number ∷ []) o h =
+    let read = guard_some (bytes_eq verb (codes "gen")) (gen_of number) o h in
+    subst (λ (v : List ℕ). Spells (v ∷ number ∷ []) o) (sym (same_bytes verb (codes "gen") read.0)) (gen_says number o read.1)
+order_says (verb ∷ image ∷ trace ∷ []) o h =
+    let read = guard_some (bytes_eq verb (codes "replay")) (replay_of image trace) o h in
+    subst (λ (v : List ℕ). Spells (v ∷ image ∷ trace ∷ []) o) (sym (same_bytes verb (codes "replay") read.0)) (replay_says image trace o read.1)
+order_says (a ∷ b ∷ c ∷ d ∷ []) o h = absurd cc
+order_says (verb ∷ image ∷ cpus ∷ budget ∷ seed ∷ []) o h =
+    let read = guard_some (bytes_eq verb (codes "seed")) (seed_of image cpus budget seed) o h in
+    subst (λ (v : List ℕ). Spells (v ∷ image ∷ cpus ∷ budget ∷ seed ∷ []) o) (sym (same_bytes verb (codes "seed") read.0)) (seed_says image cpus budget seed o read.1)
+order_says (a ∷ b ∷ c ∷ d ∷ e ∷ f ∷ more) o h = absurd cc
+
+pub order_has : (words : List (List ℕ)) (o : Order) → Spells words o → order_of words ≡ Some o
+unfolding order_of
+order_has words (Seed image cpus budget seed) is =
+    let read : seed_of image (decimal cpus) (decimal budget) (decimal seed) ≡ Some (Seed image cpus budget seed) = rw (
+      path_has image is.1,
+      (decimals MIN_CPUS MAX_CPUS cpus (decimal cpus) (omega arith)).1 (refl, is.2, is.3),
+      (decimals 1 MAX_BUDGET budget (decimal budget) (omega arith)).1 (refl, is.4, is.5),
+      any_has seed is.6,
+    ) refl in
+    ap order_of is.0 ∙ read
+order_has words (Replay image trace) is =
+    ap order_of is.0 ∙ rw (path_has image is.1, path_has trace is.2) refl
+order_has words (Gen number) is =
+    ap order_of is.0 ∙ rw (any_has number is.1) refl

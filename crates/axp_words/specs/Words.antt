@@ -1,0 +1,53 @@
+-- The command grammar: which lists of words are which command.
+use Rattle.std.specs.Prelude.{ℕ, ◌-◌, ◌^◌, ◌==◌, List, [], ◌∷◌, length, codes, Option, Some, None, option_and_then, if◌then◌else◌}
+use Rattle.std.specs.Str.{bytes_eq}
+use Rattle.axp_base.specs.declared.processors.TheConstants.{MIN_CPUS, MAX_CPUS, MAX_BUDGET}
+use Rattle.axp_words.specs.Numbers.{number_in}
+
+-- a command, without where its words lie
+pub data Order : Type 0 where
+  -- the trace of the run over an image that a number of processors, a budget and a seed define
+  Seed : List ℕ → ℕ → ℕ → ℕ → Order
+  -- the trace of the events that a file lists, over an image
+  Replay : List ℕ → List ℕ → Order
+  -- a summary of many seeded runs
+  Gen : ℕ → Order
+
+-- what follows a word is read where the word was
+infixl 10 ◌>>=◌
+abbrev pub ◌>>=◌ : {A B : Type 0} → Option A → (A → Option B) → Option B
+o >>= f = option_and_then f o
+
+-- the path that a word names
+abbrev pub path_of : List ℕ → Option (List ℕ)
+path_of word = if length word == 0 then None else Some word
+
+-- the number below 2 ^ 64 that a word writes
+abbrev pub any_number : List ℕ → Option ℕ
+any_number word = number_in 0 (2 ^ 64 - 1) word
+
+abbrev pub seed_of : List ℕ → List ℕ → List ℕ → List ℕ → Option Order
+seed_of image cpus budget seed = do
+  path ← path_of image
+  processors ← number_in MIN_CPUS MAX_CPUS cpus
+  steps ← number_in 1 MAX_BUDGET budget
+  start ← any_number seed
+  Some (Seed path processors steps start)
+
+abbrev pub replay_of : List ℕ → List ℕ → Option Order
+replay_of image trace = do
+  path ← path_of image
+  list ← path_of trace
+  Some (Replay path list)
+
+abbrev pub gen_of : List ℕ → Option Order
+gen_of number = do
+  n ← any_number number
+  Some (Gen n)
+
+-- the command that the words are
+unfoldable pub order_of : List (List ℕ) → Option Order
+order_of (verb ∷ number ∷ []) = if bytes_eq verb (codes "gen") then gen_of number else None
+order_of (verb ∷ image ∷ trace ∷ []) = if bytes_eq verb (codes "replay") then replay_of image trace else None
+order_of (verb ∷ image ∷ cpus ∷ budget ∷ seed ∷ []) = if bytes_eq verb (codes "seed") then seed_of image cpus budget seed else None
+order_of _ = None
