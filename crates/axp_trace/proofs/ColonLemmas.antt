@@ -3,7 +3,7 @@ use Rattle.std.proofs.Common.{◌≡◌, ◌≢◌, ℕ, zero, suc, ◌-◌, ◌
 use Rattle.std.specs.List.{All}
 use Rattle.std.specs.Fmt.{digit_glyph, digits, digits_onto}
 use Rattle.std.proofs.lemmas.Bool.{and_parts, cases_lt, lt-ltb, le-ltb, ne_eqb, eq-eqb}
-use Rattle.std.proofs.lemmas.List.Elements.{All-nil, All-cons, All-head, All-tail}
+use Rattle.std.proofs.lemmas.List.Elements.{All-weaker, All-nil, All-cons, All-head, All-tail}
 use Rattle.std.proofs.lemmas.Nat.{mod_below}
 use Rattle.std.proofs.Math.Seq.{take-append_seam}
 use Rattle.axp_base.specs.declared.lines.Bank.{Bank}
@@ -43,23 +43,27 @@ free-append (x ∷ xs) ys = ap (λ t. not (x == 58) && t) (free-append xs ys) �
     and_assoc true q r = refl
     and_assoc false q r = refl
 
-low_glyph : (d : ℕ) → d < 10 → digit_glyph false d ≢ 58
-low_glyph d low = rw (lt-ltb d 10 low) (λ e. omega arith)
+low_glyph : (d : ℕ) → d < 10 → digit_glyph false d < 58
+low_glyph d low = rw (lt-ltb d 10 low) (omega arith)
 
-free_digits : (k n : ℕ) (acc : List ℕ) → All (λ d. d ≢ 58) acc → All (λ d. d ≢ 58) (digits_onto k 10 false n acc)
-free_digits zero n acc h = h
-free_digits (suc k) n acc h = either (n / 10 == 0) _ _ more (free_digits k (n / 10) _ more)
+low_digits : (k n : ℕ) (acc : List ℕ) → All (λ d. d < 58) acc → All (λ d. d < 58) (digits_onto k 10 false n acc)
+low_digits zero n acc h = h
+low_digits (suc k) n acc h = either (n / 10 == 0) _ _ more (low_digits k (n / 10) _ more)
   where
-    more : All (λ d. d ≢ 58) (digit_glyph false (n % 10) ∷ acc)
-    more = All-cons (λ d. d ≢ 58) (digit_glyph false (n % 10)) acc (low_glyph (n % 10) (mod_below n 10 (omega arith))) h
+    more : All (λ d. d < 58) (digit_glyph false (n % 10) ∷ acc)
+    more = All-cons (λ d. d < 58) (digit_glyph false (n % 10)) acc (low_glyph (n % 10) (mod_below n 10 (omega arith))) h
 
-    either : (b : Bool) (xs ys : List ℕ) → All (λ d. d ≢ 58) xs → All (λ d. d ≢ 58) ys → All (λ d. d ≢ 58) (if b then xs else ys)
+    either : (b : Bool) (xs ys : List ℕ) → All (λ d. d < 58) xs → All (λ d. d < 58) ys → All (λ d. d < 58) (if b then xs else ys)
     either true xs ys p q = p
     either false xs ys p q = q
 
-free_decimal : (n : ℕ) → free (decimal n) ≡ true
+-- decimal digits stand below the colon
+pub low_decimal : (n : ℕ) → All (λ d. d < 58) (decimal n)
 unfolding digits
-free_decimal n = all_free (decimal n) (free_digits 64 n [] (All-nil (λ d. d ≢ 58)))
+low_decimal n = low_digits 64 n [] (All-nil (λ d. d < 58))
+
+free_decimal : (n : ℕ) → free (decimal n) ≡ true
+free_decimal n = all_free (decimal n) (All-weaker (λ d. d < 58) (λ d. d ≢ 58) (λ d h e. omega arith) (decimal n) (low_decimal n))
 
 free_digit : (d : ℕ) → hex_digit d ≢ 58
 free_digit d = ⊎_elim (λ low. rw (lt-ltb d 10 low) (λ e. omega arith)) (λ high. rw (le-ltb d 10 high) (λ e. omega arith)) (cases_lt d 10)

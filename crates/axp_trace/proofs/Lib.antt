@@ -17,3 +17,4 @@ pub mod MeantLemmas
 pub mod RecordLawLemmas
 pub mod HeaderLemmas
 pub mod TailLawLemmas
+pub mod TraceLineLemmas
