@@ -12,9 +12,10 @@ use Rattle.axp_access.specs.declared.Event.{Event}
 use Rattle.axp_access.specs.declared.TheConstants.{MAX_DRAINS}
 use Rattle.axp_access.specs.Spelling.{IsNamed}
 use Rattle.axp_trace.specs.Digits.{number_of, hex_number_of}
-use Rattle.axp_trace.specs.Reading.{cpu_in, line_by, line_of, line_in, bank_in, data_bank_in, bare_act_in, drain_in, take_in, drop_by, act_in, event_by, event_in}
+use Rattle.axp_trace.specs.Fields.{cpu_in, line_by, line_of_number, line_in, bank_in, data_bank_in}
+use Rattle.axp_trace.specs.Reading.{bare_act_in, drain_in, take_in, drop_by, act_in, event_by, event_in}
 
-either : {A : Type 0} (P : A → Type 0) (t : Bool) (x y : Option A) → IfSome x P → IfSome y P → IfSome (if t then x else y) P
+pub either : {A : Type 0} (P : A → Type 0) (t : Bool) (x y : Option A) → IfSome x P → IfSome y P → IfSome (if t then x else y) P
 either P true x y p q = p
 either P false x y p q = q
 
@@ -51,7 +52,7 @@ named_drop (Some bank) (Some address) = by (nat_lt address (2 ^ 32)) refl
     low true e small = omega arith
     low false e small = tt
 
-    by : (t : Bool) → nat_lt address (2 ^ 32) ≡ t → IfSome (drop_by (Some bank) (if t then line_of (address / LINE_BYTES) else None)) IsNamed
+    by : (t : Bool) → nat_lt address (2 ^ 32) ≡ t → IfSome (drop_by (Some bank) (if t then line_of_number (address / LINE_BYTES) else None)) IsNamed
     by true e = low (nat_lt (address / LINE_BYTES * LINE_BYTES) (2 ^ 64)) refl (ltb-true address (2 ^ 32) e)
     by false e = tt
 
@@ -61,7 +62,7 @@ named_act (verb ∷ []) = named_bare verb
 named_act (verb ∷ number ∷ []) =
     either IsNamed (bytes_eq verb (codes "drain")) _ _ (named_drain (number_of number))
     (either IsNamed (bytes_eq verb (codes "take")) _ _ (named_take (number_of number)) tt)
-named_act (verb ∷ bank ∷ address ∷ []) = either IsNamed (bytes_eq verb (codes "drop")) _ _ (named_drop (bank_in bank) (hex_number_of address)) tt
+named_act (verb ∷ bank ∷ address ∷ []) = either IsNamed (bytes_eq verb (codes "drop")) _ _ (named_drop (bank_in bank) (hex_number_of 8 address)) tt
 named_act (verb ∷ bank ∷ address ∷ other ∷ more) = tt
 
 named_by : (cpu : Option Cpu) (act : Option Act) → IfSome act IsNamed → IfSome (event_by cpu act) (λ e. IsNamed e.act)

@@ -8,3 +8,13 @@ pub mod ReadingLemmas
 pub mod ActNameLemmas
 pub mod MemoryLineLemmas
 pub mod ReadBackLemmas
+pub mod ConsoleLemmas
+pub mod TailLemmas
+pub mod WordLemmas
+pub mod ColonLemmas
+pub mod RecordLemmas
+pub mod MeantLemmas
+pub mod RecordLawLemmas
+pub mod HeaderLemmas
+pub mod TailLawLemmas
+pub mod TraceLineLemmas

@@ -1,8 +1,8 @@
 -- No line has a line feed in it: its bytes are blanks, digits, letters and the like.
-use Rattle.std.proofs.Common.{◌≡◌, ◌≢◌, ℕ, zero, suc, ◌*◌, ◌/◌, ◌%◌, ◌^◌, ◌<◌, ◌≤◌, ◌==◌, Bool, true, false, nat_le, ◌&&◌, if◌then◌else◌, List, [], ◌∷◌, ◌++◌, decimal, Option, Some, None, refl, sym, ap, ◌∙◌, arith, ⊎_elim}
+use Rattle.std.proofs.Common.{◌≡◌, ◌≢◌, ℕ, zero, suc, ◌*◌, ◌/◌, ◌%◌, ◌^◌, ◌<◌, ◌≤◌, ◌==◌, Bool, true, false, nat_le, ◌&&◌, if◌then◌else◌, List, [], ◌∷◌, ◌++◌, codes, decimal, Option, Some, None, refl, sym, ap, ◌∙◌, arith, ⊎_elim}
 use Rattle.std.specs.List.{All}
 use Rattle.std.proofs.lemmas.Bool.{and_parts, and_from, le-leb, leb-true, cases_lt, lt-ltb, le-ltb, ltb-true}
-use Rattle.std.proofs.lemmas.List.Elements.{All-nil, All-cons, All-weaker, All-head, All-tail}
+use Rattle.std.proofs.lemmas.List.Elements.{All-append, All-nil, All-cons, All-weaker, All-head, All-tail}
 use Rattle.std.specs.Fmt.{digit_glyph, digits, digits_onto}
 use Rattle.axp_base.specs.Cpus.{cpu_number}
 use Rattle.axp_base.specs.declared.lines.Bank.{Bank}
@@ -17,10 +17,12 @@ use Rattle.axp_regs.specs.declared.asks.Kind.{Kind}
 use Rattle.axp_regs.specs.declared.asks.Kind.TheVariants as kind
 use Rattle.axp_access.specs.declared.Outcome.{Outcome}
 use Rattle.axp_access.specs.declared.Outcome.TheVariants as outcome
+use Rattle.axp_access.specs.declared.tail_items.TailItem.{TailItem}
+use Rattle.axp_access.specs.declared.tail_items.TailItem.TheVariants as item
 use Rattle.axp_access.specs.declared.Place.{Place}
 use Rattle.axp_access.specs.declared.Place.TheVariants.{At, Entry, Absent}
-use Rattle.axp_trace.specs.Digits.{hex, hex_digit}
-use Rattle.axp_trace.specs.Lines.{bank_text, bank_number_text, act_text, event_text, turn_text, place_text, data_text, success_text, move_text, access_text, copy_text, bit_text, poll_text, outcome_text, line_text, events_header, trace_header, end_text, processor_line, register_line, memory_line, console_line, end_line, not_legal_line, not_built_line, incomplete_line, read_fault_line}
+use Rattle.axp_trace.specs.Digits.{hex, hex_digit, hex_pairs}
+use Rattle.axp_trace.specs.Lines.{bank_text, bank_number_text, act_text, event_text, turn_text, place_text, data_text, success_text, move_text, access_text, copy_text, bit_text, poll_text, outcome_text, line_text, events_header, trace_header, end_text, halted_of, processor_line, register_line, memory_line, end_line, not_legal_line, incomplete_line, read_fault_line, console_text, console_line, tail_line, usage_line, too_long_line, bad_image_line, bad_trace_line, differs_line, given_line, right_line}
 use Rattle.axp_trace.specs.declared.files.TheConstants.{LINE_FEED}
 
 -- each byte is a blank or above: a test, so that it computes on what is written out
@@ -190,38 +192,83 @@ pub whole_trace_header : (cpus budget memory : ℕ) → All (λ b. b ≢ LINE_FE
 unfolding trace_header
 whole_trace_header cpus budget memory = plain_feed (trace_header cpus budget memory) (simp (plain-append, plain_decimal))
 
-pub whole_processor : (cpu : ℕ) (halted : Option ℕ) (steps pc : ℕ) → All (λ b. b ≢ LINE_FEED) (processor_line cpu halted steps pc)
+plain_processor : (cpu : ℕ) (halted : Option ℕ) (steps pc : ℕ) → plain (processor_line cpu halted steps pc) ≡ true
 unfolding processor_line
-whole_processor cpu halted steps pc = plain_feed (processor_line cpu halted steps pc) (simp (plain-append, plain_decimal, plain_end, plain_hex))
+plain_processor cpu halted steps pc = simp (plain-append, plain_decimal, plain_end, plain_hex)
 
-pub whole_register : (cpu n value : ℕ) → All (λ b. b ≢ LINE_FEED) (register_line cpu n value)
+plain_register : (cpu n value : ℕ) → plain (register_line cpu n value) ≡ true
 unfolding register_line
-whole_register cpu n value = plain_feed (register_line cpu n value) (simp (plain-append, plain_decimal, plain_hex))
+plain_register cpu n value = simp (plain-append, plain_decimal, plain_hex)
 
-pub whole_memory : (address value : ℕ) → All (λ b. b ≢ LINE_FEED) (memory_line address value)
+plain_memory : (address value : ℕ) → plain (memory_line address value) ≡ true
 unfolding memory_line
-whole_memory address value = plain_feed (memory_line address value) (simp (plain-append, plain_hex))
+plain_memory address value = simp (plain-append, plain_hex)
 
-pub whole_console : All (λ b. b ≢ LINE_FEED) console_line
+plain_pairs : (bytes : List ℕ) → plain (hex_pairs bytes) ≡ true
+plain_pairs [] = refl
+plain_pairs (b ∷ bs) = plain-append (hex 2 b) (hex_pairs bs) ∙ and_from (plain (hex 2 b)) (plain (hex_pairs bs)) (plain_hex 2 b) (plain_pairs bs)
+
+plain_console_text : (bytes : List ℕ) → plain (console_text bytes) ≡ true
+plain_console_text [] = refl
+plain_console_text (b ∷ bs) = plain_pairs (b ∷ bs)
+
+plain_console : (bytes : List ℕ) → plain (console_line bytes) ≡ true
 unfolding console_line
-whole_console = plain_feed console_line refl
+plain_console bytes = plain_console_text bytes
 
-pub whole_end : (events : ℕ) → All (λ b. b ≢ LINE_FEED) (end_line events)
+plain_events : (events : ℕ) → plain (end_line events) ≡ true
 unfolding end_line
-whole_end events = plain_feed (end_line events) (plain_decimal events)
+plain_events events = plain_decimal events
+
+plain_tail : (i : TailItem) → plain (tail_line i) ≡ true
+plain_tail (item.Cpu cpu halt steps pc) = plain_processor (cpu_number cpu) (halted_of halt) steps pc
+plain_tail (item.Reg cpu n value) = plain_register (cpu_number cpu) n value
+plain_tail (item.Mem address value) = plain_memory address value
+plain_tail (item.Console bytes) = plain_console bytes
+plain_tail (item.End events) = plain_events events
+
+pub whole_tail : (i : TailItem) → All (λ b. b ≢ LINE_FEED) (tail_line i)
+whole_tail i = plain_feed (tail_line i) (plain_tail i)
+
+pub whole_usage : All (λ b. b ≢ LINE_FEED) usage_line
+unfolding usage_line
+whole_usage = plain_feed usage_line refl
+
+pub whole_read_fault : All (λ b. b ≢ LINE_FEED) read_fault_line
+unfolding read_fault_line
+whole_read_fault = plain_feed read_fault_line refl
+
+pub whole_too_long : All (λ b. b ≢ LINE_FEED) too_long_line
+unfolding too_long_line
+whole_too_long = plain_feed too_long_line refl
+
+pub whole_bad_image : (kind : List ℕ) (offset : ℕ) → All (λ b. b ≢ LINE_FEED) kind → All (λ b. b ≢ LINE_FEED) (bad_image_line kind offset)
+unfolding bad_image_line
+whole_bad_image kind offset h =
+    let named = All-append (λ b. b ≢ LINE_FEED) (codes "axp: bad image ") kind (plain_feed (codes "axp: bad image ") refl) h in
+    let put = All-append (λ b. b ≢ LINE_FEED) (codes "axp: bad image " ++ kind) (codes " at ") named (plain_feed (codes " at ") refl) in
+    All-append (λ b. b ≢ LINE_FEED) (codes "axp: bad image " ++ kind ++ codes " at ") (decimal offset) put (plain_feed (decimal offset) (plain_decimal offset))
+
+pub whole_bad_trace : (line : ℕ) → All (λ b. b ≢ LINE_FEED) (bad_trace_line line)
+unfolding bad_trace_line
+whole_bad_trace line = plain_feed (bad_trace_line line) (plain_decimal line)
 
 pub whole_not_legal : (event : ℕ) → All (λ b. b ≢ LINE_FEED) (not_legal_line event)
 unfolding not_legal_line
 whole_not_legal event = plain_feed (not_legal_line event) (plain_decimal event)
 
-pub whole_not_built : (event : ℕ) → All (λ b. b ≢ LINE_FEED) (not_built_line event)
-unfolding not_built_line
-whole_not_built event = plain_feed (not_built_line event) (plain_decimal event)
-
 pub whole_incomplete : (events : ℕ) → All (λ b. b ≢ LINE_FEED) (incomplete_line events)
 unfolding incomplete_line
 whole_incomplete events = plain_feed (incomplete_line events) (plain_decimal events)
 
-pub whole_read_fault : All (λ b. b ≢ LINE_FEED) read_fault_line
-unfolding read_fault_line
-whole_read_fault = plain_feed read_fault_line refl
+pub whole_differs : (line : ℕ) → All (λ b. b ≢ LINE_FEED) (differs_line line)
+unfolding differs_line
+whole_differs line = plain_feed (differs_line line) (plain_decimal line)
+
+pub whole_given : (line : List ℕ) → All (λ b. b ≢ LINE_FEED) line → All (λ b. b ≢ LINE_FEED) (given_line line)
+unfolding given_line
+whole_given line h = All-append (λ b. b ≢ LINE_FEED) (codes "trace: ") line (plain_feed (codes "trace: ") refl) h
+
+pub whole_right : (line : List ℕ) → All (λ b. b ≢ LINE_FEED) line → All (λ b. b ≢ LINE_FEED) (right_line line)
+unfolding right_line
+whole_right line h = All-append (λ b. b ≢ LINE_FEED) (codes "right: ") line (plain_feed (codes "right: ") refl) h

@@ -5,22 +5,22 @@ use Rattle.std.proofs.lemmas.Bool.{lt-ltb}
 use Rattle.axp_base.specs.Lines.{line_number}
 use Rattle.axp_base.specs.declared.lines.Line.{Line}
 use Rattle.axp_base.specs.declared.lines.TheConstants.{LINE_BYTES}
-use Rattle.axp_trace.specs.Reading.{line_by, line_of, line_in}
+use Rattle.axp_trace.specs.Fields.{line_by, line_of_number, line_in}
 
 -- the test's answer does not matter where the line's bytes have addresses
 line_by_addressed : (n : ℕ) (addressed : Bool) (tested : nat_lt (n * LINE_BYTES) (2 ^ 64) ≡ addressed) (h : nat_lt (n * LINE_BYTES) (2 ^ 64) ≡ true) → Some (record { number = n; addressed = h }) ≡ line_by n addressed tested
 line_by_addressed n true tested h = ap (λ (p : nat_lt (n * LINE_BYTES) (2 ^ 64) ≡ true). Some (record { number = n; addressed = p })) (Bool-set (nat_lt (n * LINE_BYTES) (2 ^ 64)) true h tested)
 line_by_addressed n false tested h = cc
 
-line_of_number : (l : Line) → line_of (line_number l) ≡ Some l
-line_of_number l = sym (line_by_addressed l.number (nat_lt (l.number * LINE_BYTES) (2 ^ 64)) refl l.addressed)
+number_gives_line : (l : Line) → line_of_number (line_number l) ≡ Some l
+number_gives_line l = sym (line_by_addressed l.number (nat_lt (l.number * LINE_BYTES) (2 ^ 64)) refl l.addressed)
 
 pub same_line : (a b : Line) → line_number a ≡ line_number b → a ≡ b
-same_line a b e = let shown : Some a ≡ Some b = sym (line_of_number a) ∙ ap line_of e ∙ line_of_number b in cc
+same_line a b e = let shown : Some a ≡ Some b = sym (number_gives_line a) ∙ ap line_of_number e ∙ number_gives_line b in cc
 
 -- the line of a byte at an address below the greatest that is printed
 pub line_in_at : (l : Line) (address : ℕ) → line_number l ≡ address / LINE_BYTES → address < 2 ^ 32 → Some l ≡ line_in (Some address)
-line_in_at l address e small = rw (lt-ltb address (2 ^ 32) small) (sym (ap line_of (sym e) ∙ line_of_number l))
+line_in_at l address e small = rw (lt-ltb address (2 ^ 32) small) (sym (ap line_of_number (sym e) ∙ number_gives_line l))
 
 -- a line is that of its first byte
 pub line_in_back : (l : Line) → line_number l * LINE_BYTES < 2 ^ 32 → line_in (Some (line_number l * LINE_BYTES)) ≡ Some l

@@ -7,7 +7,9 @@ use Rattle.std.specs.List.{All}
 use Rattle.std.proofs.lemmas.List.{map-append, length-map}
 use Rattle.std.proofs.lemmas.List.Elements.{All-weaker}
 use Rattle.std.proofs.lemmas.List.Splits.{slice_split_at, slice_split_none, length-slice_split}
-use Rattle.axp_trace.specs.Reading.{words_of, cpu_in, event_by, event_in, header_in}
+use Rattle.axp_trace.specs.Fields.{words_of, cpu_in}
+use Rattle.axp_trace.specs.Records.{step_in}
+use Rattle.axp_trace.specs.Reading.{event_by, event_in, header_in}
 
 no_blank : (word : List ℕ) → All (λ b. b ≢ 32) word → All (λ b. (b == 32) ≡ false) word
 no_blank word free = All-weaker (λ b. b ≢ 32) (λ b. (b == 32) ≡ false) (λ b h. ne_eqb b 32 h) word free
@@ -63,4 +65,17 @@ header_in_long (a ∷ b ∷ c ∷ []) h = absurd (omega arith)
 header_in_long (a ∷ b ∷ c ∷ d ∷ []) h = absurd (omega arith)
 header_in_long (a ∷ b ∷ c ∷ d ∷ e ∷ []) h = absurd (omega arith)
 header_in_long (a ∷ b ∷ c ∷ d ∷ e ∷ f ∷ []) h = absurd (omega arith)
-header_in_long (a ∷ b ∷ c ∷ d ∷ e ∷ f ∷ g ∷ more) h = refl
+header_in_long (a ∷ b ∷ c ∷ d ∷ e ∷ f ∷ g ∷ []) h = absurd (omega arith)
+header_in_long (a ∷ b ∷ c ∷ d ∷ e ∷ f ∷ g ∷ i ∷ []) h = absurd (omega arith)
+header_in_long (a ∷ b ∷ c ∷ d ∷ e ∷ f ∷ g ∷ i ∷ j ∷ more) h = refl
+
+-- no outcome of a step has so many words
+pub step_in_long : (cpu : Cpu) (words : List (List ℕ)) → 6 < length words → step_in cpu words ≡ None
+step_in_long cpu [] h = absurd (omega arith)
+step_in_long cpu (a ∷ []) h = absurd (omega arith)
+step_in_long cpu (a ∷ b ∷ []) h = absurd (omega arith)
+step_in_long cpu (a ∷ b ∷ c ∷ []) h = absurd (omega arith)
+step_in_long cpu (a ∷ b ∷ c ∷ d ∷ []) h = absurd (omega arith)
+step_in_long cpu (a ∷ b ∷ c ∷ d ∷ e ∷ []) h = absurd (omega arith)
+step_in_long cpu (a ∷ b ∷ c ∷ d ∷ e ∷ f ∷ []) h = absurd (omega arith)
+step_in_long cpu (a ∷ b ∷ c ∷ d ∷ e ∷ f ∷ g ∷ more) h = refl

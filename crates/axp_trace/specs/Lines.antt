@@ -1,5 +1,5 @@
 -- The lines of event lists and traces, as bytes without the line feed. 32 is a blank.
-use Rattle.std.specs.Prelude.{ℕ, ◌*◌, Bool, true, false, List, [], ◌∷◌, ◌++◌, codes, decimal, Option, Some, None}
+use Rattle.std.specs.Prelude.{ℕ, zero, suc, ◌*◌, Bool, true, false, List, [], ◌∷◌, ◌++◌, codes, decimal, Option, Some, None}
 use Rattle.axp_base.specs.Cpus.{cpu_number}
 use Rattle.axp_base.specs.Lines.{line_number}
 use Rattle.axp_base.specs.declared.lines.Bank.{Bank}
@@ -16,7 +16,9 @@ use Rattle.axp_access.specs.declared.Outcome.{Outcome}
 use Rattle.axp_access.specs.declared.Outcome.TheVariants as outcome
 use Rattle.axp_access.specs.declared.Place.{Place}
 use Rattle.axp_access.specs.declared.Place.TheVariants.{At, Entry, Absent}
-use Rattle.axp_trace.specs.Digits.{hex}
+use Rattle.axp_access.specs.declared.tail_items.TailItem.{TailItem}
+use Rattle.axp_access.specs.declared.tail_items.TailItem.TheVariants as item
+use Rattle.axp_trace.specs.Digits.{hex, hex_pairs}
 use Rattle.axp_trace.specs.declared.files.TheConstants.{LINE_FEED}
 
 -- a line as it stands in a file
@@ -148,28 +150,69 @@ register_line cpu n value = codes "reg " ++ decimal cpu ++ 32 ∷ decimal n ++ 3
 unfoldable pub memory_line : ℕ → ℕ → List ℕ
 memory_line address value = codes "mem " ++ hex 8 address ++ 32 ∷ hex 16 value
 
--- what was sent to the console: nothing
-unfoldable pub console_line : List ℕ
-console_line = codes "console -"
+-- the bytes that were sent to the console
+abbrev pub console_text : List ℕ → List ℕ
+console_text [] = codes "-"
+console_text (b ∷ bs) = hex_pairs (b ∷ bs)
+
+-- what was sent to the console
+unfoldable pub console_line : List ℕ → List ℕ
+console_line bytes = codes "console " ++ console_text bytes
 
 -- the last line of a trace: how many events it has
 unfoldable pub end_line : ℕ → List ℕ
 end_line events = codes "end " ++ decimal events
 
--- ---- why a run ended early, or none was made
+-- the halt code of a processor; none where its budget is spent
+abbrev pub halted_of : ℕ → Option ℕ
+halted_of zero = None
+halted_of (suc code) = Some (suc code)
+
+-- the line of an item of the tail
+abbrev pub tail_line : TailItem → List ℕ
+tail_line (item.Cpu cpu halt steps pc) = processor_line (cpu_number cpu) (halted_of halt) steps pc
+tail_line (item.Reg cpu n value) = register_line (cpu_number cpu) n value
+tail_line (item.Mem address value) = memory_line address value
+tail_line (item.Console bytes) = console_line bytes
+tail_line (item.End events) = end_line events
+
+-- ---- why nothing more is printed
+
+-- the words of the command line have no meaning
+unfoldable pub usage_line : List ℕ
+usage_line = codes "axp: usage"
+
+-- a file could not be read
+unfoldable pub read_fault_line : List ℕ
+read_fault_line = codes "axp: read fault"
+
+-- a file is too long
+unfoldable pub too_long_line : List ℕ
+too_long_line = codes "axp: too long"
+
+-- the image file has this kind of fault at this offset
+unfoldable pub bad_image_line : List ℕ → ℕ → List ℕ
+bad_image_line kind offset = codes "axp: bad image " ++ kind ++ codes " at " ++ decimal offset
+
+-- the line of this number, from 1, has no meaning
+unfoldable pub bad_trace_line : ℕ → List ℕ
+bad_trace_line line = codes "axp: bad trace at line " ++ decimal line
 
 -- the event of this number, from 1, is not legal
 unfoldable pub not_legal_line : ℕ → List ℕ
 not_legal_line event = codes "axp: not legal at event " ++ decimal event
 
--- what the event line of this number is, or comes to, is not built; 0: nothing of the list is
-unfoldable pub not_built_line : ℕ → List ℕ
-not_built_line event = codes "axp: not built at event " ++ decimal event
-
 -- the list ends after this many events, and the machine is not complete
 unfoldable pub incomplete_line : ℕ → List ℕ
 incomplete_line events = codes "axp: incomplete after event " ++ decimal events
 
--- a file could not be read
-unfoldable pub read_fault_line : List ℕ
-read_fault_line = codes "axp: read fault"
+-- the line of this number, from 1, is not the right one
+unfoldable pub differs_line : ℕ → List ℕ
+differs_line line = codes "axp: differs at line " ++ decimal line
+
+-- the line that the trace has there, and the right one
+unfoldable pub given_line : List ℕ → List ℕ
+given_line line = codes "trace: " ++ line
+
+unfoldable pub right_line : List ℕ → List ℕ
+right_line line = codes "right: " ++ line

@@ -1,55 +1,22 @@
--- What a line of an event list means. A line is the text of an event, or of a header, if it is spelled just so: what
--- its words would mean is guessed without regard to spelling, and the guess is spelled again and compared.
-use Rattle.std.specs.Prelude.{◌≡◌, ℕ, ◌*◌, ◌/◌, ◌^◌, ◌≤◌, nat_le, nat_lt, ◌==◌, ◌&&◌, Bool, true, false, if◌then◌else◌, List, [], ◌∷◌, codes, Option, Some, None, refl}
+-- What the lines of an event list mean, and the first line of a list or a trace. A line is the text of an event, or of
+-- a header, if it is spelled just so.
+use Rattle.std.specs.Prelude.{◌≡◌, ℕ, ◌^◌, ◌<◌, ◌≤◌, nat_lt, ◌&&◌, Bool, true, false, if◌then◌else◌, List, [], ◌∷◌, codes, Option, Some, None}
 use Rattle.std.specs.Str.{bytes_eq}
-use Rattle.std.specs.List.{slice_split}
-use Rattle.axp_base.specs.Cpus.{cpu_number, cpu_of}
+use Rattle.axp_base.specs.Cpus.{cpu_number}
 use Rattle.axp_base.specs.declared.lines.Bank.{Bank}
-use Rattle.axp_base.specs.declared.lines.Bank.TheVariants.{Even, Odd, Code}
 use Rattle.axp_base.specs.declared.lines.Line.{Line}
-use Rattle.axp_base.specs.declared.lines.TheConstants.{LINE_BYTES}
 use Rattle.axp_base.specs.declared.processors.Cpu.{Cpu}
 use Rattle.axp_base.specs.declared.processors.TheConstants.{MIN_CPUS, MAX_CPUS, MAX_BUDGET}
 use Rattle.axp_access.specs.declared.Act.{Act}
 use Rattle.axp_access.specs.declared.Act.TheVariants.{Step, Fill, Drain, Take, Drop, Poll, Tick}
 use Rattle.axp_access.specs.declared.Event.{Event}
 use Rattle.axp_access.specs.declared.TheConstants.{MAX_DRAINS}
-use Rattle.axp_trace.specs.Digits.{number_of, hex_number_of}
-use Rattle.axp_trace.specs.Lines.{event_text, events_header}
-use Rattle.axp_trace.specs.declared.reading.Header.{Header}
-use Rattle.axp_trace.specs.declared.reading.TheConstants.{BLANK}
-
--- the words of a line, cut at each blank
-abbrev pub words_of : List ℕ → List (List ℕ)
-words_of line = slice_split (λ b. b == BLANK) line
-
--- the processor of a number
-abbrev pub cpu_in : Option ℕ → Option Cpu
-cpu_in None = None
-cpu_in (Some n) = cpu_of n
-
--- the line of this number, by the test whether its bytes have addresses
-abbrev pub line_by : (n : ℕ) (addressed : Bool) → nat_lt (n * LINE_BYTES) (2 ^ 64) ≡ addressed → Option Line
-line_by n true h = Some (record { number = n; addressed = h })
-line_by n false h = None
-
--- the line of this number, where its bytes have addresses
-abbrev pub line_of : ℕ → Option Line
-line_of n = line_by n (nat_lt (n * LINE_BYTES) (2 ^ 64)) refl
-
--- the line of the byte at an address
-abbrev pub line_in : Option ℕ → Option Line
-line_in None = None
-line_in (Some address) = if nat_lt address (2 ^ 32) then line_of (address / LINE_BYTES) else None
-
--- the bank of a name
-abbrev pub bank_in : List ℕ → Option Bank
-bank_in name = if bytes_eq name (codes "d0") then Some Even else if bytes_eq name (codes "d1") then Some Odd else if bytes_eq name (codes "i") then Some Code else None
-
--- the data bank of a number
-abbrev pub data_bank_in : Option ℕ → Option Bank
-data_bank_in None = None
-data_bank_in (Some n) = if n == 0 then Some Even else if n == 1 then Some Odd else None
+use Rattle.axp_trace.specs.Digits.{number_of, hex_number_of, number_within}
+use Rattle.axp_trace.specs.Fields.{words_of, cpu_in, line_in, bank_in, data_bank_in}
+use Rattle.axp_trace.specs.Lines.{event_text, events_header, trace_header}
+use Rattle.axp_trace.specs.declared.digits.TheConstants.{ADDRESS_DIGITS}
+use Rattle.axp_trace.specs.declared.fields.TheConstants.{MOST_NUMBER}
+use Rattle.axp_trace.specs.declared.headers.Header.{Header}
 
 -- what an act of one word means
 abbrev pub bare_act_in : List ℕ → Option Act
@@ -80,7 +47,7 @@ abbrev pub act_in : List (List ℕ) → Option Act
 act_in [] = None
 act_in (verb ∷ []) = bare_act_in verb
 act_in (verb ∷ number ∷ []) = numbered_act_in verb (number_of number)
-act_in (verb ∷ bank ∷ address ∷ []) = if bytes_eq verb (codes "drop") then drop_by (bank_in bank) (line_in (hex_number_of address)) else None
+act_in (verb ∷ bank ∷ address ∷ []) = if bytes_eq verb (codes "drop") then drop_by (bank_in bank) (line_in (hex_number_of ADDRESS_DIGITS address)) else None
 act_in (verb ∷ bank ∷ address ∷ other ∷ more) = None
 
 -- the event of both
@@ -103,37 +70,51 @@ event_if cpus line (Some e) = if nat_lt (cpu_number e.cpu) cpus && bytes_eq (eve
 unfoldable pub event_of : ℕ → List ℕ → Option Event
 event_of cpus line = event_if cpus line (event_in (words_of line))
 
--- a machine may have this many processors
-abbrev pub is_cpus : ℕ → Bool
-is_cpus cpus = nat_le MIN_CPUS cpus && nat_le cpus MAX_CPUS
+-- ---- the first line
 
--- a run may allow each processor this many steps
-abbrev pub is_budget : ℕ → Bool
-is_budget budget = nat_le 1 budget && nat_le budget MAX_BUDGET
+-- the first line of a list or a trace with this header
+abbrev pub header_text : Header → List ℕ
+header_text h = if h.full then trace_header h.cpus h.budget h.memory else events_header h.cpus h.budget
 
--- the header of both, if they are in range
-abbrev pub header_by : Option ℕ → Option ℕ → Option Header
-header_by None budget = None
-header_by (Some cpus) None = None
-header_by (Some cpus) (Some budget) = if is_cpus cpus && is_budget budget then Some (record { cpus = cpus; budget = budget }) else None
+-- the header of these
+abbrev pub header_by : Bool → Option ℕ → Option ℕ → Option ℕ → Option Header
+header_by full None budget memory = None
+header_by full (Some cpus) None memory = None
+header_by full (Some cpus) (Some budget) None = None
+header_by full (Some cpus) (Some budget) (Some memory) = Some (record { full = full; cpus = cpus; budget = budget; memory = memory })
 
--- what the words of a header mean: the fourth is the number of processors, the sixth the budget
+-- the number of processors that a word names, and the number of steps
+abbrev pub cpus_in : List ℕ → Option ℕ
+cpus_in word = number_within MIN_CPUS MAX_CPUS word
+
+abbrev pub budget_in : List ℕ → Option ℕ
+budget_in word = number_within 1 MAX_BUDGET word
+
+-- what the words of a header mean: the fourth is the number of processors, the sixth the budget, the eighth the bytes
+-- of memory
 abbrev pub header_in : List (List ℕ) → Option Header
-header_in (a ∷ b ∷ c ∷ cpus ∷ d ∷ budget ∷ []) = header_by (number_of cpus) (number_of budget)
+header_in (a ∷ b ∷ c ∷ cpus ∷ d ∷ budget ∷ []) = header_by false (cpus_in cpus) (budget_in budget) (Some 0)
+header_in (a ∷ b ∷ c ∷ cpus ∷ d ∷ budget ∷ f ∷ memory ∷ []) = header_by true (cpus_in cpus) (budget_in budget) (number_within 0 MOST_NUMBER memory)
 header_in _ = None
 
 -- the header, if the line is its text
 abbrev pub header_if : List ℕ → Option Header → Option Header
 header_if line None = None
-header_if line (Some h) = if bytes_eq (events_header h.cpus h.budget) line then Some h else None
+header_if line (Some h) = if bytes_eq (header_text h) line then Some h else None
 
--- the header that the first line of an event list spells
+-- the header that the first line of a list or a trace spells
 unfoldable pub header_of : List ℕ → Option Header
 header_of line = header_if line (header_in (words_of line))
 
--- the header's numbers are such as a machine may have
+-- the bytes of memory in the header of a trace, and of an event list
+abbrev pub IsMemory : Bool → ℕ → Type 0
+IsMemory true memory = memory < 2 ^ 32
+IsMemory false memory = memory ≡ 0
+
+-- the header's numbers are such as are printed
 pub record HasRange (h : Header) : Type 0 where
   pub least_cpus : MIN_CPUS ≤ h.cpus
   pub most_cpus : h.cpus ≤ MAX_CPUS
   pub least_budget : 1 ≤ h.budget
   pub most_budget : h.budget ≤ MAX_BUDGET
+  pub memory : IsMemory h.full h.memory

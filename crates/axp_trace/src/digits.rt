@@ -1,9 +1,10 @@
 ghost use Rattle.std.specs.Prelude.{ℕ, ◌≡◌, ◌+◌, ◌*◌, ◌^◌, ◌≤◌, ◌<◌, ◌++◌, length, decimal, Some};
 ghost use Rattle.arrayvec.specs.ArrayVec.{array_vec_len};
 ghost use Rattle.axp_trace.specs.Digits.{hex, hex_digit, hex_digit_value, hex_value, number_of};
-ghost use Rattle.axp_trace.specs.Digits.{hex_number_of};
+ghost use Rattle.axp_trace.specs.Digits.{hex_number_of, within, number_within};
 ghost use Rattle.axp_trace.specs.declared.lines.TheConstants.{LINE_ROOM};
-ghost use Rattle.axp_trace.specs.declared.digits.TheConstants.{MOST_DIGITS, ADDRESS_DIGITS};
+ghost use Rattle.axp_trace.specs.declared.digits.TheConstants.{MOST_DIGITS, VALUE_DIGITS};
+ghost use Rattle.axp_trace.specs.declared.digits.TheConstants.{LONG_DIGITS};
 
 use crate::{LINE_ROOM, LineText};
 use itoa::Buffer;
@@ -12,7 +13,13 @@ use itoa::Buffer;
 const MOST_DIGITS: usize = 10;
 
 /// The hexadecimal digits of an address.
-const ADDRESS_DIGITS: usize = 8;
+pub(crate) const ADDRESS_DIGITS: usize = 8;
+
+/// The hexadecimal digits of a number of 64 bits.
+pub(crate) const VALUE_DIGITS: usize = 16;
+
+/// The most decimal digits of a number of 64 bits.
+const LONG_DIGITS: usize = 20;
 
 /// Appends bytes.
 pub(crate) fn push_all(out: &mut LineText, bytes: &[u8])
@@ -29,6 +36,17 @@ pub(crate) fn push_decimal(out: &mut LineText, n: u32)
     requires { array_vec_len out.old + MOST_DIGITS ≤ LINE_ROOM }
     ensures text { out.new.items ≡ out.old.items ++ decimal n }
     ensures len { array_vec_len out.new ≤ array_vec_len out.old + MOST_DIGITS }
+{
+    let mut buffer = Buffer::new();
+    push_all(out, buffer.format(n).as_bytes());
+}
+
+/// Appends a number of 64 bits in decimal.
+#[tactic(auto, using(crate::proofs::DigitLemmas::short_long))]
+pub(crate) fn push_long(out: &mut LineText, n: u64)
+    requires { array_vec_len out.old + LONG_DIGITS ≤ LINE_ROOM }
+    ensures text { out.new.items ≡ out.old.items ++ decimal n }
+    ensures len { array_vec_len out.new ≤ array_vec_len out.old + LONG_DIGITS }
 {
     let mut buffer = Buffer::new();
     push_all(out, buffer.format(n).as_bytes());
@@ -80,23 +98,44 @@ pub(crate) fn read_number(word: &[u8]) -> Option<u64>
     Some(value)
 }
 
-/// What a hexadecimal digit in upper case stands for.
-fn digit_value(byte: u8) -> u8
-    ensures { result ≡ hex_digit_value byte }
+/// The number, where it is from `least` to `most`.
+fn within_limits(number: u64, least: u64, most: u64) -> Option<u64>
+    ensures { result ≡ within least most (Some number) }
 {
-    if byte < b'A' {
-        byte.saturating_sub(b'0')
+    if (least..=most).contains(&number) {
+        Some(number)
     } else {
-        byte - (b'A' - 10)
+        None
     }
 }
 
-/// The number that a word stands for if its bytes are hexadecimal digits; `None` where it has more
-/// than [`ADDRESS_DIGITS`].
-pub(crate) fn read_hex(word: &[u8]) -> Option<u64>
-    ensures { result ≡ hex_number_of word.now }
+/// The number from `least` to `most` that a word stands for if its bytes are decimal digits; `None`
+/// where there is none.
+pub(crate) fn read_within(word: &[u8], least: u64, most: u64) -> Option<u64>
+    ensures { result ≡ number_within least most word.now }
 {
-    if word.len() > ADDRESS_DIGITS {
+    within_limits(read_number(word)?, least, most)
+}
+
+/// What a hexadecimal digit in upper case stands for; for another byte some number below 16.
+fn digit_value(byte: u8) -> u8
+    ensures { result ≡ hex_digit_value byte }
+{
+    let value = if byte < b'A' {
+        byte.saturating_sub(b'0')
+    } else {
+        byte - (b'A' - 10)
+    };
+    value % 16
+}
+
+/// The number that a word stands for if its bytes are hexadecimal digits; `None` where it has more
+/// than `most`.
+pub(crate) fn read_hex(word: &[u8], most: usize) -> Option<u64>
+    requires { most ≤ VALUE_DIGITS }
+    ensures { result ≡ hex_number_of most word.now }
+{
+    if word.len() > most {
         return None;
     }
     let mut value: u64 = 0;

@@ -2,10 +2,11 @@ ghost use Rattle.std.specs.Prelude.{◌≡◌, ◌==◌, ◌<◌, ◌∷◌, ◌
 ghost use Rattle.std.specs.Prelude.{IfSome, ◌↔◌, length, ◌^◌, Option, if◌then◌else◌};
 ghost use Rattle.axp_access.specs.declared.Event.{Event};
 ghost use Rattle.axp_access.specs.declared.Outcome.{Outcome};
+ghost use Rattle.axp_access.specs.declared.tail_items.TailItem.{TailItem};
 ghost use Rattle.axp_trace.specs.Lines.{event_text, line_text, events_header, trace_header};
-ghost use Rattle.axp_trace.specs.Lines.{processor_line, register_line, memory_line, console_line};
-ghost use Rattle.axp_trace.specs.Lines.{end_line, not_legal_line, not_built_line, incomplete_line};
-ghost use Rattle.axp_trace.specs.Lines.{read_fault_line};
+ghost use Rattle.axp_trace.specs.Lines.{tail_line, usage_line, read_fault_line, too_long_line};
+ghost use Rattle.axp_trace.specs.Lines.{bad_image_line, bad_trace_line, not_legal_line};
+ghost use Rattle.axp_trace.specs.Lines.{incomplete_line, differs_line, given_line, right_line};
 ghost use Rattle.axp_trace.specs.declared.files.TheConstants.{LINE_FEED};
 ghost use Rattle.axp_trace.specs.Files.{lines_of, IsOneLine};
 
@@ -32,22 +33,25 @@ pub fn lines_begin()
         → lines_of (line ++ LINE_FEED ∷ rest) ≡ Some line ∷ lines_of rest }
 {}
 
-/// No line of an event list or a trace has a line feed in it.
+/// No line of an event list or a trace has a line feed in it, nor has a line that says why nothing
+/// more is printed, where what it shows has none.
 pub fn lines_are_whole()
     ensures event { (e : Event) → IsOneLine (event_text e) }
     ensures line { (e : Event) (o : Outcome) → IsOneLine (line_text e o) }
     ensures events_header { (cpus budget : ℕ) → IsOneLine (events_header cpus budget) }
     ensures trace_header { (cpus budget memory : ℕ) → IsOneLine (trace_header cpus budget memory) }
-    ensures processor { (cpu : ℕ) (halted : Option ℕ) (steps pc : ℕ)
-        → IsOneLine (processor_line cpu halted steps pc) }
-    ensures register { (cpu n value : ℕ) → IsOneLine (register_line cpu n value) }
-    ensures memory { (address value : ℕ) → IsOneLine (memory_line address value) }
-    ensures console { IsOneLine console_line }
-    ensures end { (events : ℕ) → IsOneLine (end_line events) }
-    ensures not_legal { (event : ℕ) → IsOneLine (not_legal_line event) }
-    ensures not_built { (event : ℕ) → IsOneLine (not_built_line event) }
-    ensures incomplete { (events : ℕ) → IsOneLine (incomplete_line events) }
+    ensures tail { (i : TailItem) → IsOneLine (tail_line i) }
+    ensures usage { IsOneLine usage_line }
     ensures read_fault { IsOneLine read_fault_line }
+    ensures too_long { IsOneLine too_long_line }
+    ensures bad_image { (kind : List ℕ) (offset : ℕ)
+        → IsOneLine kind → IsOneLine (bad_image_line kind offset) }
+    ensures bad_trace { (line : ℕ) → IsOneLine (bad_trace_line line) }
+    ensures not_legal { (event : ℕ) → IsOneLine (not_legal_line event) }
+    ensures incomplete { (events : ℕ) → IsOneLine (incomplete_line events) }
+    ensures differs { (line : ℕ) → IsOneLine (differs_line line) }
+    ensures given { (line : List ℕ) → IsOneLine line → IsOneLine (given_line line) }
+    ensures right { (line : List ℕ) → IsOneLine line → IsOneLine (right_line line) }
 {}
 
 /// A line ends with the byte 10.

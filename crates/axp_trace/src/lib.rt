@@ -2,23 +2,29 @@
 //! read, and a file as its lines.
 #![tactic(auto)]
 
+mod accesses;
 mod cuts;
 mod digits;
+mod events;
+mod fields;
 mod files;
+mod headers;
 mod lines;
-mod reading;
+mod records;
 mod refusals;
+mod tails;
 
 pub use digits::{decimal_gives_back, hex_gives_back};
+pub use events::{events_are_their_texts, read_event};
 pub use files::{LINE_FEED, first_line, line_feed_is_10, lines_are_whole, lines_begin};
-pub use lines::{
-    LINE_ROOM, LineText, write_console, write_end, write_event, write_header, write_memory,
-    write_processor, write_register,
+pub use headers::{Header, headers_are_their_texts, read_header, write_header};
+pub use lines::{LINE_ROOM, LineText, TraceLine, lines_are_read_back, read_line};
+pub use records::{records_are_their_texts, write_event};
+pub use refusals::{
+    MOST_KIND, write_bad_image, write_bad_trace, write_differs, write_given, write_incomplete,
+    write_not_legal, write_read_fault, write_right, write_too_long, write_usage,
 };
-pub use reading::{
-    Header, events_are_their_texts, headers_are_their_texts, read_event, read_header,
-};
-pub use refusals::{write_incomplete, write_not_built, write_not_legal, write_read_fault};
+pub use tails::{tails_are_their_texts, write_tail};
 
 #[cfg(test)]
 mod tests;

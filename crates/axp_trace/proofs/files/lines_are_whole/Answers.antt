@@ -1,4 +1,4 @@
-use Rattle.axp_trace.proofs.LineLemmas.{whole_event, whole_line, whole_events_header, whole_trace_header, whole_processor, whole_register, whole_memory, whole_console, whole_end, whole_not_legal, whole_not_built, whole_incomplete, whole_read_fault}
+use Rattle.axp_trace.proofs.LineLemmas.{whole_event, whole_line, whole_events_header, whole_trace_header, whole_tail, whole_usage, whole_read_fault, whole_too_long, whole_bad_image, whole_bad_trace, whole_not_legal, whole_incomplete, whole_differs, whole_given, whole_right}
 use Rattle.axp_trace.proofs.files.lines_are_whole.Goals as goal
 
 pub returns : goal.returns
@@ -7,13 +7,15 @@ returns c = record {
   line = whole_line;
   events_header = whole_events_header;
   trace_header = whole_trace_header;
-  processor = whole_processor;
-  register = whole_register;
-  memory = whole_memory;
-  console = whole_console;
-  end = whole_end;
-  not_legal = whole_not_legal;
-  not_built = whole_not_built;
-  incomplete = whole_incomplete;
+  tail = whole_tail;
+  usage = whole_usage;
   read_fault = whole_read_fault;
+  too_long = whole_too_long;
+  bad_image = whole_bad_image;
+  bad_trace = whole_bad_trace;
+  not_legal = whole_not_legal;
+  incomplete = whole_incomplete;
+  differs = whole_differs;
+  given = whole_given;
+  right = whole_right;
 }

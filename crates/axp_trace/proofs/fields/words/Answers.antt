@@ -1,6 +1,6 @@
 use Rattle.std.proofs.Common.{arith, length-append, ap, ◌∙◌, length, refl}
 use Rattle.axp_trace.proofs.ReadingLemmas.{words_turn, words_end, words_more}
-use Rattle.axp_trace.proofs.reading.words.Goals as goal
+use Rattle.axp_trace.proofs.fields.words.Goals as goal
 
 pub returns-in_default-clause-value : goal.returns-in_default-clause-value
 returns-in_default-clause-value c = words_end _ c.loop-taken.words.items c.push.new.self.items c.loop-taken.rest c.loop-taken.invariant.0 c.push.ensures.items (c.in_default.ensures.none refl)

@@ -1,8 +1,8 @@
 use Rattle.std.proofs.Common.{◌≡◌, Some, sym, ap, ◌∙◌}
 use Rattle.axp_trace.specs.Digits.{number_of}
-use Rattle.axp_trace.specs.Reading.{cpu_in}
+use Rattle.axp_trace.specs.Fields.{cpu_in}
 use Rattle.axp_trace.proofs.ReadingLemmas.{narrowed}
-use Rattle.axp_trace.proofs.reading.guess_cpu.Goals as goal
+use Rattle.axp_trace.proofs.fields.guess_cpu.Goals as goal
 
 pub returns : goal.returns
 returns c =
