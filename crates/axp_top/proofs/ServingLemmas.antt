@@ -1,8 +1,11 @@
 -- How the parts of the top call end, and what its clauses say of it.
-use Rattle.std.proofs.Common.{◌≡◌, ◌⊎◌, ℕ, zero, suc, ◌≤◌, ◌<◌, Bool, true, false, List, [], ◌∷◌, ◌++◌, length, Option, Some, None, Ok, Err, IfSome, refl, sym, ap, ◌∙◌, subst, inl, inr, append_assoc, append-nil, arith}
-use Rattle.std.specs.Prelude.{slice_index, nat_lt}
+use Rattle.std.proofs.Common.{◌≡◌, ◌⊎◌, ℕ, zero, suc, ◌+◌, ◌≤◌, ◌<◌, Bool, true, false, List, [], ◌∷◌, ◌++◌, length, Option, Some, None, Ok, Err, IfSome, refl, sym, ap, ◌∙◌, subst, inl, inr, append_assoc, append-nil, arith}
+use Rattle.std.specs.Prelude.{slice_index, nat_lt, replicate}
 use Rattle.std.proofs.lemmas.Bool.{lt-ltb, le-ltb, ltb-true}
+use Rattle.std.proofs.lemmas.List.{length-replicate}
 use Rattle.axp_image.specs.Contents.{AreBytes, Contents, IsValid}
+use Rattle.axp_image.proofs.NoFaultLemmas.{sound_image}
+use Rattle.axp_image.specs.Faults.{Fault, first_fault}
 use Rattle.axp_image.specs.Grammar as grammar
 use Rattle.axp_image.specs.Grammar.{image_of}
 use Rattle.axp_io.specs.Causes.{Ask, FetchAsks, FetchCount, FetchTold, raised}
@@ -12,11 +15,11 @@ use Rattle.axp_trace.specs.Files.{lines_of}
 use Rattle.axp_top.specs.declared.limits.TheConstants.{MAX_IMAGE_BYTES, MAX_TRACE_BYTES}
 use Rattle.axp_top.specs.declared.status.Status.{Status}
 use Rattle.axp_top.specs.declared.status.Status.TheVariants as status
-use Rattle.axp_top.specs.Answers.{answer_by, answer_of, answer_of_files, answer_of_image, answer_of_trace, answer_over, asks_by, asks_of, image_in, image_told, read_fault_answer, trace_told}
+use Rattle.axp_top.specs.Answers.{answer_by, answer_of, answer_of_files, answer_of_image, answer_of_trace, answer_over, asks_by, asks_of, bad_image, first_bad, image_in, image_told, no_image, read_fault, too_long, trace_told, usage}
 use Rattle.axp_top.specs.Lawful.{IsLawful, image_of_file, image_over, lines_of_file}
 use Rattle.axp_top.specs.Outside.{DeskState, Outside}
 use Rattle.axp_top.specs.Printing.{Ends}
-use Rattle.axp_top.specs.Replays.{Answer, answer_of_lines, not_built_at_all}
+use Rattle.axp_top.specs.Replays.{Answer, answer_of_lines}
 use Rattle.axp_top.specs.Serving.{Course, Serves, ServesTrace}
 use Rattle.axp_top.specs.Statuses.{AsksFailed, AsksFront, AsksInTurn, AsksNeeded, DeskCount, PutsEach, Settles, SettlesLawfully, SettlesSome, SinkCount}
 use Rattle.axp_top.specs.Words.{Order, Replay}
@@ -33,6 +36,26 @@ told_or_none (Some bytes) = bytes
 told_is : (told : Option (List ℕ)) → IfSome told (λ bytes. told_or_none told ≡ bytes)
 told_is None = tt
 told_is (Some bytes) = refl
+
+-- what is told, or a list that is longer than a limit
+unfoldable longer_than : ℕ → List ℕ
+longer_than most = replicate (most + 1) 0
+
+longer : (most : ℕ) → most < length (longer_than most)
+unfolding longer_than
+longer most = let is = length-replicate (most + 1) 0 in omega (arith, is)
+
+abbrev told_or_long : ℕ → Option (List ℕ) → List ℕ
+told_or_long most None = longer_than most
+told_or_long most (Some bytes) = bytes
+
+told_long_is : (most : ℕ) (told : Option (List ℕ)) → IfSome told (λ bytes. told_or_long most told ≡ bytes)
+told_long_is most None = tt
+told_long_is most (Some bytes) = refl
+
+is_longer : (most : ℕ) (told : Option (List ℕ)) → IfSome told (λ t. most < length t) → most < length (told_or_long most told)
+is_longer most None long = longer most
+is_longer most (Some bytes) long = long
 
 -- what was handed over is what is told
 handed_is : (told : Option (List ℕ)) (bytes : List ℕ) (most : ℕ) → IfSome told (λ t. FetchTold t most (Ok bytes)) → IfSome told (λ t. bytes ≡ t)
@@ -59,7 +82,7 @@ handed_course : (b n : Outside) (a : Answer) (ask : Ask) (s : Status) → n.desk
 handed_course b n a ask s count asks ends = inl (record { ends = ends; count = count; some = all_front b.desk.asks n.desk.asks (ask ∷ []) asks; all = λ unless. asks })
 
 -- it failed
-failed_course : (b n : Outside) (a : Answer) (ask : Ask) (more : List Ask) (s : Status) (f : FetchFault) → f ≡ fetch.Failed → FetchCount b.desk.faults n.desk.faults (Err f) → FetchAsks b.desk.asks n.desk.asks ask (Err f) → Ends b.sink n.sink read_fault_answer s
+failed_course : (b n : Outside) (a : Answer) (ask : Ask) (more : List Ask) (s : Status) (f : FetchFault) → f ≡ fetch.Failed → FetchCount b.desk.faults n.desk.faults (Err f) → FetchAsks b.desk.asks n.desk.asks ask (Err f) → Ends b.sink n.sink read_fault s
     → Course b n a (ask ∷ more) s
 failed_course b n a ask more s fetch.Failed is count asks ends = inr (record { ends = ends; count = count; failed = record { good = []; failed = ask; rest = more; parted = refl; made = asks } })
 failed_course b n a ask more s fetch.TooLong is count asks ends = cc
@@ -80,19 +103,15 @@ trace_handed b n told ask image bytes slice s same is short count asks ends = re
 }
 
 pub trace_failed : (b n : Outside) (told : Option (List ℕ)) (ask : Ask) (image : Contents) (s : Status) (f : FetchFault) → f ≡ fetch.Failed → FetchCount b.desk.faults n.desk.faults (Err f) → FetchAsks b.desk.asks n.desk.asks ask (Err f)
-    → Ends b.sink n.sink read_fault_answer s → ServesTrace told ask image b n s
+    → Ends b.sink n.sink read_fault s → ServesTrace told ask image b n s
 trace_failed b n told ask image s f is count asks ends = record { list = told_or_none told; is_told = told_is told; course = failed_course b n (answer_of_trace image (told_or_none told)) ask [] s f is count asks ends }
 
-long_course : (b n : Outside) (told : Option (List ℕ)) (ask : Ask) (image : Contents) (s : Status) → IfSome told (λ t. MAX_TRACE_BYTES < length t) → Course b n not_built_at_all (ask ∷ []) s → Course b n (answer_of_trace image (told_or_none told)) (ask ∷ []) s
-long_course b n None ask image s long h = h
-long_course b n (Some bytes) ask image s long h = rw (lt-ltb MAX_TRACE_BYTES (length bytes) long) h
-
 pub trace_long : (b n : Outside) (told : Option (List ℕ)) (ask : Ask) (image : Contents) (s : Status) (f : FetchFault) → f ≡ fetch.TooLong → IfSome told (λ t. FetchTold t MAX_TRACE_BYTES (Err f)) → FetchCount b.desk.faults n.desk.faults (Err f)
-    → FetchAsks b.desk.asks n.desk.asks ask (Err f) → Ends b.sink n.sink not_built_at_all s → ServesTrace told ask image b n s
+    → FetchAsks b.desk.asks n.desk.asks ask (Err f) → Ends b.sink n.sink too_long s → ServesTrace told ask image b n s
 trace_long b n told ask image s fetch.TooLong is long count asks ends = record {
-  list = told_or_none told;
-  is_told = told_is told;
-  course = long_course b n told ask image s long (handed_course b n not_built_at_all ask s count asks ends);
+  list = told_or_long MAX_TRACE_BYTES told;
+  is_told = told_long_is MAX_TRACE_BYTES told;
+  course = rw (lt-ltb MAX_TRACE_BYTES (length (told_or_long MAX_TRACE_BYTES told)) (is_longer MAX_TRACE_BYTES told long)) (handed_course b n too_long ask s count asks ends);
 }
 trace_long b n told ask image s fetch.Failed is long count asks ends = cc
 trace_long b n told ask image s fetch.Memory is long count asks ends = cc
@@ -113,10 +132,10 @@ abbrev ByFirst : Outside → Outside → Option Order → List ℕ → List ℕ 
 ByFirst b n order image trace s = Course b n (answer_over order image trace) (asks_by order (image_over order image)) s
 
 -- a course over a file that is no image
-refused_course : (b n : Outside) (first second image trace : List ℕ) (s : Status) → image_in image ≡ None → Course b n not_built_at_all ((first, MAX_IMAGE_BYTES) ∷ []) s → ByFirst b n (Some (Replay first second)) image trace s
+refused_course : (b n : Outside) (first second image trace : List ℕ) (s : Status) → image_in image ≡ None → Course b n (no_image image) ((first, MAX_IMAGE_BYTES) ∷ []) s → ByFirst b n (Some (Replay first second)) image trace s
 refused_course b n first second image trace s none h = rw none h
 
-refused_serves : (told : List ℕ → Option (List ℕ)) (b n : Outside) (first second image : List ℕ) (s : Status) → image_in image ≡ None → IfSome (told first) (λ bytes. image ≡ bytes) → Course b n not_built_at_all ((first, MAX_IMAGE_BYTES) ∷ []) s
+refused_serves : (told : List ℕ → Option (List ℕ)) (b n : Outside) (first second image : List ℕ) (s : Status) → image_in image ≡ None → IfSome (told first) (λ bytes. image ≡ bytes) → Course b n (no_image image) ((first, MAX_IMAGE_BYTES) ∷ []) s
     → Serves told (Some (Replay first second)) b n s
 refused_serves told b n first second image s none is h = record {
   image = image;
@@ -127,25 +146,32 @@ refused_serves told b n first second image s none is h = record {
   sure = inl (rw none tt);
 }
 
+-- a file with a fault is no image
+faulty : (bytes : List ℕ) (f : Fault) → first_fault bytes ≡ Some f → image_of bytes ≡ None
+faulty bytes f is = by (image_of bytes) refl where
+  by : (o : Option Contents) → image_of bytes ≡ o → image_of bytes ≡ None
+  by None same = same
+  by (Some c) same = let none : first_fault bytes ≡ None = (sound_image bytes).1 (rw same tt) in let never : Some f ≡ None = sym is ∙ none in cc
+
 -- the file is within its limit and no image
-pub files_refused : (told : List ℕ → Option (List ℕ)) (b n : Outside) (first second bytes : List ℕ) (s : Status) → IfSome (told first) (λ t. FetchTold t MAX_IMAGE_BYTES (Ok bytes)) → length bytes ≤ MAX_IMAGE_BYTES → None ≡ image_of bytes → n.desk.faults ≡ b.desk.faults
-    → n.desk.asks ≡ b.desk.asks ++ (first, MAX_IMAGE_BYTES) ∷ [] → Ends b.sink n.sink not_built_at_all s → Serves told (Some (Replay first second)) b n s
-files_refused told b n first second bytes s is short none count asks ends =
-    refused_serves told b n first second bytes s (rw (le-ltb MAX_IMAGE_BYTES (length bytes) short) (sym none)) (handed_is (told first) bytes MAX_IMAGE_BYTES is) (handed_course b n not_built_at_all (first, MAX_IMAGE_BYTES) s count asks ends)
+pub files_refused : (told : List ℕ → Option (List ℕ)) (b n : Outside) (first second bytes : List ℕ) (f : Fault) (s : Status) → IfSome (told first) (λ t. FetchTold t MAX_IMAGE_BYTES (Ok bytes)) → length bytes ≤ MAX_IMAGE_BYTES → first_fault bytes ≡ Some f → n.desk.faults ≡ b.desk.faults
+    → n.desk.asks ≡ b.desk.asks ++ (first, MAX_IMAGE_BYTES) ∷ [] → Ends b.sink n.sink (bad_image f) s → Serves told (Some (Replay first second)) b n s
+files_refused told b n first second bytes f s is short fault count asks ends =
+    let within : nat_lt MAX_IMAGE_BYTES (length bytes) ≡ false = le-ltb MAX_IMAGE_BYTES (length bytes) short in
+    refused_serves told b n first second bytes s (rw within (faulty bytes f fault)) (handed_is (told first) bytes MAX_IMAGE_BYTES is)
+    (rw (within, fault) (handed_course b n (bad_image f) (first, MAX_IMAGE_BYTES) s count asks ends))
 
--- the empty list is no image, and no list that is too long
-no_image : image_of [] ≡ None
+-- the empty list is no image
+none_is_no_image : image_of [] ≡ None
 unfolding image_of grammar.header_of grammar.number_at grammar.piece_at
-no_image = refl
-
-long_image : (told : Option (List ℕ)) → IfSome told (λ t. MAX_IMAGE_BYTES < length t) → image_in (told_or_none told) ≡ None
-long_image None long = no_image
-long_image (Some bytes) long = rw (lt-ltb MAX_IMAGE_BYTES (length bytes) long) refl
+none_is_no_image = refl
 
 pub files_long : (told : List ℕ → Option (List ℕ)) (b n : Outside) (first second : List ℕ) (s : Status) (f : FetchFault) → f ≡ fetch.TooLong → IfSome (told first) (λ t. FetchTold t MAX_IMAGE_BYTES (Err f)) → FetchCount b.desk.faults n.desk.faults (Err f)
-    → FetchAsks b.desk.asks n.desk.asks (first, MAX_IMAGE_BYTES) (Err f) → Ends b.sink n.sink not_built_at_all s → Serves told (Some (Replay first second)) b n s
+    → FetchAsks b.desk.asks n.desk.asks (first, MAX_IMAGE_BYTES) (Err f) → Ends b.sink n.sink too_long s → Serves told (Some (Replay first second)) b n s
 files_long told b n first second s fetch.TooLong is long count asks ends =
-    refused_serves told b n first second (told_or_none (told first)) s (long_image (told first) long) (told_is (told first)) (handed_course b n not_built_at_all (first, MAX_IMAGE_BYTES) s count asks ends)
+    let list = told_or_long MAX_IMAGE_BYTES (told first) in
+    let over : nat_lt MAX_IMAGE_BYTES (length list) ≡ true = lt-ltb MAX_IMAGE_BYTES (length list) (is_longer MAX_IMAGE_BYTES (told first) long) in
+    refused_serves told b n first second list s (rw over refl) (told_long_is MAX_IMAGE_BYTES (told first)) (rw over (handed_course b n too_long (first, MAX_IMAGE_BYTES) s count asks ends))
 files_long told b n first second s fetch.Failed is long count asks ends = cc
 files_long told b n first second s fetch.Memory is long count asks ends = cc
 
@@ -160,26 +186,26 @@ each_serves told b n first second s each = record {
   sure = inr (λ other. each other (told_or_none (told second)));
 }
 
-failed_by : (b n : Outside) (first second : List ℕ) (image : Option Contents) (trace : List ℕ) (s : Status) (f : FetchFault) → f ≡ fetch.Failed → FetchCount b.desk.faults n.desk.faults (Err f) → FetchAsks b.desk.asks n.desk.asks (first, MAX_IMAGE_BYTES) (Err f)
-    → Ends b.sink n.sink read_fault_answer s → Course b n (answer_by image trace) (asks_by (Some (Replay first second)) image) s
-failed_by b n first second None trace s f is count asks ends = failed_course b n not_built_at_all _ [] s f is count asks ends
-failed_by b n first second (Some image) trace s f is count asks ends = failed_course b n (answer_of_trace image trace) _ _ s f is count asks ends
+failed_by : (b n : Outside) (first second bytes : List ℕ) (image : Option Contents) (trace : List ℕ) (s : Status) (f : FetchFault) → f ≡ fetch.Failed → FetchCount b.desk.faults n.desk.faults (Err f) → FetchAsks b.desk.asks n.desk.asks (first, MAX_IMAGE_BYTES) (Err f)
+    → Ends b.sink n.sink read_fault s → Course b n (answer_by bytes image trace) (asks_by (Some (Replay first second)) image) s
+failed_by b n first second bytes None trace s f is count asks ends = failed_course b n (no_image bytes) _ [] s f is count asks ends
+failed_by b n first second bytes (Some image) trace s f is count asks ends = failed_course b n (answer_of_trace image trace) _ _ s f is count asks ends
 
 pub files_failed : (told : List ℕ → Option (List ℕ)) (b n : Outside) (first second : List ℕ) (s : Status) (f : FetchFault) → f ≡ fetch.Failed → FetchCount b.desk.faults n.desk.faults (Err f) → FetchAsks b.desk.asks n.desk.asks (first, MAX_IMAGE_BYTES) (Err f)
-    → Ends b.sink n.sink read_fault_answer s → Serves told (Some (Replay first second)) b n s
-files_failed told b n first second s f is count asks ends = each_serves told b n first second s (λ image trace. failed_by b n first second (image_in image) trace s f is count asks ends)
+    → Ends b.sink n.sink read_fault s → Serves told (Some (Replay first second)) b n s
+files_failed told b n first second s f is count asks ends = each_serves told b n first second s (λ image trace. failed_by b n first second image (image_in image) trace s f is count asks ends)
 
 -- memory was not found, once the first file was asked for or before
 longer_front : (before now : List Ask) (ask : Ask) (more : List Ask) → AsksFront before now (ask ∷ []) → AsksFront before now (ask ∷ more)
 longer_front before now ask more h = (h.0, h.1 ++ more, ap (λ (xs : List Ask). xs ++ more) h.2 ∙ append_assoc h.0 h.1 more, h.3)
 
-unfound_by : (b n : Outside) (first second : List ℕ) (image : Option Contents) (trace : List ℕ) → n.sink ≡ b.sink → n.desk.faults ≡ b.desk.faults → AsksFront b.desk.asks n.desk.asks ((first, MAX_IMAGE_BYTES) ∷ [])
-    → Course b n (answer_by image trace) (asks_by (Some (Replay first second)) image) status.Memory
-unfound_by b n first second None trace same count some = unfound_course b n not_built_at_all _ same count some
-unfound_by b n first second (Some image) trace same count some = unfound_course b n (answer_of_trace image trace) _ same count (longer_front b.desk.asks n.desk.asks _ _ some)
+unfound_by : (b n : Outside) (first second bytes : List ℕ) (image : Option Contents) (trace : List ℕ) → n.sink ≡ b.sink → n.desk.faults ≡ b.desk.faults → AsksFront b.desk.asks n.desk.asks ((first, MAX_IMAGE_BYTES) ∷ [])
+    → Course b n (answer_by bytes image trace) (asks_by (Some (Replay first second)) image) status.Memory
+unfound_by b n first second bytes None trace same count some = unfound_course b n (no_image bytes) _ same count some
+unfound_by b n first second bytes (Some image) trace same count some = unfound_course b n (answer_of_trace image trace) _ same count (longer_front b.desk.asks n.desk.asks _ _ some)
 
 files_unfound : (told : List ℕ → Option (List ℕ)) (b n : Outside) (first second : List ℕ) → n.sink ≡ b.sink → n.desk.faults ≡ b.desk.faults → AsksFront b.desk.asks n.desk.asks ((first, MAX_IMAGE_BYTES) ∷ []) → Serves told (Some (Replay first second)) b n status.Memory
-files_unfound told b n first second same count some = each_serves told b n first second status.Memory (λ image trace. unfound_by b n first second (image_in image) trace same count some)
+files_unfound told b n first second same count some = each_serves told b n first second status.Memory (λ image trace. unfound_by b n first second image (image_in image) trace same count some)
 
 pub files_unfound_first : (told : List ℕ → Option (List ℕ)) (b n : Outside) (first second : List ℕ) (f : FetchFault) → f ≡ fetch.Memory → n.sink ≡ b.sink → FetchCount b.desk.faults n.desk.faults (Err f) → FetchAsks b.desk.asks n.desk.asks (first, MAX_IMAGE_BYTES) (Err f)
     → Serves told (Some (Replay first second)) b n status.Memory
@@ -244,7 +270,7 @@ files_served told told' b n desk first second bytes image s is short reads valid
 
 -- ---- no command
 
-pub nothing_served : (told : List ℕ → Option (List ℕ)) (b n : Outside) (s : Status) → n.desk ≡ b.desk → Ends b.sink n.sink not_built_at_all s → Serves told None b n s
+pub nothing_served : (told : List ℕ → Option (List ℕ)) (b n : Outside) (s : Status) → n.desk ≡ b.desk → Ends b.sink n.sink usage s → Serves told None b n s
 nothing_served told b n s same ends =
     let asks : n.desk.asks ≡ b.desk.asks = ap (λ (d : DeskState). d.asks) same in
     record {
@@ -269,16 +295,16 @@ record IsServed (b n : Outside) (s : Status) (a : Answer) : Type 0 where
   pub asks : List Ask
   pub course : Course b n a asks s
 
-image_served : (b n : Outside) (asks : List Ask) (s : Status) (image : Option Contents) (trace : List ℕ) (told : Option (List ℕ)) → IfSome told (λ t. trace ≡ t) → Course b n (answer_by image trace) asks s → IfSome (answer_of_image image told) (IsServed b n s)
-image_served b n asks s None trace told is h = record { is = answer_is None trace; asks = asks; course = h }
-image_served b n asks s (Some image) trace None is h = tt
-image_served b n asks s (Some image) trace (Some t) is h = subst (λ (x : List ℕ). IsServed b n s (answer_of_trace image x)) is (record { is = trace_is image trace; asks = asks; course = h })
+image_served : (b n : Outside) (asks : List Ask) (s : Status) (bytes : List ℕ) (image : Option Contents) (trace : List ℕ) (told : Option (List ℕ)) → IfSome told (λ t. trace ≡ t) → Course b n (answer_by bytes image trace) asks s → IfSome (answer_of_image bytes image told) (IsServed b n s)
+image_served b n asks s bytes None trace told is h = record { is = answer_is bytes None trace; asks = asks; course = h }
+image_served b n asks s bytes (Some image) trace None is h = tt
+image_served b n asks s bytes (Some image) trace (Some t) is h = subst (λ (x : List ℕ). IsServed b n s (answer_of_trace image x)) is (record { is = trace_is image trace; asks = asks; course = h })
 
-files_told : (b n : Outside) (asks : List Ask) (s : Status) (image trace : List ℕ) (told_image told_trace : Option (List ℕ)) → IfSome told_image (λ t. image ≡ t) → IfSome told_trace (λ t. trace ≡ t) → Course b n (answer_by (image_in image) trace) asks s
+files_told : (b n : Outside) (asks : List Ask) (s : Status) (image trace : List ℕ) (told_image told_trace : Option (List ℕ)) → IfSome told_image (λ t. image ≡ t) → IfSome told_trace (λ t. trace ≡ t) → Course b n (answer_by image (image_in image) trace) asks s
     → IfSome (answer_of_files told_image told_trace) (IsServed b n s)
 files_told b n asks s image trace None told_trace is others h = tt
 files_told b n asks s image trace (Some t) told_trace is others h =
-    image_served b n asks s (image_in t) trace told_trace others (subst (λ (x : List ℕ). Course b n (answer_by (image_in x) trace) asks s) is h)
+    image_served b n asks s t (image_in t) trace told_trace others (subst (λ (x : List ℕ). Course b n (answer_by x (image_in x) trace) asks s) is h)
 
 told_served : (told : List ℕ → Option (List ℕ)) (order : Option Order) (b n : Outside) (s : Status) → Serves told order b n s → IfSome (answer_of order told) (IsServed b n s)
 told_served told None b n s h = record { is = over_is None [] []; asks = []; course = h.course }
@@ -307,7 +333,7 @@ pub serves_needed : (told : List ℕ → Option (List ℕ)) (order : Option Orde
 serves_needed told None b n s h = tt
 serves_needed told (Some (Replay first second)) b n s h =
     if_some (λ bytes. h.image ≡ bytes) (λ bytes. AsksNeeded b.desk n.desk (asks_by (Some (Replay first second)) (image_in bytes)) s) (told first)
-    (λ bytes is. subst (λ (x : List ℕ). AsksNeeded b.desk n.desk (asks_by (Some (Replay first second)) (image_in x)) s) is (asks_needed b n (answer_by (image_in h.image) h.trace) _ s (answer_is (image_in h.image) h.trace) h.course))
+    (λ bytes is. subst (λ (x : List ℕ). AsksNeeded b.desk n.desk (asks_by (Some (Replay first second)) (image_in x)) s) is (asks_needed b n (answer_by h.image (image_in h.image) h.trace) _ s (answer_is h.image (image_in h.image) h.trace) h.course))
     h.image_is_told
 
 -- ---- and where nothing is told
@@ -353,7 +379,7 @@ some_over told order b n s h image is valid course = record {
 -- the empty list has no image
 empty_valid : (order : Option Order) → IfSome (image_over order []) IsValid
 empty_valid None = tt
-empty_valid (Some order) = rw no_image tt
+empty_valid (Some order) = rw none_is_no_image tt
 
 bytes_valid : (order : Option Order) (bytes : List ℕ) → AreBytes bytes → IfSome (image_over order bytes) IsValid
 bytes_valid None bytes all = tt

@@ -13,10 +13,7 @@ not_risen before now below same rose = omega (arith, below, rose)
 
 pub whole : (b n : Outside) (a : Answer) (s : Status) → b.desk.faults < 2 ^ 64 - 1 → n.desk.faults ≡ b.desk.faults → b.sink.faults < 2 ^ 64 - 1 → n.sink.faults ≡ b.sink.faults → Settles b n a s → DeskCount b.desk.faults n.desk.faults s → SinkCount b.sink.faults n.sink.faults s
     → ((s ≡ a.status) × Appends b.sink.taken n.sink.taken (text_of a)) ⊎ (s ≡ status.Memory)
-whole b n a status.Done db ds kb ks h dc sc = inl h
 whole b n a status.ReadFault db ds kb ks h dc sc = absurd (not_risen b.desk.faults n.desk.faults db ds dc)
 whole b n a status.WriteFault db ds kb ks h dc sc = absurd (not_risen b.sink.faults n.sink.faults kb ks sc)
 whole b n a status.Memory db ds kb ks h dc sc = inr refl
-whole b n a (status.NotLegal k) db ds kb ks h dc sc = inl h
-whole b n a (status.Incomplete k) db ds kb ks h dc sc = inl h
-whole b n a (status.NotBuilt k) db ds kb ks h dc sc = inl h
+whole b n a s db ds kb ks h dc sc = inl h

@@ -1,10 +1,10 @@
 pub mod Words
-pub mod Commands
 pub mod Outside
 pub mod Texts
 pub mod Replays
 pub mod Answers
 pub mod Printing
+pub mod Walks
 pub mod Lawful
 pub mod Statuses
 pub mod Serving

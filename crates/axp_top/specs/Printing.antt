@@ -6,12 +6,9 @@ use Rattle.axp_top.specs.declared.printing.Stop.{Stop}
 use Rattle.axp_top.specs.declared.printing.Stop.TheVariants as stop
 use Rattle.axp_top.specs.declared.status.Status.{Status}
 use Rattle.axp_top.specs.declared.status.Status.TheVariants as status
-use Rattle.axp_access.specs.declared.Record.{Record}
-use Rattle.axp_top.specs.declared.refusals.Refusal.{Refusal}
-use Rattle.axp_machine.specs.Runs.{Seen, with_record}
 use Rattle.axp_top.specs.Outside.{SinkState}
-use Rattle.axp_top.specs.Replays.{Answer, FileLine, front_lines, replayed}
-use Rattle.axp_top.specs.Texts.{Lines, record_text}
+use Rattle.axp_top.specs.Replays.{Answer}
+use Rattle.axp_top.specs.Texts.{Lines}
 
 -- a count of puts after so many more; where there are none it is as it was
 abbrev pub after_puts : ℕ → ℕ → ℕ
@@ -35,37 +32,30 @@ pub record StopsAt (before now : SinkState) (printed : Lines) (part : List ℕ) 
   pub text : Appends before.taken now.taken (concat whole ++ part)
   pub each : now.puts ≡ raised before.puts (length whole + 1)
 
--- the sink failed in a line, or memory was not found for its put
+-- memory was not found for a line, and it was not put: those before it were printed
+pub record LacksAt (before now : SinkState) (printed : Lines) : Type 0 where
+  pub whole : Lines
+  pub line : List ℕ
+  pub others : Lines
+  pub parted : printed ≡ whole ++ line ∷ others
+  pub text : Appends before.taken now.taken (concat whole)
+  pub each : now.puts ≡ after_puts before.puts (length whole)
+
+-- the sink failed in a line, or memory was not found for its put, or for the line
 abbrev pub Stopped : SinkState → SinkState → Lines → Stop → Type 0
 Stopped before now printed stop.WriteFault =
     ((part : List ℕ) × StopsAt before now printed part) × (now.faults ≡ raised before.faults 1)
-Stopped before now printed stop.Memory = StopsAt before now printed [] × (now.faults ≡ before.faults)
+Stopped before now printed stop.Memory = (StopsAt before now printed [] ⊎ LacksAt before now printed) × (now.faults ≡ before.faults)
 
 abbrev pub Prints : {T : Type 0} → SinkState → SinkState → Lines → Result T Stop → Type 0
 Prints before now printed (Ok _) = Printed before now printed
 Prints before now printed (Err s) = Stopped before now printed s
 
--- what the line of an event did: the machine has its record and the line is printed, or neither
-abbrev pub PrintsEvent : SinkState → SinkState → Seen → Seen → Result Record Refusal → Result (Option Refusal) Stop → Type 0
-PrintsEvent before now m m' (Err refusal) (Ok refused) = (refused ≡ Some refusal) × (m' ≡ m) × Printed before now []
-PrintsEvent before now m m' (Err refusal) (Err s) = ⊥
-PrintsEvent before now m m' (Ok r) (Ok refused) = (refused ≡ None) × (m' ≡ with_record m r) × Printed before now (record_text r ∷ [])
-PrintsEvent before now m m' (Ok r) (Err s) = Stopped before now (record_text r ∷ []) s
-
--- what the lines of a list did
-abbrev pub PrintsEvents : SinkState → SinkState → Seen → Seen → List FileLine → Result (Option Refusal) Stop → Type 0
-PrintsEvents before now m m' ls (Ok refused) = Printed before now (front_lines m ls) × (replayed m ls ≡ (m', refused))
-PrintsEvents before now m m' ls (Err s) = Stopped before now (front_lines m ls) s
-
 -- why the work stopped with this status, if it did not end with its lines printed
 abbrev pub stop_of : Status → Option Stop
-stop_of status.Done = None
-stop_of status.ReadFault = None
 stop_of status.WriteFault = Some stop.WriteFault
-stop_of (status.NotLegal n) = None
-stop_of (status.Incomplete n) = None
 stop_of status.Memory = Some stop.Memory
-stop_of (status.NotBuilt n) = None
+stop_of _ = None
 
 -- the work ended with the answer's status, its lines printed; or it stopped in a line; or memory was not
 -- found before any was printed
@@ -77,15 +67,13 @@ EndsBy before now answer s (Some stop.Memory) = (now ≡ before) ⊎ Stopped bef
 abbrev pub Ends : SinkState → SinkState → Answer → Status → Type 0
 Ends before now answer s = EndsBy before now answer s (stop_of s)
 
--- a status that a fault line is printed for
+-- a status that one line is printed for
 abbrev pub IsRefusal : Status → Type 0
 IsRefusal status.Done = ⊥
-IsRefusal status.ReadFault = Unit {0}
+IsRefusal (status.Differs n) = ⊥
 IsRefusal status.WriteFault = ⊥
-IsRefusal (status.NotLegal n) = Unit {0}
-IsRefusal (status.Incomplete n) = Unit {0}
 IsRefusal status.Memory = ⊥
-IsRefusal (status.NotBuilt n) = Unit {0}
+IsRefusal _ = Unit {0}
 
 abbrev pub status_of_stop : Stop → Status
 status_of_stop stop.WriteFault = status.WriteFault

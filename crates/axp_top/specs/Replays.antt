@@ -1,20 +1,33 @@
--- What `replay` prints of an event list.
-use Rattle.std.specs.Prelude.{ℕ, ◌+◌, List, [], ◌∷◌, ◌++◌, length, Option, Some, None, Result, Ok, Err, if◌then◌else◌}
+-- What `replay` prints of an event list, or of a trace that it compares with the right one. The earliest line
+-- decides; of one line grammar comes first, then legality, then difference.
+use Rattle.std.specs.Prelude.{ℕ, zero, suc, ◌+◌, ◌==◌, Bool, true, false, not, ◌&&◌, List, [], ◌∷◌, ◌++◌, length, Option, Some, None, Result, Ok, Err, if◌then◌else◌}
 use Rattle.std.specs.List.{concat}
+use Rattle.std.specs.Str.{bytes_eq}
+use Rattle.axp_access.specs.declared.Access.{Access}
+use Rattle.axp_access.specs.declared.EntryState.{EntryState}
+use Rattle.axp_access.specs.declared.EntryState.TheVariants.{Unwritten, Waiting, Drained}
 use Rattle.axp_access.specs.declared.Event.{Event}
 use Rattle.axp_access.specs.declared.Outcome.{Outcome}
+use Rattle.axp_access.specs.declared.Outcome.TheVariants as outcome
+use Rattle.axp_access.specs.declared.Place.{Place}
+use Rattle.axp_access.specs.declared.Place.TheVariants.{At, Entry, Absent}
 use Rattle.axp_access.specs.declared.Record.{Record}
-use Rattle.axp_cpu.specs.declared.refusals.NotLegal as cpu
-use Rattle.axp_top.specs.declared.refusals.Refusal.{Refusal}
-use Rattle.axp_top.specs.declared.refusals.Refusal.TheVariants.{NotLegal, NotBuilt}
+use Rattle.axp_access.specs.declared.tail_items.TailItem.{TailItem}
+use Rattle.axp_base.specs.Cpus.{cpu_number}
+use Rattle.axp_cpu.specs.declared.refusals.NotLegal.{NotLegal}
 use Rattle.axp_image.specs.Contents.{Contents}
 use Rattle.axp_machine.specs.Runs.{Seen, started, answer_of, with_record, is_complete}
-use Rattle.axp_trace.specs.declared.reading.Header.{Header}
-use Rattle.axp_trace.specs.Lines.{with_feed, not_legal_line, not_built_line, incomplete_line}
-use Rattle.axp_trace.specs.Reading.{event_of, header_of}
+use Rattle.axp_machine.specs.Tails.{tail_items}
+use Rattle.axp_model.specs.EntryStates.{entry_state}
+use Rattle.axp_trace.specs.declared.headers.Header.{Header}
+use Rattle.axp_trace.specs.declared.lines.TraceLine.{TraceLine}
+use Rattle.axp_trace.specs.declared.lines.TraceLine.TheVariants.{Bare, Full, Tail}
+use Rattle.axp_trace.specs.Lines.{with_feed, bad_trace_line, differs_line, given_line, incomplete_line, line_text, not_legal_line, right_line, tail_line}
+use Rattle.axp_trace.specs.Reading.{header_of}
+use Rattle.axp_trace.specs.TraceLines.{line_of}
 use Rattle.axp_top.specs.declared.status.Status.{Status}
 use Rattle.axp_top.specs.declared.status.Status.TheVariants as status
-use Rattle.axp_top.specs.Texts.{Lines, lines, tail, record_text}
+use Rattle.axp_top.specs.Texts.{Lines, lines, right_header, tail, record_text}
 
 -- how the work ends, and the lines that are printed
 pub record Answer : Type 0 where
@@ -29,73 +42,208 @@ text_of a = concat a.lines
 abbrev pub answer_in_one_line : Status → List ℕ → Answer
 answer_in_one_line s line = record { status = s; lines = with_feed line ∷ [] }
 
--- an event is refused
-abbrev pub refused_at : Refusal → ℕ → Answer
-refused_at NotLegal n = answer_in_one_line (status.NotLegal n) (not_legal_line n)
-refused_at NotBuilt n = answer_in_one_line (status.NotBuilt n) (not_built_line n)
+-- the line of this number is outside the grammar
+abbrev pub bad_trace : ℕ → Answer
+bad_trace n = answer_in_one_line (status.BadTrace n) (bad_trace_line n)
 
--- the list ends and is not complete
-abbrev pub incomplete_after : ℕ → Answer
-incomplete_after n = answer_in_one_line (status.Incomplete n) (incomplete_line n)
+-- the event of this number is not legal
+abbrev pub not_legal : ℕ → Answer
+not_legal n = answer_in_one_line (status.NotLegal n) (not_legal_line n)
 
--- nothing is printed before the fault line
-abbrev pub not_built_at_all : Answer
-not_built_at_all = refused_at NotBuilt 0
+-- the events end, so many of them, and the machine is not complete
+abbrev pub incomplete : ℕ → Answer
+incomplete n = answer_in_one_line (status.Incomplete n) (incomplete_line n)
+
+-- the line of this number is another than the right one
+abbrev pub differs : ℕ → List ℕ → List ℕ → Answer
+differs n given right = record {
+  status = status.Differs n;
+  lines = with_feed (differs_line n) ∷ with_feed (given_line given) ∷ with_feed (right_line right) ∷ [];
+}
+
+-- ---- one line
 
 -- a line of a file, without its line feed; None: a last line that has none
 abbrev pub FileLine : Type 0
 FileLine = Option (List ℕ)
 
--- the event that a line of an event list is; a last line without line feed is none
-abbrev pub event_in : ℕ → FileLine → Option Event
-event_in cpus None = None
-event_in cpus (Some line) = event_of cpus line
+-- the number of the line behind a machine's records: the header is the first
+abbrev pub next_line : Seen → ℕ
+next_line m = length m.records + 2
 
-abbrev pub recorded : Event → Result Outcome cpu.NotLegal → Result Record Refusal
-recorded e (Ok o) = Ok (record { event = e; outcome = o })
-recorded e (Err refused) = Err NotLegal
+-- a write names no entry that a drain named before it
+abbrev pub is_undrained : EntryState → Bool
+is_undrained Drained = false
+is_undrained _ = true
 
--- the record that a line leaves, or why it is refused: what is no event is not built
-abbrev pub record_of : Seen → Option Event → Result Record Refusal
-record_of m None = Err NotBuilt
-record_of m (Some e) = recorded e (answer_of m e)
+-- a drain names an entry that a write named before it, and no drain
+abbrev pub is_waiting : EntryState → Bool
+is_waiting Waiting = true
+is_waiting _ = false
 
--- goes on with the record, or ends with the refusal
-abbrev pub by_record : {T : Type 0} → Result Record Refusal → (Record → T) → (Refusal → T) → T
-by_record (Ok r) goes ends = goes r
-by_record (Err refusal) goes ends = ends refusal
+abbrev pub is_placed_well : ℕ → Place → List Record → Bool
+is_placed_well p (Entry n) h = is_undrained (entry_state p n h)
+is_placed_well p _ h = true
 
--- the machine after the longest front of the lines whose events are done, and why the next line is
--- refused; None: these are all lines
-unfoldable pub replayed : Seen → List FileLine → Seen × Option Refusal
-replayed m [] = (m, None)
-replayed m (l ∷ ls) = by_record (record_of m (event_in m.cpus l)) (λ r. replayed (with_record m r) ls) (λ refusal. (m, Some refusal))
+abbrev pub names_well : ℕ → Outcome → List Record → Bool
+names_well p (outcome.Access a) h = is_placed_well p a.place h
+names_well p (outcome.Drained n line turn) h = is_waiting (entry_state p n h)
+names_well p _ h = true
 
--- what is printed of that front
-unfoldable pub front_lines : Seen → List FileLine → Lines
-front_lines m [] = []
-front_lines m (l ∷ ls) = by_record (record_of m (event_in m.cpus l)) (λ r. record_text r ∷ front_lines (with_record m r) ls) (λ refusal. [])
+abbrev pub is_in_order : Seen → Event → Outcome → Bool
+is_in_order m e o = names_well (cpu_number e.cpu) o m.records
 
--- How a run ends: with the tail where all lines are done and the machine is complete, or after the last
--- event where it is not; else at the number of the event that is refused.
-abbrev pub ending_of : Seen → Option Refusal → Answer
-ending_of m None = if is_complete m then record { status = status.Done; lines = tail m } else incomplete_after (length m.records)
-ending_of m (Some refusal) = refused_at refusal (length m.records + 1)
+-- what comes of a line: its event is done and its record kept, it begins the tail, or it is refused
+pub data LineResult : Type 0 where
+  Recorded : Record → LineResult
+  OfTail : LineResult
+  Refused : Answer → LineResult
+
+abbrev pub refused_event : Seen → LineResult
+refused_event m = Refused (not_legal (length m.records + 1))
+
+abbrev pub refused_line : Seen → LineResult
+refused_line m = Refused (bad_trace (next_line m))
+
+-- an event of a list
+abbrev pub event_result : Seen → Event → Result Outcome NotLegal → LineResult
+event_result m e (Ok o) = Recorded (record { event = e; outcome = o })
+event_result m e (Err refused) = refused_event m
+
+-- a line of this number shows a record, where it is the right one
+abbrev pub right_result : ℕ → List ℕ → Record → LineResult
+right_result n line r =
+    if bytes_eq (line_text r.event r.outcome) line then Recorded r else Refused (differs n line (line_text r.event r.outcome))
+
+-- an event of a trace
+abbrev pub shown_result : Seen → List ℕ → Event → Result Outcome NotLegal → LineResult
+shown_result m line e (Ok o) = right_result (next_line m) line (record { event = e; outcome = o })
+shown_result m line e (Err refused) = refused_event m
+
+abbrev pub full_result : Seen → List ℕ → Event → Outcome → LineResult
+full_result m line e o = if is_in_order m e o then shown_result m line e (answer_of m e) else refused_line m
+
+-- by what the line means
+abbrev pub result_by : Seen → List ℕ → Option TraceLine → LineResult
+result_by m line None = refused_line m
+result_by m line (Some (Bare e)) = event_result m e (answer_of m e)
+result_by m line (Some (Full e o)) = full_result m line e o
+result_by m line (Some Tail) = OfTail
+
+abbrev pub result_of : Header → Seen → FileLine → LineResult
+result_of h m None = refused_line m
+result_of h m (Some line) = result_by m line (line_of h line)
+
+-- what is printed of it
+abbrev pub result_lines : LineResult → Lines
+result_lines (Recorded r) = record_text r ∷ []
+result_lines OfTail = []
+result_lines (Refused a) = a.lines
+
+-- ---- the events' lines
+
+-- goes on with the record, ends with the tail, or ends refused
+abbrev pub by_result : {T : Type 0} → LineResult → (Record → T) → T → (Answer → T) → T
+by_result (Recorded r) goes ends refused = goes r
+by_result OfTail goes ends refused = ends
+by_result (Refused a) goes ends refused = refused a
+
+-- the machine after the longest front of lines whose events are done, why the next line is refused, if it is,
+-- and the lines from there on
+pub record Front : Type 0 where
+  pub machine : Seen
+  pub refused : Option Answer
+  pub rest : List FileLine
+
+unfoldable pub front_of : Header → Seen → List FileLine → Front
+front_of h m [] = record { machine = m; refused = None; rest = [] }
+front_of h m (l ∷ ls) = by_result (result_of h m l) (λ r. front_of h (with_record m r) ls) (record { machine = m; refused = None; rest = l ∷ ls }) (λ a. record { machine = m; refused = Some a; rest = l ∷ ls })
+
+-- what is printed of these lines
+unfoldable pub front_lines : Header → Seen → List FileLine → Lines
+front_lines h m [] = []
+front_lines h m (l ∷ ls) = by_result (result_of h m l) (λ r. record_text r ∷ front_lines h (with_record m r) ls) [] (λ a. a.lines)
+
+-- ---- the tail of a trace
+
+-- the line is one of a tail
+abbrev pub is_tail_line : Option TraceLine → Bool
+is_tail_line (Some Tail) = true
+is_tail_line _ = false
+
+-- why a line of the tail is refused that has this number, and should be this one
+abbrev pub item_refusal : Header → ℕ → List ℕ → List ℕ → Option Answer
+item_refusal h n line right =
+    if is_tail_line (line_of h line)
+    then (if bytes_eq right line then None else Some (differs n line right))
+    else Some (bad_trace n)
+
+abbrev pub or_else : Option Answer → Option Answer → Option Answer
+or_else (Some a) other = Some a
+or_else None other = other
+
+-- why the tail is refused that begins at the line of this number and should be of these items: a line is refused,
+-- one is missing, or one is too many
+unfoldable pub tail_refusal : Header → ℕ → List TailItem → List FileLine → Option Answer
+tail_refusal h n [] [] = None
+tail_refusal h n [] (l ∷ ls) = Some (bad_trace n)
+tail_refusal h n (i ∷ items) [] = Some (bad_trace n)
+tail_refusal h n (i ∷ items) (None ∷ ls) = Some (bad_trace n)
+tail_refusal h n (i ∷ items) (Some line ∷ ls) = or_else (item_refusal h n line (tail_line i)) (tail_refusal h (n + 1) items ls)
+
+-- ---- the ending
+
+-- the whole text is printed
+abbrev pub whole_ending : Seen → Answer
+whole_ending m = record { status = status.Done; lines = tail m }
+
+abbrev pub refused_or_whole : Seen → Option Answer → Answer
+refused_or_whole m None = whole_ending m
+refused_or_whole m (Some a) = a
+
+-- a file may have no tail
+abbrev pub complete_ending : Header → Seen → List FileLine → Answer
+complete_ending h m [] = whole_ending m
+complete_ending h m (l ∷ ls) = refused_or_whole m (tail_refusal h (next_line m) (tail_items m) (l ∷ ls))
+
+-- where all events were done
+abbrev pub events_ending : Header → Seen → List FileLine → Answer
+events_ending h m rest = if is_complete m then complete_ending h m rest else incomplete (length m.records)
+
+abbrev pub ending_by : Header → Seen → List FileLine → Option Answer → Answer
+ending_by h m rest (Some a) = a
+ending_by h m rest None = events_ending h m rest
+
+abbrev pub ending_of : Header → Front → Answer
+ending_of h f = ending_by h f.machine f.rest f.refused
 
 -- the ending behind the header and the lines of the records
-abbrev pub answer_of_run : Seen → Option Refusal → Answer
-answer_of_run m refused = record { status = (ending_of m refused).status; lines = lines m ++ (ending_of m refused).lines }
+abbrev pub answer_of_front : Header → Front → Answer
+answer_of_front h f = record { status = (ending_of h f).status; lines = lines f.machine ++ (ending_of h f).lines }
 
--- what the lines give after a machine
-abbrev pub answer_of_replay : Seen → List FileLine → Answer
-answer_of_replay m ls = answer_of_run (replayed m ls).0 (replayed m ls).1
+-- what the lines behind the first give after a machine at the start
+abbrev pub answer_of_run : Header → Seen → List FileLine → Answer
+answer_of_run h m ls = answer_of_front h (front_of h m ls)
 
-abbrev pub answer_of_list : Contents → Option Header → List FileLine → Answer
-answer_of_list image None ls = not_built_at_all
-answer_of_list image (Some h) ls = answer_of_replay (started image h.cpus h.budget) ls
+-- ---- the file
 
--- what an event list gives over an image, by the file's lines
+-- a trace of another size of memory
+abbrev pub is_other_memory : Header → Seen → Bool
+is_other_memory h m = h.full && not (h.memory == m.image.size)
+
+-- the right header, and that the file's is another
+abbrev pub other_memory : Seen → List ℕ → Answer
+other_memory m first = record { status = status.Differs 1; lines = lines m ++ (differs 1 first (right_header m)).lines }
+
+abbrev pub answer_of_start : Header → Seen → List ℕ → List FileLine → Answer
+answer_of_start h m first ls = if is_other_memory h m then other_memory m first else answer_of_run h m ls
+
+abbrev pub answer_of_header : Contents → List ℕ → Option Header → List FileLine → Answer
+answer_of_header image first None ls = bad_trace 1
+answer_of_header image first (Some h) ls = answer_of_start h (started image h.cpus h.budget) first ls
+
+-- what a file of these lines gives over an image
 abbrev pub answer_of_lines : Contents → List FileLine → Answer
-answer_of_lines image [] = not_built_at_all
-answer_of_lines image (None ∷ ls) = not_built_at_all
-answer_of_lines image (Some first ∷ ls) = answer_of_list image (header_of first) ls
+answer_of_lines image [] = bad_trace 1
+answer_of_lines image (None ∷ ls) = bad_trace 1
+answer_of_lines image (Some first ∷ ls) = answer_of_header image first (header_of first) ls

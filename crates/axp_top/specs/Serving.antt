@@ -4,7 +4,7 @@ use Rattle.axp_image.specs.Contents.{Contents, IsValid}
 use Rattle.axp_io.specs.Causes.{Ask, raised}
 use Rattle.axp_top.specs.declared.status.Status.{Status}
 use Rattle.axp_top.specs.declared.status.Status.TheVariants as status
-use Rattle.axp_top.specs.Answers.{answer_of_trace, answer_over, asks_by, image_told, read_fault_answer, trace_told}
+use Rattle.axp_top.specs.Answers.{answer_of_trace, answer_over, asks_by, image_told, read_fault, trace_told}
 use Rattle.axp_top.specs.Lawful.{image_over}
 use Rattle.axp_top.specs.Outside.{Outside}
 use Rattle.axp_top.specs.Printing.{Ends}
@@ -21,7 +21,7 @@ pub record EndsAs (before now : Outside) (answer : Answer) (asks : List Ask) (s 
 
 -- a fetch failed, and the work ended so
 pub record EndsUnread (before now : Outside) (asks : List Ask) (s : Status) : Type 0 where
-  pub ends : Ends before.sink now.sink read_fault_answer s
+  pub ends : Ends before.sink now.sink read_fault s
   pub count : now.desk.faults ≡ raised before.desk.faults 1
   pub failed : AsksFailed before.desk.asks now.desk.asks asks
 

@@ -1,14 +1,14 @@
 -- What each status says of the text, of the counts and of the asks.
-use Rattle.std.specs.Prelude.{◌≡◌, ◌⊎◌, ℕ, zero, suc, List, [], ◌∷◌, ◌++◌, length, IfSome, Option}
+use Rattle.std.specs.Prelude.{◌≡◌, ◌⊎◌, ℕ, List, [], ◌∷◌, ◌++◌, length, IfSome, Option}
 use Rattle.axp_image.specs.Contents.{AreBytes, Contents}
 use Rattle.axp_io.specs.Causes.{Ask, Appends, AppendsFront, Rose, raised}
 use Rattle.axp_trace.specs.Files.{lines_of}
 use Rattle.axp_top.specs.declared.status.Status.{Status}
 use Rattle.axp_top.specs.declared.status.Status.TheVariants as status
-use Rattle.axp_top.specs.Answers.{answer_over, asks_by, image_told, read_fault_answer, trace_told}
+use Rattle.axp_top.specs.Answers.{answer_over, asks_by, image_told, read_fault, trace_told}
 use Rattle.axp_top.specs.Lawful.{IsLawful, image_over}
 use Rattle.axp_top.specs.Outside.{DeskState, Outside, SinkState}
-use Rattle.axp_top.specs.Printing.{StopsAt}
+use Rattle.axp_top.specs.Printing.{LacksAt, StopsAt}
 use Rattle.axp_top.specs.Replays.{Answer, FileLine, text_of}
 use Rattle.axp_top.specs.Texts.{Lines}
 use Rattle.axp_top.specs.Words.{Order}
@@ -19,7 +19,7 @@ use Rattle.axp_top.specs.Words.{Order}
 abbrev pub PrintsFront : Outside → Outside → Answer → Type 0
 PrintsFront before now answer =
     AppendsFront before.sink.taken now.sink.taken (text_of answer)
-    ⊎ (AppendsFront before.sink.taken now.sink.taken (text_of read_fault_answer) × Rose before.desk.faults now.desk.faults)
+    ⊎ (AppendsFront before.sink.taken now.sink.taken (text_of read_fault) × Rose before.desk.faults now.desk.faults)
 
 -- the answer's text was printed, and the status is the answer's
 abbrev pub PrintsAnswer : Outside → Outside → Answer → Status → Type 0
@@ -27,13 +27,10 @@ PrintsAnswer before now answer s = (s ≡ answer.status) × Appends before.sink.
 
 -- the text printed, by the answer and the status
 abbrev pub Settles : Outside → Outside → Answer → Status → Type 0
-Settles before now answer status.Done = PrintsAnswer before now answer status.Done
-Settles before now answer (status.NotLegal n) = PrintsAnswer before now answer (status.NotLegal n)
-Settles before now answer (status.Incomplete n) = PrintsAnswer before now answer (status.Incomplete n)
-Settles before now answer (status.NotBuilt n) = PrintsAnswer before now answer (status.NotBuilt n)
-Settles before now answer status.ReadFault = PrintsAnswer before now read_fault_answer status.ReadFault
+Settles before now answer status.ReadFault = PrintsAnswer before now read_fault status.ReadFault
 Settles before now answer status.WriteFault = PrintsFront before now answer
 Settles before now answer status.Memory = PrintsFront before now answer
+Settles before now answer s = PrintsAnswer before now answer s
 
 -- ---- the puts: one for each line
 
@@ -45,41 +42,37 @@ PutsLines before now printed = now.puts ≡ raised before.puts (length printed)
 abbrev pub StopsIn : Outside → Outside → Answer → List ℕ → Type 0
 StopsIn before now answer part =
     StopsAt before.sink now.sink answer.lines part
-    ⊎ (StopsAt before.sink now.sink read_fault_answer.lines part × Rose before.desk.faults now.desk.faults)
+    ⊎ (StopsAt before.sink now.sink read_fault.lines part × Rose before.desk.faults now.desk.faults)
 
--- The puts by the answer and the status: one for each line; or, where the work stopped, one for each line
--- before and one for that in which it stopped, of which nothing is taken for want of memory. None, where
--- memory was not found before the first.
+-- memory was not found for a line of the answer, which was not put; or, where the desk counted a fault, for the read
+-- fault's
+abbrev pub LacksIn : Outside → Outside → Answer → Type 0
+LacksIn before now answer =
+    LacksAt before.sink now.sink answer.lines
+    ⊎ (LacksAt before.sink now.sink read_fault.lines × Rose before.desk.faults now.desk.faults)
+
+-- The puts by the answer and the status: one for each line; or, where the work stopped, one for each line before and
+-- one for that in which it stopped, of which nothing is taken for want of memory, or which was not put for want of it.
+-- None, where memory was not found before the first.
 abbrev pub PutsEach : Outside → Outside → Answer → Status → Type 0
-PutsEach before now answer status.Done = PutsLines before.sink now.sink answer.lines
-PutsEach before now answer (status.NotLegal n) = PutsLines before.sink now.sink answer.lines
-PutsEach before now answer (status.Incomplete n) = PutsLines before.sink now.sink answer.lines
-PutsEach before now answer (status.NotBuilt n) = PutsLines before.sink now.sink answer.lines
-PutsEach before now answer status.ReadFault = PutsLines before.sink now.sink read_fault_answer.lines
+PutsEach before now answer status.ReadFault = PutsLines before.sink now.sink read_fault.lines
 PutsEach before now answer status.WriteFault = (part : List ℕ) × StopsIn before now answer part
-PutsEach before now answer status.Memory = (now.sink ≡ before.sink) ⊎ StopsIn before now answer []
+PutsEach before now answer status.Memory = (now.sink ≡ before.sink) ⊎ (StopsIn before now answer [] ⊎ LacksIn before now answer)
+PutsEach before now answer s = PutsLines before.sink now.sink answer.lines
 
 -- ---- the counts of faults
 
 -- the sink's
 abbrev pub SinkCount : ℕ → ℕ → Status → Type 0
-SinkCount before now status.Done = now ≡ before
-SinkCount before now (status.NotLegal n) = now ≡ before
-SinkCount before now (status.Incomplete n) = now ≡ before
-SinkCount before now (status.NotBuilt n) = now ≡ before
-SinkCount before now status.ReadFault = now ≡ before
 SinkCount before now status.WriteFault = now ≡ raised before 1
-SinkCount before now status.Memory = now ≡ before
+SinkCount before now s = now ≡ before
 
 -- the desk's
 abbrev pub DeskCount : ℕ → ℕ → Status → Type 0
-DeskCount before now status.Done = now ≡ before
-DeskCount before now (status.NotLegal n) = now ≡ before
-DeskCount before now (status.Incomplete n) = now ≡ before
-DeskCount before now (status.NotBuilt n) = now ≡ before
 DeskCount before now status.ReadFault = now ≡ raised before 1
 DeskCount before now status.WriteFault = (now ≡ before) ⊎ (now ≡ raised before 1)
 DeskCount before now status.Memory = (now ≡ before) ⊎ (now ≡ raised before 1)
+DeskCount before now s = now ≡ before
 
 -- ---- the asks
 
@@ -95,29 +88,24 @@ pub record AsksFailed (before now asks : List Ask) : Type 0 where
   pub parted : asks ≡ good ++ failed ∷ rest
   pub made : now ≡ before ++ (good ++ failed ∷ [])
 
--- The asks by the command's list and the status: all of them where both files are needed, those up to the
--- one that failed for a read fault, else a front.
+-- The asks by the command's list and the status: a front of them where a file was refused, those up to the one that
+-- failed for a read fault, a front where the work stopped, else all.
 abbrev pub AsksInTurn : List Ask → List Ask → List Ask → Status → Type 0
-AsksInTurn before now asks status.Done = now ≡ before ++ asks
-AsksInTurn before now asks (status.NotLegal n) = now ≡ before ++ asks
-AsksInTurn before now asks (status.Incomplete n) = now ≡ before ++ asks
-AsksInTurn before now asks (status.NotBuilt zero) = AsksFront before now asks
-AsksInTurn before now asks (status.NotBuilt (suc n)) = now ≡ before ++ asks
+AsksInTurn before now asks (status.BadImage kind offset) = AsksFront before now asks
+AsksInTurn before now asks status.TooLong = AsksFront before now asks
 AsksInTurn before now asks status.ReadFault = AsksFailed before now asks
 AsksInTurn before now asks status.WriteFault = AsksFront before now asks
 AsksInTurn before now asks status.Memory = AsksFront before now asks
+AsksInTurn before now asks s = now ≡ before ++ asks
 
 -- The asks by what the first file leads to, and the status: just those where the work was done or refused,
 -- those up to the one that failed where the desk counted a fault.
 abbrev pub AsksNeeded : DeskState → DeskState → List Ask → Status → Type 0
-AsksNeeded before now asks status.Done = now.asks ≡ before.asks ++ asks
-AsksNeeded before now asks (status.NotLegal n) = now.asks ≡ before.asks ++ asks
-AsksNeeded before now asks (status.Incomplete n) = now.asks ≡ before.asks ++ asks
-AsksNeeded before now asks (status.NotBuilt n) = now.asks ≡ before.asks ++ asks
 AsksNeeded before now asks status.ReadFault = AsksFailed before.asks now.asks asks
 AsksNeeded before now asks status.WriteFault =
     (now.asks ≡ before.asks ++ asks) ⊎ (AsksFailed before.asks now.asks asks × Rose before.faults now.faults)
 AsksNeeded before now asks status.Memory = AsksFront before.asks now.asks asks
+AsksNeeded before now asks s = now.asks ≡ before.asks ++ asks
 
 -- ---- where the desk tells nothing
 
@@ -140,9 +128,13 @@ pub record SettlesSome (told : List ℕ → Option (List ℕ)) (before now : Out
 -- the number that the process ends with
 abbrev pub number_of_status : Status → ℕ
 number_of_status status.Done = 0
+number_of_status status.Usage = 1
 number_of_status status.ReadFault = 2
 number_of_status status.WriteFault = 3
+number_of_status (status.BadImage kind offset) = 4
+number_of_status (status.BadTrace n) = 5
 number_of_status (status.NotLegal n) = 6
+number_of_status (status.Differs n) = 7
 number_of_status (status.Incomplete n) = 9
+number_of_status status.TooLong = 10
 number_of_status status.Memory = 11
-number_of_status (status.NotBuilt n) = 12

@@ -2,6 +2,8 @@
 //! say, and answers with a status.
 #![tactic(auto)]
 
+mod events;
+mod file_tail;
 mod laws;
 mod limits;
 mod printing;
@@ -12,10 +14,9 @@ mod status;
 mod tail;
 #[cfg(test)]
 mod tests;
-mod words;
 
 pub use laws::{limits_of_files, no_fault_gives_the_whole_text};
 pub use limits::{MAX_IMAGE_BYTES, MAX_TRACE_BYTES};
 pub use serve::serve_plain;
 pub use status::Status;
-pub use words::Word;
+pub use axp_words::Word;

@@ -5,8 +5,10 @@ ghost use Rattle.axp_trace.specs.Lines.{with_feed};
 ghost use Rattle.axp_top.specs.Outside.{sink_state};
 ghost use Rattle.axp_top.specs.Printing.{Prints, Ends, IsRefusal, status_of_stop};
 ghost use Rattle.axp_top.specs.Replays.{answer_in_one_line};
+ghost use Rattle.axp_top.specs.declared.printing.Stop.TheVariants as stop;
 
 use crate::Status;
+use axp_base::{Bytes, NoMemory};
 use axp_io::{Sink, SinkFault};
 use axp_trace::{LINE_FEED, LineText};
 use std::alloc::Global;
@@ -18,6 +20,14 @@ pub enum Stop {
     WriteFault,
     /// Memory was not found.
     Memory,
+}
+
+impl From<NoMemory> for Stop {
+    ghost from_gives = { λ _ s. s ≡ stop.Memory };
+
+    fn from(_: NoMemory) -> Stop {
+        Stop::Memory
+    }
 }
 
 impl Stop {
@@ -52,6 +62,15 @@ pub fn print_line<K: Sink>(alloc: Global, sink: &mut K, mut line: LineText) -> R
         Prints (seen sink.old) (seen sink.new) (with_feed line.items ∷ []) result }
 {
     line.push(LINE_FEED);
+    print(alloc, sink, line.as_slice())
+}
+
+/// Prints a line of any length with its line feed, as one piece.
+pub fn print_long_line<K: Sink>(alloc: Global, sink: &mut K, mut line: Bytes) -> Result<(), Stop>
+    ensures { let seen = sink_state K.taken K.faults K.puts in
+        Prints (seen sink.old) (seen sink.new) (with_feed line ∷ []) result }
+{
+    line.append(alloc, &[LINE_FEED])?;
     print(alloc, sink, line.as_slice())
 }
 

@@ -1,179 +1,193 @@
-ghost use Rattle.std.specs.Prelude.{◌≡◌, [], IfOk, None};
+//! The run of a file's events over an image: its text, up to the first line that is refused.
+ghost use Rattle.std.specs.Prelude.{◌≡◌, ◌<◌, ◌≤◌, ◌^◌, [], length, IfOk};
+ghost use Rattle.arrayvec.specs.ArrayVec.{array_vec_len};
 ghost use Rattle.axp_trace.specs.Files.{lines_of};
-ghost use Rattle.axp_trace.specs.Reading.{event_of};
+ghost use Rattle.axp_trace.specs.declared.lines.TheConstants.{LINE_ROOM};
+ghost use Rattle.axp_top.specs.Texts.{right_header};
 ghost use Rattle.axp_top.specs.Outside.{sink_state};
-ghost use Rattle.axp_top.specs.Printing.{Ends, Prints, PrintsEvent, PrintsEvents};
-ghost use Rattle.axp_top.specs.Replays.{answer_of_lines, answer_of_replay, ending_of};
-ghost use Rattle.axp_top.specs.Replays.{not_built_at_all, record_of, refused_at};
+ghost use Rattle.axp_top.specs.Printing.{Ends};
+ghost use Rattle.axp_top.specs.Replays.{answer_of_lines, answer_of_run, answer_of_start, bad_trace};
+ghost use Rattle.axp_top.specs.Replays.{complete_ending, events_ending, is_other_memory, whole_ending};
+ghost use Rattle.axp_top.specs.Walks.{PrintsAnswer, PrintsEvents, result_parts};
 
 use crate::Status;
-use crate::refusals::Refusal;
+use crate::events::{Step, next_line, print_event};
+use crate::file_tail::print_tail_refusal;
 use crate::printing::{Stop, print_line, refuse};
+use crate::refusals::{print_bad_trace, print_difference, print_incomplete};
 use crate::tail::print_tail;
 use axp_image::Image;
 use axp_io::Sink;
-use axp_machine::{Machine, NotLegal};
-use axp_trace::{
-    first_line, read_event, read_header, write_event, write_header, write_incomplete,
-    write_not_built, write_not_legal,
-};
+use axp_machine::Machine;
+use axp_trace::{Header, LineText, first_line, read_header, write_bad_trace, write_header};
 use std::alloc::Global;
 
-/// Does the event of a line and prints its line. The answer is why it is refused, and then nothing
-/// is done or printed; a line that is no event is not built.
-fn print_event<K: Sink>(
+/// Does the events of a file's lines and prints a line for each, up to the first line that is
+/// refused, which is printed, or that begins the tail. Tells the status of the refusal, or the lines
+/// that are left where there is none.
+fn print_events<'a, K: Sink>(
     alloc: Global,
     sink: &mut K,
     machine: &mut Machine,
-    line: &[u8],
-) -> Result<Option<Refusal>, Stop>
+    header: &Header,
+    lines: &'a [u8],
+) -> Result<(Option<Status>, &'a [u8]), Stop>
     ensures { let seen = sink_state K.taken K.faults K.puts in
-        PrintsEvent (seen sink.old) (seen sink.new) machine.old machine.new
-        (record_of machine.old (event_of machine.old.cpus line.now)) result }
+        PrintsEvents (seen sink.old) (seen sink.new) header.now machine.old machine.new
+        (lines_of lines.now) (result_parts result) }
+    ensures rest { IfOk result (λ r. length r.1.now ≤ length lines.now) }
 {
-    let Some(event) = read_event(line, machine.cpus()) else {
-        return Ok(Some(Refusal::NotBuilt));
-    };
-    match machine.event(event) {
-        Err(NotLegal) => Ok(Some(Refusal::NotLegal)),
-        Ok(outcome) => {
-            print_line(alloc, sink, write_event(event, outcome))?;
-            Ok(None)
-        }
-    }
-}
-
-/// Does the events of a list's lines, up to the first line that is refused, and prints a line for
-/// each. The answer is why that line is refused; `None` where these are all lines.
-fn print_events<K: Sink>(
-    alloc: Global,
-    sink: &mut K,
-    machine: &mut Machine,
-    events: &[u8],
-) -> Result<Option<Refusal>, Stop>
-    ensures { let seen = sink_state K.taken K.faults K.puts in
-        PrintsEvents (seen sink.old) (seen sink.new) machine.old machine.new
-        (lines_of events.now) result }
-{
-    let mut rest = events;
+    let mut rest = lines;
     while let Some((line, more)) = first_line(rest) {
-        if let Some(refusal) = print_event(alloc, sink, machine, line)? {
-            return Ok(Some(refusal));
+        match print_event(alloc, sink, machine, header, line)? {
+            Step::Recorded => rest = more,
+            Step::OfTail => return Ok((None, rest)),
+            Step::Refused(status) => return Ok((Some(status), rest)),
         }
-        rest = more;
     }
     if rest.is_empty() {
-        Ok(None)
+        Ok((None, rest))
     } else {
-        Ok(Some(Refusal::NotBuilt))
+        let status = print_bad_trace(alloc, sink, next_line(machine))?;
+        Ok((Some(status), rest))
     }
 }
 
-/// Prints that an event is refused, and ends so.
-fn print_refused<K: Sink>(
+/// Prints the whole tail.
+fn print_whole<K: Sink>(alloc: Global, sink: &mut K, machine: &Machine) -> Result<Status, Stop>
+    ensures { let seen = sink_state K.taken K.faults K.puts in
+        PrintsAnswer (seen sink.old) (seen sink.new) (whole_ending machine.now) result }
+{
+    print_tail(alloc, sink, machine)?;
+    Ok(Status::Done)
+}
+
+/// Prints how a complete run ends: the file has no tail, or the right one, or its tail is refused.
+fn print_complete<K: Sink>(
     alloc: Global,
     sink: &mut K,
-    refusal: Refusal,
-    event: u32,
+    machine: &Machine,
+    header: &Header,
+    rest: &[u8],
 ) -> Result<Status, Stop>
-    ensures text { let seen = sink_state K.taken K.faults K.puts in
-        Prints (seen sink.old) (seen sink.new) (refused_at refusal event).lines result }
-    ensures status { IfOk result (λ s. s ≡ (refused_at refusal event).status) }
+    requires { length rest.now < 2 ^ 30 }
+    ensures { let seen = sink_state K.taken K.faults K.puts in
+        PrintsAnswer (seen sink.old) (seen sink.new)
+        (complete_ending header.now machine.now (lines_of rest.now)) result }
 {
-    match refusal {
-        Refusal::NotLegal => {
-            print_line(alloc, sink, write_not_legal(event))?;
-            Ok(Status::NotLegal { event })
-        }
-        Refusal::NotBuilt => {
-            print_line(alloc, sink, write_not_built(event))?;
-            Ok(Status::NotBuilt { event })
-        }
+    if rest.is_empty() {
+        return print_whole(alloc, sink, machine);
+    }
+    match print_tail_refusal(alloc, sink, machine, header, rest)? {
+        Some(status) => Ok(status),
+        None => print_whole(alloc, sink, machine),
     }
 }
 
-/// Prints how a list ends of which all lines were done.
-fn print_whole<K: Sink>(alloc: Global, sink: &mut K, machine: &Machine) -> Result<Status, Stop>
-    ensures text { let seen = sink_state K.taken K.faults K.puts in
-        Prints (seen sink.old) (seen sink.new) (ending_of machine.now None).lines result }
-    ensures status { IfOk result (λ s. s ≡ (ending_of machine.now None).status) }
-{
-    if machine.complete() {
-        print_tail(alloc, sink, machine)?;
-        Ok(Status::Done)
-    } else {
-        let event = machine.events();
-        print_line(alloc, sink, write_incomplete(event))?;
-        Ok(Status::Incomplete { event })
-    }
-}
-
-/// Prints how a run ends, by why a line was refused.
+/// Prints how a run ends whose events were all done.
 fn print_ending<K: Sink>(
     alloc: Global,
     sink: &mut K,
     machine: &Machine,
-    refused: Option<Refusal>,
+    header: &Header,
+    rest: &[u8],
 ) -> Result<Status, Stop>
-    ensures text { let seen = sink_state K.taken K.faults K.puts in
-        Prints (seen sink.old) (seen sink.new) (ending_of machine.now refused).lines result }
-    ensures status { IfOk result (λ s. s ≡ (ending_of machine.now refused).status) }
+    requires { length rest.now < 2 ^ 30 }
+    ensures { let seen = sink_state K.taken K.faults K.puts in
+        PrintsAnswer (seen sink.old) (seen sink.new)
+        (events_ending header.now machine.now (lines_of rest.now)) result }
 {
-    match refused {
-        None => print_whole(alloc, sink, machine),
-        Some(refusal) => print_refused(alloc, sink, refusal, machine.events() + 1),
+    if machine.complete() {
+        print_complete(alloc, sink, machine, header, rest)
+    } else {
+        print_incomplete(alloc, sink, machine.events())
     }
 }
 
-/// Prints the run of a list's lines over a machine at the start, and answers how it ended.
+/// The first line of the right trace.
+fn right_header(machine: &Machine) -> LineText
+    ensures text { result.items ≡ right_header machine.now }
+    ensures short { array_vec_len result < LINE_ROOM }
+{
+    write_header(machine.cpus(), machine.budget(), machine.memory_size())
+}
+
+/// Prints the run of a file's lines behind the first over a machine at the start.
 fn print_run<K: Sink>(
     alloc: Global,
     sink: &mut K,
     machine: &mut Machine,
-    events: &[u8],
+    header: &Header,
+    lines: &[u8],
 ) -> Result<Status, Stop>
-    requires { machine.old.records ≡ [] }
-    ensures text { let seen = sink_state K.taken K.faults K.puts in
-        Prints (seen sink.old) (seen sink.new)
-        (answer_of_replay machine.old (lines_of events.now)).lines result }
-    ensures status { IfOk result (λ s. s ≡
-        (answer_of_replay machine.old (lines_of events.now)).status) }
+    requires start { machine.old.records ≡ [] }
+    requires most { length lines.now < 2 ^ 30 }
+    ensures { let seen = sink_state K.taken K.faults K.puts in
+        PrintsAnswer (seen sink.old) (seen sink.new)
+        (answer_of_run header.now machine.old (lines_of lines.now)) result }
 {
-    let header = write_header(machine.cpus(), machine.budget(), machine.memory_size());
-    print_line(alloc, sink, header)?;
-    let refused = print_events(alloc, sink, machine, events)?;
-    print_ending(alloc, sink, machine, refused)
+    print_line(alloc, sink, right_header(machine))?;
+    let (refused, rest) = print_events(alloc, sink, machine, header, lines)?;
+    match refused {
+        Some(status) => Ok(status),
+        None => print_ending(alloc, sink, machine, header, rest),
+    }
 }
 
-/// Refuses what is not built, with nothing printed before.
-pub fn refuse_all<K: Sink>(alloc: Global, sink: &mut K) -> Status
+/// Prints what a file gives over a machine at the start: its run, or that it is a trace of another
+/// size of memory.
+fn print_file<K: Sink>(
+    alloc: Global,
+    sink: &mut K,
+    machine: &mut Machine,
+    header: &Header,
+    first: &[u8],
+    lines: &[u8],
+) -> Result<Status, Stop>
+    requires start { machine.old.records ≡ [] }
+    requires most { length lines.now < 2 ^ 30 }
     ensures { let seen = sink_state K.taken K.faults K.puts in
-        Ends (seen sink.old) (seen sink.new) not_built_at_all result }
+        PrintsAnswer (seen sink.old) (seen sink.new)
+        (answer_of_start header.now machine.old first.now (lines_of lines.now)) result }
+{
+    if header.full && header.memory != machine.memory_size() {
+        print_line(alloc, sink, right_header(machine))?;
+        print_difference(alloc, sink, 1, first, right_header(machine).as_slice())
+    } else {
+        print_run(alloc, sink, machine, header, lines)
+    }
+}
+
+/// Refuses a file whose first line is outside the grammar.
+fn refuse_file<K: Sink>(alloc: Global, sink: &mut K) -> Status
+    ensures { let seen = sink_state K.taken K.faults K.puts in
+        Ends (seen sink.old) (seen sink.new) (bad_trace 1) result }
 {
     refuse(
         alloc,
         sink,
-        write_not_built(0),
-        Status::NotBuilt { event: 0 },
+        write_bad_trace(1),
+        Status::BadTrace { line: 1 },
     )
 }
 
-/// Prints the run of an event list over an image.
-pub fn replay<K: Sink>(alloc: Global, sink: &mut K, image: &Image, list: &[u8]) -> Status
+/// Prints the run of an event list, or of a trace, over an image.
+pub fn replay<K: Sink>(alloc: Global, sink: &mut K, image: &Image, file: &[u8]) -> Status
+    requires { length file.now < 2 ^ 30 }
     ensures { let seen = sink_state K.taken K.faults K.puts in
         Ends (seen sink.old) (seen sink.new)
-        (answer_of_lines image.now (lines_of list.now)) result }
+        (answer_of_lines image.now (lines_of file.now)) result }
 {
-    let Some((first, events)) = first_line(list) else {
-        return refuse_all(alloc, sink);
+    let Some((first, lines)) = first_line(file) else {
+        return refuse_file(alloc, sink);
     };
     let Some(header) = read_header(first) else {
-        return refuse_all(alloc, sink);
+        return refuse_file(alloc, sink);
     };
     let Ok(mut machine) = Machine::load(alloc, image, header.cpus, header.budget) else {
         return Status::Memory;
     };
-    match print_run(alloc, sink, &mut machine, events) {
+    match print_file(alloc, sink, &mut machine, &header, first, lines) {
         Ok(status) => status,
         Err(stop) => stop.status(),
     }

@@ -1,33 +1,34 @@
 ghost use Rattle.std.specs.Prelude.{IfSome, Some};
 ghost use Rattle.axp_image.specs.Contents.{AreBytes};
 ghost use Rattle.axp_top.specs.declared.limits.TheConstants.{MAX_TRACE_BYTES};
-ghost use Rattle.axp_top.specs.Answers.{answer_of, asks_by, asks_of, read_fault_answer};
+ghost use Rattle.axp_top.specs.Answers.{answer_of, asks_by, asks_of, bad_image, read_fault};
+ghost use Rattle.axp_top.specs.Answers.{too_long, usage};
 ghost use Rattle.axp_top.specs.Answers.{image_in, image_told, trace_told};
-ghost use Rattle.axp_top.specs.Commands.{order_by};
 ghost use Rattle.axp_top.specs.Lawful.{image_of_file, lines_of_file};
 ghost use Rattle.axp_top.specs.Outside.{desk_state, outside_at, sink_state};
 ghost use Rattle.axp_top.specs.Printing.{Ends};
 ghost use Rattle.axp_top.specs.Serving.{Serves, ServesTrace};
+ghost use Rattle.axp_words.specs.Commands as commands;
 ghost use Rattle.axp_top.specs.Statuses.{AsksInTurn, AsksNeeded, DeskCount, PutsEach, SinkCount};
 ghost use Rattle.axp_top.specs.Statuses.{Settles, SettlesLawfully, SettlesSome};
-ghost use Rattle.axp_top.specs.Words.{Replay, order_of};
+ghost use Rattle.axp_top.specs.Words.{Replay, order_in, order_of};
 
 use crate::Status;
 use crate::limits::{MAX_IMAGE_BYTES, MAX_TRACE_BYTES};
 use crate::printing::refuse;
-use crate::replay::{refuse_all, replay};
-use crate::words::{Command, Word, read_words};
-use axp_image::{Image, ImageError, read_image};
+use crate::replay::replay;
+use axp_image::{Image, ImageError, ImageKind, read_image};
 use axp_io::{Desk, FetchFault, Sink};
-use axp_trace::write_read_fault;
+use axp_trace::{write_bad_image, write_read_fault, write_too_long, write_usage};
+use axp_words::{Command, Usage, Word, read_words};
 use std::alloc::Global;
 
 /// Does what the words say, and answers how it ended.
 ///
-/// The words must be `replay IMAGE TRACE`, where TRACE names an event list. The image is fetched
-/// and read before the event list is asked for; each line with its line feed is one put. What each
-/// status means is [`Status`]'s to say, and `docs/FORMATS.md` has the forms of both files and of
-/// the text.
+/// The words must be `replay IMAGE TRACE`, where TRACE names an event list or a trace. The image is
+/// fetched and read before that file is asked for; each line with its line feed is one put. What
+/// each status means is [`Status`]'s to say, and `docs/FORMATS.md` has the forms of both files and
+/// of the text.
 pub fn serve_plain<D: Desk, K: Sink>(
     alloc: Global,
     words: &[Word],
@@ -71,20 +72,20 @@ pub fn serve_plain<D: Desk, K: Sink>(
     serve_command(alloc, read_words(words), desk, sink)
 }
 
-/// Does what a command says; `None` is refused.
+/// Does what a command says; one that is not built is refused as words outside the grammar.
 fn serve_command<D: Desk, K: Sink>(
     alloc: Global,
-    command: Option<Command<'_>>,
+    command: Result<Command<'_>, Usage>,
     desk: &mut D,
     sink: &mut K,
 ) -> Status
     ensures { let at = outside_at D.faults D.asks K.taken K.faults K.puts in
-        Serves (D.told desk.old) (order_by command.entry)
+        Serves (D.told desk.old) (order_in (commands.order_by command.entry))
         (at desk.old sink.old) (at desk.new sink.new) result }
 {
     match command {
-        Some(Command::Replay { image, trace }) => replay_files(alloc, desk, sink, image, trace),
-        None => refuse_all(alloc, sink),
+        Ok(Command::Replay { image, trace }) => replay_files(alloc, desk, sink, image, trace),
+        Ok(Command::Seed { .. } | Command::Gen { .. }) | Err(Usage) => refuse_usage(alloc, sink),
     }
 }
 
@@ -103,11 +104,11 @@ fn replay_files<D: Desk, K: Sink>(
     match desk.fetch(alloc, image, MAX_IMAGE_BYTES) {
         Ok(bytes) => match read_image(alloc, bytes.as_slice()) {
             Ok(image) => replay_file(alloc, desk, sink, &image, trace),
-            Err(ImageError::Bad { .. }) => refuse_all(alloc, sink),
+            Err(ImageError::Bad { kind, offset }) => refuse_image(alloc, sink, kind, offset),
             Err(ImageError::Memory) => Status::Memory,
         },
         Err(FetchFault::Failed) => refuse_read_fault(alloc, sink),
-        Err(FetchFault::TooLong) => refuse_all(alloc, sink),
+        Err(FetchFault::TooLong) => refuse_long(alloc, sink),
         Err(FetchFault::Memory) => Status::Memory,
     }
 }
@@ -127,15 +128,40 @@ fn replay_file<D: Desk, K: Sink>(
     match desk.fetch(alloc, trace, MAX_TRACE_BYTES) {
         Ok(list) => replay(alloc, sink, image, list.as_slice()),
         Err(FetchFault::Failed) => refuse_read_fault(alloc, sink),
-        Err(FetchFault::TooLong) => refuse_all(alloc, sink),
+        Err(FetchFault::TooLong) => refuse_long(alloc, sink),
         Err(FetchFault::Memory) => Status::Memory,
     }
+}
+
+/// Refuses words that are no command that is built.
+fn refuse_usage<K: Sink>(alloc: Global, sink: &mut K) -> Status
+    ensures { let seen = sink_state K.taken K.faults K.puts in
+        Ends (seen sink.old) (seen sink.new) usage result }
+{
+    refuse(alloc, sink, write_usage(), Status::Usage)
+}
+
+/// Refuses a file that is too long.
+fn refuse_long<K: Sink>(alloc: Global, sink: &mut K) -> Status
+    ensures { let seen = sink_state K.taken K.faults K.puts in
+        Ends (seen sink.old) (seen sink.new) too_long result }
+{
+    refuse(alloc, sink, write_too_long(), Status::TooLong)
+}
+
+/// Refuses an image file with this first fault.
+fn refuse_image<K: Sink>(alloc: Global, sink: &mut K, kind: ImageKind, offset: u64) -> Status
+    ensures { let seen = sink_state K.taken K.faults K.puts in
+        Ends (seen sink.old) (seen sink.new) (bad_image (kind, offset)) result }
+{
+    let line = write_bad_image(kind.name().as_bytes(), offset);
+    refuse(alloc, sink, line, Status::BadImage { kind, offset })
 }
 
 /// Ends with a read fault, with nothing printed before.
 fn refuse_read_fault<K: Sink>(alloc: Global, sink: &mut K) -> Status
     ensures { let seen = sink_state K.taken K.faults K.puts in
-        Ends (seen sink.old) (seen sink.new) read_fault_answer result }
+        Ends (seen sink.old) (seen sink.new) read_fault result }
 {
     refuse(alloc, sink, write_read_fault(), Status::ReadFault)
 }

@@ -1,38 +1,58 @@
 ghost use Rattle.std.specs.Prelude.{◌≡◌};
 
-/// How the work ended.
+use axp_image::ImageKind;
+
+/// How the work ended, and the number that the process ends with (docs/FORMATS.md, "The status").
 #[derive(Clone, Copy, Debug, PartialEq, Eq)]
 pub enum Status {
     /// The work was done, and all of its text was taken.
     Done,
+    /// The words are no command that is built; the line `axp: usage` was taken, and nothing before
+    /// it.
+    Usage,
     /// The desk failed; the line `axp: read fault` was taken, and nothing before it.
     ReadFault,
     /// The sink failed; what it took is a front of the text or, where the desk had failed, of the
     /// line of a read fault.
     WriteFault,
+    /// The image file is no image; a line with this was taken, and nothing before it.
+    BadImage {
+        /// What its first fault is.
+        kind: ImageKind,
+        /// Where that lies, in bytes from the file's start.
+        offset: u64,
+    },
+    /// The line of this number, from 1, is the first that is outside the grammar. What comes of the
+    /// lines before it was taken, nothing where it is the first line, and a line that says so.
+    BadTrace {
+        /// The number of the line.
+        line: u32,
+    },
     /// The event of this number, from 1, is the first that is not legal; the trace of those before
     /// it was taken, and a line that says so.
     NotLegal {
-        /// The number of the event line.
+        /// The number of the event.
         event: u32,
     },
-    /// The list ends after this many events, and the machine is not complete: a processor is not
+    /// The line of this number, from 1, is the first of a trace that is another than the right one.
+    /// The header and the lines of the events before it were taken, and three lines: that it
+    /// differs, the trace's line, and the right one.
+    Differs {
+        /// The number of the line.
+        line: u32,
+    },
+    /// The events end, so many of them, and the machine is not complete: a processor is not
     /// finished, or a write waits in its buffer. The trace of the events was taken, and a line that
     /// says so.
     Incomplete {
-        /// How many events the list has.
+        /// How many events there are.
         event: u32,
     },
+    /// A file is longer than it may be; the line `axp: too long` was taken, and nothing before it.
+    TooLong,
     /// Memory was not found; what was taken is a front of the text or, where the desk had failed,
     /// of the line of a read fault.
     Memory,
-    /// The words, the image or the list's first line is of no form that is built (0); or the event
-    /// line of this number, from 1, is the first that is no event, or whose event is legal and not
-    /// built.
-    NotBuilt {
-        /// The number of the event line.
-        event: u32,
-    },
 }
 
 impl Status {
@@ -44,12 +64,16 @@ impl Status {
     {
         match self {
             Status::Done => 0,
+            Status::Usage => 1,
             Status::ReadFault => 2,
             Status::WriteFault => 3,
+            Status::BadImage { .. } => 4,
+            Status::BadTrace { .. } => 5,
             Status::NotLegal { .. } => 6,
+            Status::Differs { .. } => 7,
             Status::Incomplete { .. } => 9,
+            Status::TooLong => 10,
             Status::Memory => 11,
-            Status::NotBuilt { .. } => 12,
         }
     }
 }
