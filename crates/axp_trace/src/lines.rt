@@ -1,5 +1,5 @@
 //! What a line behind the first of an event list or a trace is.
-ghost use Rattle.std.specs.Prelude.{ℕ, List, ◌≡◌, ◌≢◌, ◌↔◌, Some, IsNone, true, false};
+ghost use Rattle.std.specs.Prelude.{ℕ, List, ◌≡◌, ◌≢◌, ◌↔◌, Some, IsNone, IfSome, true, false};
 ghost use Rattle.axp_access.specs.declared.Event.{Event};
 ghost use Rattle.axp_access.specs.declared.Outcome.{Outcome};
 ghost use Rattle.axp_access.specs.declared.tail_items.TailItem.{TailItem};
@@ -75,6 +75,7 @@ pub fn read_line(line: &[u8], header: &Header) -> Option<TraceLine>
     ensures value { result ≡ line_of header.now line.now }
     ensures spelled { (l : TraceLine) → (result ≡ Some l)
         ↔ SpellsLine header.now.full header.now.cpus line.now l }
+    ensures means { IfSome result (SpellsLine header.now.full header.now.cpus line.now) }
     ensures none { IsNone result
         ↔ ((l : TraceLine) → SpellsLine header.now.full header.now.cpus line.now l → ⊥) }
 {
