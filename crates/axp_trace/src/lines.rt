@@ -7,9 +7,13 @@ ghost use Rattle.axp_trace.specs.Lines.{line_text, tail_line};
 ghost use Rattle.axp_trace.specs.TraceLines.{line_of, line_by, as_record, SpellsLine};
 ghost use Rattle.axp_trace.specs.Records.{IsRecord};
 ghost use Rattle.axp_trace.specs.Tails.{IsItem};
+ghost use Rattle.axp_trace.specs.declared.fields.TheConstants.{BLANK, MOST_NUMBER};
 ghost use Rattle.axp_trace.specs.declared.headers.Header.{Header};
+ghost use Rattle.axp_trace.specs.declared.lines.TheConstants.{LINE_ROOM};
 ghost use Rattle.axp_trace.specs.declared.lines.TraceLine.{TraceLine};
 ghost use Rattle.axp_trace.specs.declared.lines.TraceLine.TheVariants.{Full, Tail};
+ghost use Rattle.axp_trace.specs.declared.records.TheConstants.{COLON};
+ghost use Rattle.axp_trace.specs.declared.tails.TheConstants.{MOST_HALT, MOST_REGISTER};
 
 use crate::Header;
 use crate::events::read_event;
@@ -70,7 +74,7 @@ fn read_either(line: &[u8], header: &Header) -> Option<TraceLine>
 /// What a line, without its line feed, is under the header of its file; `None` where it is outside
 /// the grammar: in an event list where it spells no event of a processor below the header's count,
 /// in a trace where it spells neither such an event with what came of it, nor a line of the tail
-/// (`docs/FORMATS.md`, "The event list" and "The trace").
+/// (`docs/FORMATS.md`, "The event list" and "Reading a trace").
 pub fn read_line(line: &[u8], header: &Header) -> Option<TraceLine>
     ensures value { result ≡ line_of header.now line.now }
     ensures spelled { (l : TraceLine) → (result ≡ Some l)
@@ -93,4 +97,14 @@ pub fn lines_are_read_back()
     ensures written { (h : Header) (line : List ℕ) (e : Event) (o : Outcome)
         → line_of h line ≡ Some (Full e o) → line_text e o ≡ line }
     ensures apart { (e : Event) (o : Outcome) (i : TailItem) → line_text e o ≢ tail_line i }
+{}
+
+/// The limits of the fields of lines, as numbers.
+pub fn limits_are_these()
+    ensures room { LINE_ROOM ≡ 96 }
+    ensures number { MOST_NUMBER ≡ 4294967295 }
+    ensures halt { MOST_HALT ≡ 4 }
+    ensures register { MOST_REGISTER ≡ 30 }
+    ensures blank { BLANK ≡ 32 }
+    ensures colon { COLON ≡ 58 }
 {}
