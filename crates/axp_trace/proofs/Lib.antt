@@ -2,19 +2,23 @@
 pub mod DigitLemmas
 pub mod SpellingLemmas
 pub mod LineLemmas
--- what is read: the lines of a file, words, acts, whole lines
+-- what is read, from below: the lines of a file, words, fields, events
 pub mod FileLemmas
 pub mod ReadingLemmas
 pub mod ActNameLemmas
 pub mod MemoryLineLemmas
-pub mod ReadBackLemmas
-pub mod ConsoleLemmas
-pub mod TailLemmas
 pub mod WordLemmas
+pub mod ReadBackLemmas
+-- first lines
+pub mod HeaderLemmas
+-- records: cut at the colon, printed and read, read and printed, both
 pub mod ColonLemmas
 pub mod RecordLemmas
 pub mod MeantLemmas
 pub mod RecordLawLemmas
-pub mod HeaderLemmas
+-- the tail: the console's line, the others, all
+pub mod ConsoleLemmas
+pub mod TailLemmas
 pub mod TailLawLemmas
+-- any line
 pub mod TraceLineLemmas

@@ -1,5 +1,5 @@
 -- What a line behind the first is.
-use Rattle.std.proofs.Common.{◌≡◌, ◌≢◌, ℕ, ◌<◌, ◌≤◌, ◌↔◌, Bool, true, false, List, [], ◌∷◌, ◌++◌, length, codes, decimal, Option, Some, None, IsNone, refl, sym, ap, ◌∙◌, arith, subst, append_assoc}
+use Rattle.std.proofs.Common.{◌≡◌, ◌≢◌, ℕ, ◌<◌, ◌≤◌, ◌↔◌, Bool, true, false, List, [], ◌∷◌, ◌++◌, length, codes, decimal, Option, Some, None, IsNone, IfSome, refl, sym, ap, ◌∙◌, arith, subst, append_assoc}
 use Rattle.std.specs.List.{All}
 use Rattle.std.proofs.lemmas.Fmt.{decimal_nonempty}
 use Rattle.std.proofs.lemmas.List.Elements.{All-head}
@@ -89,20 +89,25 @@ tail_not_record cpus line i is = by (record_of cpus line) refl
 
 pub line_is_spelled : (full : Bool) (cpus : ℕ) (line : List ℕ) (l : TraceLine) → (line_by full cpus line ≡ Some l) ↔ SpellsLine full cpus line l
 line_is_spelled false cpus line (Bare e) = (
-  λ h. (event_is_text cpus line e).0 ((bare_is (event_of cpus line) e).0 h),
-  λ h. (bare_is (event_of cpus line) e).1 ((event_is_text cpus line e).1 h),
+  λ h. (refl, (event_is_text cpus line e).0 ((bare_is (event_of cpus line) e).0 h)),
+  λ h. (bare_is (event_of cpus line) e).1 ((event_is_text cpus line e).1 h.1),
 )
-line_is_spelled false cpus line (Full e o) = (λ h. let other = bare_only (event_of cpus line) (Full e o) h in cc, λ h. absurd h)
-line_is_spelled false cpus line Tail = (λ h. let other = bare_only (event_of cpus line) Tail h in cc, λ h. absurd h)
-line_is_spelled true cpus line (Bare e) = (λ h. full_not_bare (record_of cpus line) (tail_of cpus line) e h, λ h. absurd h)
+line_is_spelled false cpus line (Full e o) = (λ h. let other = bare_only (event_of cpus line) (Full e o) h in cc, λ h. let no = h.0 in cc)
+line_is_spelled false cpus line Tail = (λ h. let other = bare_only (event_of cpus line) Tail h in cc, λ h. let no = h.0 in cc)
+line_is_spelled true cpus line (Bare e) = (λ h. absurd (full_not_bare (record_of cpus line) (tail_of cpus line) e h), λ h. let no = h.0 in cc)
 line_is_spelled true cpus line (Full e o) = (
-  λ h. (record_is_text cpus line (as_record e o)).0 ((full_is (record_of cpus line) (tail_of cpus line) e o).0 h),
-  λ h. (full_is (record_of cpus line) (tail_of cpus line) e o).1 ((record_is_text cpus line (as_record e o)).1 h),
+  λ h. (refl, (record_is_text cpus line (as_record e o)).0 ((full_is (record_of cpus line) (tail_of cpus line) e o).0 h)),
+  λ h. (full_is (record_of cpus line) (tail_of cpus line) e o).1 ((record_is_text cpus line (as_record e o)).1 h.1),
 )
 line_is_spelled true cpus line Tail = (
-  λ h. tail_is cpus line (record_of cpus line) (tail_of cpus line) refl h,
-  λ h. ap (λ r. full_by r (tail_of cpus line)) (tail_not_record cpus line h.0 h.1.0) ∙ ap tail_by ((tail_is_text cpus line h.0).1 h.1),
+  λ h. (refl, tail_is cpus line (record_of cpus line) (tail_of cpus line) refl h),
+  λ h. ap (λ r. full_by r (tail_of cpus line)) (tail_not_record cpus line h.1.0 h.1.1.0) ∙ ap tail_by ((tail_is_text cpus line h.1.0).1 h.1.1),
 )
+
+-- what is meant is spelled
+pub some_is_spelled : (o : Option TraceLine) (P : TraceLine → Type 0) → ((l : TraceLine) → (o ≡ Some l) ↔ P l) → IfSome o P
+some_is_spelled None P each = tt
+some_is_spelled (Some l) P each = (each l).0 refl
 
 -- no line is meant exactly where none is spelled
 pub none_is_spelled : (o : Option TraceLine) (P : TraceLine → Type 0) → ((l : TraceLine) → (o ≡ Some l) ↔ P l) → IsNone o ↔ ((l : TraceLine) → P l → ⊥)
@@ -120,16 +125,12 @@ read_is_spelled h line r is l = (
 
 pub record_read_back : (h : Header) (e : Event) (o : Outcome) → h.full ≡ true → IsRecord h.cpus (as_record e o) → line_of h (line_text e o) ≡ Some (Full e o)
 unfolding line_of
-record_read_back h e o full is = ap (λ f. line_by f h.cpus (line_text e o)) full ∙ (line_is_spelled true h.cpus (line_text e o) (Full e o)).1 (refl, is)
+record_read_back h e o full is = (line_is_spelled h.full h.cpus (line_text e o) (Full e o)).1 (full, (refl, is))
 
 pub tail_read_back : (h : Header) (i : TailItem) → h.full ≡ true → IsItem h.cpus i → line_of h (tail_line i) ≡ Some Tail
 unfolding line_of
-tail_read_back h i full is = ap (λ f. line_by f h.cpus (tail_line i)) full ∙ (line_is_spelled true h.cpus (tail_line i) Tail).1 (i, (refl, is))
+tail_read_back h i full is = (line_is_spelled h.full h.cpus (tail_line i) Tail).1 (full, (i, (refl, is)))
 
 pub written_again : (h : Header) (line : List ℕ) (e : Event) (o : Outcome) → line_of h line ≡ Some (Full e o) → line_text e o ≡ line
 unfolding line_of
-written_again h line e o is = by h.full is
-  where
-    by : (full : Bool) → line_by full h.cpus line ≡ Some (Full e o) → line_text e o ≡ line
-    by true is = sym ((line_is_spelled true h.cpus line (Full e o)).0 is).0
-    by false is = absurd ((line_is_spelled false h.cpus line (Full e o)).0 is)
+written_again h line e o is = sym ((line_is_spelled h.full h.cpus line (Full e o)).0 is).1.0

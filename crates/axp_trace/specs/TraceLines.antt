@@ -47,11 +47,8 @@ as_record e o = record { event = e; outcome = o }
 abbrev pub IsTailLine : ℕ → List ℕ → Type 0
 IsTailLine cpus line = (i : TailItem) × ((line ≡ tail_line i) × IsItem cpus i)
 
--- the line of a trace, or of an event list, for so many processors is the text of this
+-- the line of a trace, or else of an event list, for so many processors is the text of this
 abbrev pub SpellsLine : Bool → ℕ → List ℕ → TraceLine → Type 0
-SpellsLine false cpus line (Bare e) = (line ≡ event_text e) × (cpu_number e.cpu < cpus) × IsNamed e.act
-SpellsLine false cpus line (Full e o) = ⊥
-SpellsLine false cpus line Tail = ⊥
-SpellsLine true cpus line (Bare e) = ⊥
-SpellsLine true cpus line (Full e o) = (line ≡ line_text e o) × IsRecord cpus (as_record e o)
-SpellsLine true cpus line Tail = IsTailLine cpus line
+SpellsLine full cpus line (Bare e) = (full ≡ false) × ((line ≡ event_text e) × (cpu_number e.cpu < cpus) × IsNamed e.act)
+SpellsLine full cpus line (Full e o) = (full ≡ true) × ((line ≡ line_text e o) × IsRecord cpus (as_record e o))
+SpellsLine full cpus line Tail = (full ≡ true) × IsTailLine cpus line

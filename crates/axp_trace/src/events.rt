@@ -147,8 +147,8 @@ fn event_line(event: Event) -> LineText
     out
 }
 
-/// The event that a line spells, in a list for this many processors; `None` where the line is the
-/// text of no event of one of them.
+/// The event that a line, without its line feed, spells in a list for this many processors; `None`
+/// where the line is the text of no event of one of them (`docs/FORMATS.md`, "The event list").
 #[tactic(auto, unfolding(crate::specs::Reading::event_of), using(crate::proofs::ReadingLemmas::event_in_long, crate::proofs::ActNameLemmas::named_event))]
 pub fn read_event(line: &[u8], cpus: u8) -> Option<Event>
     ensures value { result ≡ event_of cpus line.now }

@@ -27,8 +27,8 @@ pub struct Header {
     pub memory: u64,
 }
 
-/// The first line of a trace: the number of processors, the steps that each makes at most, and the
-/// bytes of memory.
+/// The first line of a trace, without its line feed: the number of processors, the steps that each
+/// makes at most, and the bytes of memory, below 2^32 (`docs/FORMATS.md`, "The trace").
 #[tactic(auto, unfolding(crate::specs::Lines::trace_header))]
 pub fn write_header(cpus: u8, budget: u32, memory: u64) -> LineText
     requires { memory < 2 ^ 32 }
@@ -106,8 +106,9 @@ fn guess_header(words: &[&[u8]]) -> Option<Header>
     }
 }
 
-/// The header that the first line of an event list or a trace spells; `None` where the line is the
-/// text of no header with such numbers.
+/// The header that the first line of an event list or a trace, without its line feed, spells; `None`
+/// where the line is the text of no header with numbers in range (`docs/FORMATS.md`, "The event
+/// list" and "Reading a trace").
 #[tactic(auto, unfolding(crate::specs::Reading::header_of), using(crate::proofs::ReadingLemmas::header_in_long))]
 pub fn read_header(line: &[u8]) -> Option<Header>
     ensures value { result ≡ header_of line.now }

@@ -18,7 +18,7 @@ pub use digits::{decimal_gives_back, hex_gives_back};
 pub use events::{events_are_their_texts, read_event};
 pub use files::{LINE_FEED, first_line, line_feed_is_10, lines_are_whole, lines_begin};
 pub use headers::{Header, headers_are_their_texts, read_header, write_header};
-pub use lines::{LINE_ROOM, LineText, TraceLine, lines_are_read_back, read_line};
+pub use lines::{LINE_ROOM, LineText, TraceLine, limits_are_these, lines_are_read_back, read_line};
 pub use records::{records_are_their_texts, write_event};
 pub use refusals::{
     MOST_KIND, write_bad_image, write_bad_trace, write_differs, write_given, write_incomplete,

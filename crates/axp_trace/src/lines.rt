@@ -1,5 +1,5 @@
 //! What a line behind the first of an event list or a trace is.
-ghost use Rattle.std.specs.Prelude.{ℕ, List, ◌≡◌, ◌≢◌, ◌↔◌, Some, IsNone, true, false};
+ghost use Rattle.std.specs.Prelude.{ℕ, List, ◌≡◌, ◌≢◌, ◌↔◌, Some, IsNone, IfSome, true, false};
 ghost use Rattle.axp_access.specs.declared.Event.{Event};
 ghost use Rattle.axp_access.specs.declared.Outcome.{Outcome};
 ghost use Rattle.axp_access.specs.declared.tail_items.TailItem.{TailItem};
@@ -7,9 +7,13 @@ ghost use Rattle.axp_trace.specs.Lines.{line_text, tail_line};
 ghost use Rattle.axp_trace.specs.TraceLines.{line_of, line_by, as_record, SpellsLine};
 ghost use Rattle.axp_trace.specs.Records.{IsRecord};
 ghost use Rattle.axp_trace.specs.Tails.{IsItem};
+ghost use Rattle.axp_trace.specs.declared.fields.TheConstants.{BLANK, MOST_NUMBER};
 ghost use Rattle.axp_trace.specs.declared.headers.Header.{Header};
+ghost use Rattle.axp_trace.specs.declared.lines.TheConstants.{LINE_ROOM};
 ghost use Rattle.axp_trace.specs.declared.lines.TraceLine.{TraceLine};
 ghost use Rattle.axp_trace.specs.declared.lines.TraceLine.TheVariants.{Full, Tail};
+ghost use Rattle.axp_trace.specs.declared.records.TheConstants.{COLON};
+ghost use Rattle.axp_trace.specs.declared.tails.TheConstants.{MOST_HALT, MOST_REGISTER};
 
 use crate::Header;
 use crate::events::read_event;
@@ -70,11 +74,12 @@ fn read_either(line: &[u8], header: &Header) -> Option<TraceLine>
 /// What a line, without its line feed, is under the header of its file; `None` where it is outside
 /// the grammar: in an event list where it spells no event of a processor below the header's count,
 /// in a trace where it spells neither such an event with what came of it, nor a line of the tail
-/// (`docs/FORMATS.md`, "The event list" and "The trace").
+/// (`docs/FORMATS.md`, "The event list" and "Reading a trace").
 pub fn read_line(line: &[u8], header: &Header) -> Option<TraceLine>
     ensures value { result ≡ line_of header.now line.now }
     ensures spelled { (l : TraceLine) → (result ≡ Some l)
         ↔ SpellsLine header.now.full header.now.cpus line.now l }
+    ensures means { IfSome result (SpellsLine header.now.full header.now.cpus line.now) }
     ensures none { IsNone result
         ↔ ((l : TraceLine) → SpellsLine header.now.full header.now.cpus line.now l → ⊥) }
 {
@@ -92,4 +97,14 @@ pub fn lines_are_read_back()
     ensures written { (h : Header) (line : List ℕ) (e : Event) (o : Outcome)
         → line_of h line ≡ Some (Full e o) → line_text e o ≡ line }
     ensures apart { (e : Event) (o : Outcome) (i : TailItem) → line_text e o ≢ tail_line i }
+{}
+
+/// The limits of the fields of lines, as numbers.
+pub fn limits_are_these()
+    ensures room { LINE_ROOM ≡ 96 }
+    ensures number { MOST_NUMBER ≡ 4294967295 }
+    ensures halt { MOST_HALT ≡ 4 }
+    ensures register { MOST_REGISTER ≡ 30 }
+    ensures blank { BLANK ≡ 32 }
+    ensures colon { COLON ≡ 58 }
 {}

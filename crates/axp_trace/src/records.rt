@@ -107,7 +107,9 @@ fn push_outcome(out: &mut LineText, event: Event, outcome: Outcome)
     }
 }
 
-/// The line of an event and its outcome in a trace.
+/// The line of an event and its outcome in a trace, without its line feed, in at most 64 bytes
+/// (`docs/FORMATS.md`, "The trace"). The outcome is to be one of the event's, with its numbers in
+/// the ranges that are printed.
 #[tactic(auto, unfolding(crate::specs::Lines::line_text))]
 pub fn write_event(event: Event, outcome: Outcome) -> LineText
     requires { Spells event outcome }

@@ -1,4 +1,5 @@
-//! The lines that say why nothing more is printed.
+//! The lines that say why nothing more is printed, without their line feeds (`docs/FORMATS.md`, "Where
+//! the trace ends early").
 ghost use Rattle.std.specs.Prelude.{◌≡◌, ◌+◌, ◌≤◌, ◌<◌, ◌++◌, decimal, length, IfOk};
 ghost use Rattle.arrayvec.specs.ArrayVec.{array_vec_len};
 ghost use Rattle.axp_trace.specs.declared.lines.TheConstants.{LINE_ROOM};
@@ -69,8 +70,8 @@ pub fn write_too_long() -> LineText
     fixed(b"axp: too long")
 }
 
-/// The line of an image file with a fault of this kind, of which the name is given, at this offset
-/// in bytes.
+/// The line of an image file with a fault of this kind, of which the name is given, in at most
+/// [`MOST_KIND`] bytes, at this offset in bytes.
 #[tactic(auto, unfolding(crate::specs::Lines::bad_image_line))]
 pub fn write_bad_image(kind: &[u8], offset: u64) -> LineText
     requires { length kind.now ≤ MOST_KIND }

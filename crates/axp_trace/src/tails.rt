@@ -150,9 +150,9 @@ fn write_console(alloc: Global, bytes: &[u8]) -> Result<Bytes, NoMemory>
     Ok(line)
 }
 
-/// The line of an item of a trace's tail, without its line feed; an `Err` says that memory was not
-/// found for it. An item in the ranges of [`TailItem`], 0 included in a register, is read back as a
-/// line of the tail.
+/// The line of an item of a trace's tail, without its line feed (`docs/FORMATS.md`, "The trace"); an
+/// `Err` says that memory was not found for it. Each item in the ranges of [`TailItem`] is read back
+/// from its line, also with more steps, or with a register that is 0.
 pub fn write_tail(alloc: Global, item: &TailItem) -> Result<Bytes, NoMemory>
     ensures { IfOk result (λ line. line ≡ tail_line item.now) }
 {
