@@ -16,11 +16,12 @@ use Rattle.axp_model.specs.Entries.{Waiting, Buffer, buffer, buffer_after, entry
 use Rattle.axp_model.specs.EntryStates.{entry_state, is_drained, is_entry, is_written, writes_entry}
 use Rattle.axp_model.specs.Records.{drains, is_of}
 use Rattle.axp_model.specs.Turns.{drained}
+use Rattle.axp_laws.specs.EntryLaws.{IsNumbered}
 use Rattle.axp_laws.proofs.EntryGroups.{has_counted, remains}
 use Rattle.axp_laws.proofs.OrderDrains.{of_age_waits}
-use Rattle.axp_laws.proofs.RunFacts.{Fits, FitsOutcome, Fitting, Named}
+use Rattle.axp_laws.proofs.RunFacts.{Fits, FitsOutcome, Fitting, Named, SoundBuffer}
 use Rattle.axp_laws.proofs.RunKnown.{joins_waits, waits_has}
-use Rattle.axp_laws.proofs.RunSteps.{kept}
+use Rattle.axp_laws.proofs.RunSteps.{fresh_entry, kept}
 
 -- an access that fits stands at an entry where it is a plain write
 entry_shown : (k : Kind) (p l n : ℕ) (y : Bool) (at : Place) (h : List Record) → Fits k p l y at h → is_entry n at ≡ (is_plain_write k && eqb (entry_for l (buffer p h)) n)
@@ -37,9 +38,6 @@ entry_shown kind.Console p l n y at h fit = ap (is_entry n) fit
 entry_shown kind.Poll p l n y at h fit = ap (is_entry n) fit
 
 -- the entries written are those numbered from 1 to the number made
-abbrev pub IsNumbered : ℕ → ℕ → Type 0
-IsNumbered made n = (1 ≤ n) × (n ≤ made)
-
 abbrev pub Exactly : Bool → ℕ → ℕ → Type 0
 Exactly written made n = (written ≡ true) ↔ IsNumbered made n
 
@@ -168,9 +166,49 @@ state_shown p n h fit =
     (cases_Bool (is_drained p n h)))
     (λ (never : is_made b.made n ≡ false).
     let unwritten : is_written p n h ≡ false =
-        ⊎_elim (λ (is : is_written p n h ≡ true). absurd (false≢true (sym never ∙ made_of b.made n (written.0 is)))) (λ (not_ : is_written p n h ≡ false). not_) (cases_Bool (is_written p n h)) in
+    ⊎_elim (λ (is : is_written p n h ≡ true). absurd (false≢true (sym never ∙ made_of b.made n (written.0 is)))) (λ (not_ : is_written p n h ≡ false). not_) (cases_Bool (is_written p n h)) in
     let undrained : is_drained p n h ≡ false =
-        ⊎_elim (λ (is : is_drained p n h ≡ true). absurd (false≢true (sym unwritten ∙ drained_written p n h fit is))) (λ (not_ : is_drained p n h ≡ false). not_) (cases_Bool (is_drained p n h)) in
+    ⊎_elim (λ (is : is_drained p n h ≡ true). absurd (false≢true (sym unwritten ∙ drained_written p n h fit is))) (λ (not_ : is_drained p n h ≡ false). not_) (cases_Bool (is_drained p n h)) in
     rw (gone, never, unwritten, undrained) refl)
     (cases_Bool (is_made b.made n)))
     (cases_Bool (has_number n b.waiting))
+
+-- the states, by what they say
+state_waits : (waits made : Bool) → (state_by waits made ≡ entry.Waiting) ↔ (waits ≡ true)
+state_waits true made = (λ _. refl, λ _. refl)
+state_waits false true = (λ is. cc, λ is. absurd (false≢true is))
+state_waits false false = (λ is. cc, λ is. absurd (false≢true is))
+
+state_drained : (left written : Bool) → (cond left entry.Drained (cond written entry.Waiting entry.Unwritten) ≡ entry.Drained) ↔ (left ≡ true)
+state_drained true written = (λ _. refl, λ _. refl)
+state_drained false true = (λ is. cc, λ is. absurd (false≢true is))
+state_drained false false = (λ is. cc, λ is. absurd (false≢true is))
+
+pub waiting_exactly : (p n : ℕ) (h : List Record) → Fitting h → (entry_state p n h ≡ entry.Waiting) ↔ (has_number n (buffer p h).waiting ≡ true)
+waiting_exactly p n h fit =
+    subst (λ s. (s ≡ entry.Waiting) ↔ (has_number n (buffer p h).waiting ≡ true)) (state_shown p n h fit) (state_waits (has_number n (buffer p h).waiting) (is_made (buffer p h).made n))
+
+pub drained_exactly : (h : List Record) (p n : ℕ) → (entry_state p n h ≡ entry.Drained) ↔ (is_some (drained h p n) ≡ true)
+drained_exactly h p n = subst (λ b. (entry_state p n h ≡ entry.Drained) ↔ (b ≡ true)) (drained_some p n h) (state_drained (is_drained p n h) (is_written p n h))
+
+-- a drain names an entry that waits
+pub drains_waiting : (r : Record) (h : List Record) → Fitting (r ∷ h) → (n : ℕ) → drains n r.outcome ≡ true → entry_state r.event.cpu.number n h ≡ entry.Waiting
+drains_waiting r h fit n named = (waiting_exactly r.event.cpu.number n h fit.1).1 (named_waits r.event.cpu.number n r.outcome h fit.0 named)
+
+-- the entry of a write has no turn yet
+fresh_written : (p n : ℕ) (o : Outcome) (h : List Record) → FitsOutcome p o h → SoundBuffer (buffer p h) (drained h p) → writes_entry n o ≡ true → drained h p n ≡ None
+fresh_written p n (outcome.Access a) h fit sound written =
+    let both = and_parts (is_plain_write a.kind) (eqb (entry_for (line_of a.address) (buffer p h)) n) (sym (entry_shown a.kind p (line_of a.address) n a.yes a.place h fit.2) ∙ written) in
+    subst (λ m. drained h p m ≡ None) (eqb-true (entry_for (line_of a.address) (buffer p h)) n both.1) (fresh_entry p (line_of a.address) h sound)
+fresh_written p n (outcome.Drained m l t) h fit sound written = absurd (false≢true written)
+fresh_written p n outcome.NoAccess h fit sound written = absurd (false≢true written)
+fresh_written p n (outcome.Filled x y z) h fit sound written = absurd (false≢true written)
+fresh_written p n (outcome.Taken x y z) h fit sound written = absurd (false≢true written)
+fresh_written p n outcome.Done h fit sound written = absurd (false≢true written)
+fresh_written p n (outcome.Polled x y z) h fit sound written = absurd (false≢true written)
+
+pub writes_undrained : (r : Record) (h : List Record) → Fitting (r ∷ h) → (n : ℕ) → writes_entry n r.outcome ≡ true → entry_state r.event.cpu.number n h ≡ entry.Drained → ⊥
+writes_undrained r h fit n written left =
+    let p : ℕ = r.event.cpu.number in
+    let none = fresh_written p n r.outcome h fit.0 ((kept h fit.1).sound p) written in
+    false≢true (sym (ap (λ o. is_some o) none) ∙ (drained_exactly h p n).0 left)
