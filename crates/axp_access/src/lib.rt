@@ -1,6 +1,7 @@
 //! The types of events, accesses and outcomes, and of the lines of a trace.
 #![tactic(auto)]
 
+mod entry_states;
 mod event_lists;
 mod offers;
 mod tail_items;
@@ -8,6 +9,7 @@ mod tail_items;
 use axp_base::WBUF_ENTRIES;
 pub use axp_base::{Bank, Bytes, Cpu, Line};
 pub use axp_regs::{Ask, Kind};
+pub use entry_states::EntryState;
 pub use event_lists::EventList;
 pub use offers::{MAX_DROPS, Offer};
 pub use tail_items::TailItem;

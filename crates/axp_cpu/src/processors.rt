@@ -4,6 +4,7 @@ ghost use Rattle.axp_access.specs.declared.Act.{Act};
 ghost use Rattle.axp_access.specs.declared.Act.TheVariants.{Step};
 ghost use Rattle.axp_base.specs.declared.processors.TheConstants.{MAX_BUDGET, MAX_CPUS, MIN_CPUS};
 ghost use Rattle.axp_base.specs.Cpus.{cpu_number};
+ghost use Rattle.axp_lsu.specs.EntryStates.{entry_in};
 ghost use Rattle.axp_lsu.specs.Fitting.{ShowsFitting};
 ghost use Rattle.axp_lsu.specs.Going.{is_entered};
 ghost use Rattle.axp_lsu.specs.Offering.{full_bank, is_open};
@@ -18,7 +19,7 @@ ghost use Rattle.axp_regs.specs.States.{with_fetched};
 
 use crate::refusals::NotLegal;
 use crate::sequencers::Sequencer;
-use axp_access::{Act, Intent, Offer, Outcome};
+use axp_access::{Act, EntryState, Intent, Offer, Outcome};
 use axp_base::Cpu;
 use axp_image::Image;
 use axp_line::Reply;
@@ -90,6 +91,13 @@ impl Processor {
         ensures { (a : Actor) → IsAt self.now a → result ≡ (length a.kept.buffer.kept == 0) }
     {
         self.unit.is_drained()
+    }
+
+    /// How far the entry of this number of its write buffer has come; entries are numbered from 1.
+    pub fn entry(&self, number: u32) -> EntryState
+        ensures { (a : Actor) → IsAt self.now a → result ≡ entry_in number a.kept.buffer }
+    {
+        self.unit.entry(number)
     }
 
     /// What an act asks of the bus; [`NotLegal`] exactly where it is not legal, whether something is

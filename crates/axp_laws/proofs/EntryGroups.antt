@@ -138,7 +138,7 @@ remains_own (outcome.Taken x y z) b t n turn was = was
 remains_own outcome.Done b t n turn was = was
 remains_own (outcome.Polled x y z) b t n turn was = was
 
-remains : (p n : ℕ) (h : List Record) → Remains (buffer p h) (drained h p n) n
+pub remains : (p n : ℕ) (h : List Record) → Remains (buffer p h) (drained h p n) n
 remains p n [] = λ low high none. absurd (omega (arith, low, high))
 remains p n (r ∷ h) =
     ⊎_elim
@@ -155,13 +155,19 @@ has_among n (x ∷ es) e =
     (λ there. let rest = has_among n es there in (rest.0, inr rest.1, rest.2))
     (or_cases (eqb x.number n) (has_number n es) e)
 
+-- a number that waits is one of those so far
+pub has_counted : (p n : ℕ) (h : List Record) → has_number n (buffer p h).waiting ≡ true → (1 ≤ n) × (n ≤ (buffer p h).made)
+has_counted p n h has =
+    let found = has_among n (buffer p h).waiting has in
+    let within = among_all (Within (buffer p h).made (buffer p h).age) (buffer p h).waiting found.0 (in_row p h).each found.1 in
+    (omega (arith, found.2, within.counted), omega (arith, found.2, within.made))
+
 pub waits_exactly : (image : ℕ → ℕ) (ps : Processors) (h : List Record) → AreInLine ps → IsRun image ps h → (p n : ℕ) → (has_number n (buffer p h).waiting ≡ true) ↔ IsUndrained h p n
 waits_exactly image ps h inside run p n = (
   λ has.
-      let found = has_among n (buffer p h).waiting has in
-      let within = among_all (Within (buffer p h).made (buffer p h).age) (buffer p h).waiting found.0 (in_row p h).each found.1 in
+      let counted = has_counted p n h has in
       let old = ((kept h (run_fits image ps h inside run)).sound p).waiting n has in
-      record { counted = omega (arith, found.2, within.counted); made = old.1; kept = old.0 },
+      record { counted = counted.0; made = counted.1; kept = old.0 },
   λ is. remains p n h is.counted is.made is.kept,
 )
 

@@ -36,6 +36,7 @@ pub mod LockGuards
 pub mod EntryNumbers
 pub mod EntryGroups
 pub mod EntryDrains
+pub mod EntryStates
 -- interrupts
 pub mod PollSignals
 pub mod InterruptTimes

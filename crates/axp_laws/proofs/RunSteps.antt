@@ -143,7 +143,7 @@ fresh_of : (p l : ℕ) (h : List Record) → SoundBuffer (buffer p h) (drained h
 fresh_of p l h sound None e = sound.above ((buffer p h).made + 1) (omega arith)
 fresh_of p l h sound (Some m) e = (sound.waiting m (joins_has l (buffer p h).age m (buffer p h).waiting e)).0
 
-fresh_entry : (p l : ℕ) (h : List Record) → SoundBuffer (buffer p h) (drained h p) → drained h p (entry_for l (buffer p h)) ≡ None
+pub fresh_entry : (p l : ℕ) (h : List Record) → SoundBuffer (buffer p h) (drained h p) → drained h p (entry_for l (buffer p h)) ≡ None
 fresh_entry p l h sound = fresh_of p l h sound (entry_joined l (buffer p h).age (buffer p h).waiting) refl
 
 -- the entry of a new plain write is not drained

@@ -25,6 +25,10 @@ pub record IsUndrained (h : List Record) (p n : ℕ) : Type 0 where
   pub made : n ≤ (buffer p h).made
   pub kept : drained h p n ≡ None
 
+-- n is the number of one of the entries made
+abbrev pub IsNumbered : ℕ → ℕ → Type 0
+IsNumbered made n = (1 ≤ n) × (n ≤ made)
+
 -- how many WMBs processor p has made
 abbrev pub write_barriers : ℕ → List Record → ℕ
 write_barriers p [] = 0

@@ -1,14 +1,19 @@
 //! Entries of write buffers, write barriers and drains.
 ghost use Rattle.std.specs.Prelude.{ℕ, true, Contains, List, [], ◌∷◌, ◌++◌, None, length, map};
 ghost use Rattle.std.specs.Prelude.{filter_map, slice_get, Some, is_some, ◌≡◌, ◌<◌, ◌≤◌, ◌+◌, ◌↔◌};
-ghost use Rattle.std.specs.Prelude.{◌⊎◌, ◌&&◌, ◌||◌};
+ghost use Rattle.std.specs.Prelude.{◌≢◌, ◌⊎◌, ◌&&◌, ◌||◌};
 ghost use Rattle.axp_laws.specs.Runs.{Run};
 ghost use Rattle.axp_access.specs.declared.Record.{Record};
+ghost use Rattle.axp_access.specs.declared.entry_states.EntryState.TheVariants.{Drained};
+ghost use Rattle.axp_access.specs.declared.entry_states.EntryState.TheVariants.{Waiting as Waits};
 ghost use Rattle.axp_base.specs.Cpus.{cpu_number};
 ghost use Rattle.axp_base.specs.Lines.{line_number};
 ghost use Rattle.axp_model.specs.Entries.{Waiting, buffer, has_number, oldest};
+ghost use Rattle.axp_model.specs.EntryStates.{entry_state, is_written, writes_entry};
+ghost use Rattle.axp_model.specs.Records.{drains};
 ghost use Rattle.axp_laws.specs.EntryLaws.{ArePartedWrites, IsBehind, IsOldestInFront, IsParted};
-ghost use Rattle.axp_laws.specs.EntryLaws.{IsUndrained, WasDrained, WasMade, access_of};
+ghost use Rattle.axp_laws.specs.EntryLaws.{IsNumbered, IsUndrained, WasDrained, WasMade};
+ghost use Rattle.axp_laws.specs.EntryLaws.{access_of};
 ghost use Rattle.axp_laws.specs.EntryLaws.{shows_access, write_barriers};
 ghost use Rattle.axp_model.specs.Issue.{barrier_demands};
 ghost use Rattle.axp_model.specs.Issue.{AllPairs};
@@ -88,4 +93,21 @@ pub fn drained_turns()
     ensures most { (h : List Record) (p n turn : ℕ) → drained h p n ≡ Some turn → turn ≤ turns h }
     ensures later { (later h : List Record) (p n turn : ℕ)
         → drained h p n ≡ None → drained (later ++ h) p n ≡ Some turn → turns h < turn }
+{}
+
+/// In every run an entry waits in its processor's write buffer exactly where that is its state, and
+/// it is drained exactly where its drain has a turn; the entries that were written are those
+/// numbered from 1 to the number of entries made. A drain names an entry that waits, so a write
+/// went into it before and no drain named it; a write goes into no entry that is drained.
+pub fn states_of_entries()
+    ensures waiting { (h : List Record) → Run h → (p n : ℕ)
+        → (entry_state p n h ≡ Waits) ↔ (has_number n (buffer p h).waiting ≡ true) }
+    ensures drained { (h : List Record) (p n : ℕ)
+        → (entry_state p n h ≡ Drained) ↔ (is_some (drained h p n) ≡ true) }
+    ensures written { (h : List Record) → Run h → (p n : ℕ)
+        → (is_written p n h ≡ true) ↔ IsNumbered (buffer p h).made n }
+    ensures drains { (r : Record) (h : List Record) → Run (r ∷ h) → (n : ℕ)
+        → drains n r.outcome ≡ true → entry_state (cpu_number r.event.cpu) n h ≡ Waits }
+    ensures writes { (r : Record) (h : List Record) → Run (r ∷ h) → (n : ℕ)
+        → writes_entry n r.outcome ≡ true → entry_state (cpu_number r.event.cpu) n h ≢ Drained }
 {}

@@ -13,7 +13,7 @@ mod storage;
 pub use causality::no_causal_loop;
 pub use entries::{
     ages_are_write_barriers, drained_turns, entries_that_wait, numbers_of_accesses,
-    oldest_group_is_in_front, write_barrier_stands_between,
+    oldest_group_is_in_front, states_of_entries, write_barrier_stands_between,
 };
 pub use interrupts::{interrupts_fall_between_groups, poll_rule};
 pub use late::{copies_are_held_lines, held_copies, late_by_counting, late_pairs_are_turns};

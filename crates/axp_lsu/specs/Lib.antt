@@ -1,4 +1,5 @@
 pub mod Keeping
+pub mod EntryStates
 pub mod Asking
 pub mod Offering
 pub mod Going

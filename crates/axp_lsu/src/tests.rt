@@ -9,7 +9,7 @@ ghost use Rattle.axp_lsu.specs.Fitting.{FitsRequest, IsWantedInSome, IsWithinSom
 ghost use Rattle.axp_lsu.specs.Within.{IsInMemory, IsKeptWithin, IsWantedBy, IsWantedWithin};
 
 use super::*;
-use axp_access::{Act, Intent, Outcome, Place, Wanted};
+use axp_access::{Act, EntryState, Intent, Outcome, Place, Wanted};
 use axp_base::{Bank, Cpu, Line};
 use axp_line::{LineData, Reply, Request};
 use axp_regs::Kind;
@@ -324,6 +324,42 @@ fn stores_merge_until_a_write_barrier(rt: HostRuntime) {
         assert!(rt; !rig.may(Act::Drain(1), &barrier));
     }
     assert!(rt; rig.may(Act::Step, &barrier));
+}
+
+/// How far the entries 0 to 3 have come.
+fn states(rig: &Rig) -> [EntryState; 4] {
+    [
+        rig.lsu.entry(0),
+        rig.lsu.entry(1),
+        rig.lsu.entry(2),
+        rig.lsu.entry(3),
+    ]
+}
+
+#[test]
+fn entries_are_written_and_then_drained(rt: HostRuntime) {
+    let (unwritten, waiting, drained) = (
+        EntryState::Unwritten,
+        EntryState::Waiting,
+        EntryState::Drained,
+    );
+    let mut rig = Rig::empty();
+    assert_eq!(rt; states(&rig), [unwritten; 4]);
+    for address in [EVEN, ODD] {
+        rig.makes(&wants(Kind::Write, address, 8, 1), None);
+    }
+    // a write barrier leaves both waiting
+    let close = wants_barrier(Kind::WriteBarrier);
+    rig.makes(&close, None);
+    assert_eq!(rt; states(&rig), [unwritten, waiting, waiting, unwritten]);
+    let reply = Some(Reply::Stored {
+        turn: 1,
+        bytes: LineData::zero(),
+    });
+    rig.does(Act::Drain(1), &close, reply);
+    assert_eq!(rt; states(&rig), [unwritten, waiting, drained, unwritten]);
+    rig.does(Act::Drain(0), &close, reply);
+    assert_eq!(rt; states(&rig), [unwritten, drained, drained, unwritten]);
 }
 
 #[test]

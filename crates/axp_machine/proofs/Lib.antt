@@ -9,6 +9,8 @@ pub mod VainTakeLemmas
 pub mod LateLineLemmas
 -- what is legal
 pub mod OfferLemmas
+-- how far entries have come
+pub mod EntryLemmas
 -- what a granted event leaves and gives
 pub mod SpellingLemmas
 pub mod MachinePartLemmas

@@ -21,6 +21,7 @@ use axp_world::EVENTS_PER_STEP;
 use std::alloc::Global;
 use std::marker::Model;
 
+mod entries;
 mod offering;
 
 /// Processors over the bus, with the records of what they did.

@@ -1,6 +1,7 @@
 pub mod Records
 pub mod Turns
 pub mod Entries
+pub mod EntryStates
 pub mod Accesses
 pub mod Sources
 pub mod Memory

@@ -41,6 +41,10 @@ is_of_group group e = e.group == group
 abbrev pub is_before : ℕ → Pending → Bool
 is_before group e = nat_lt e.group group
 
+-- whether it is the entry of this number
+abbrev pub is_numbered : ℕ → Pending → Bool
+is_numbered n e = e.number == n
+
 -- an entry with a store's bytes put into it
 abbrev pub with_store : ℕ → ℕ → ℕ → Pending → Pending
 with_store address size value e =

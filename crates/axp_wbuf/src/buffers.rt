@@ -6,12 +6,12 @@ ghost use Rattle.axp_base.specs.Masks.{IsSize, mask_bits};
 ghost use Rattle.axp_base.specs.declared.lines.TheConstants.{LINE_BYTES};
 ghost use Rattle.axp_line.specs.Lines.{bytes_of_line};
 ghost use Rattle.axp_wbuf.specs.Drains.{oldest_group, told, without};
-ghost use Rattle.axp_wbuf.specs.Pending.{IsTidy, closed, is_before, is_of_line, no_entries};
-ghost use Rattle.axp_wbuf.specs.Pending.{overlaid, store_number, stored, takes};
+ghost use Rattle.axp_wbuf.specs.Pending.{IsTidy, closed, is_before, is_numbered, is_of_line};
+ghost use Rattle.axp_wbuf.specs.Pending.{no_entries, overlaid, store_number, stored, takes};
 
 use crate::lists::{
-    Entries, any_before, any_of_line, append, has_place, has_room, merge_into, newest_after,
-    oldest_count, overlay_each, remove_at,
+    Entries, any_before, any_numbered, any_of_line, append, has_place, has_room, merge_into,
+    newest_after, oldest_count, overlay_each, remove_at,
 };
 use arrayvec::ArrayVec;
 use axp_base::{Line, Mask};
@@ -154,6 +154,20 @@ impl Wbuf {
         ensures { result ≡ list_any (is_before self.now.newest) self.now.kept }
     {
         any_before(self.entries.as_slice(), self.newest)
+    }
+
+    /// The number of entries that were ever made: they are numbered from 1 to it.
+    pub fn made(&self) -> u32
+        ensures { result ≡ self.now.made }
+    {
+        self.made
+    }
+
+    /// Whether the entry of this number is kept: it was made, and has not left.
+    pub fn keeps(&self, number: u32) -> bool
+        ensures { result ≡ list_any (is_numbered number) self.now.kept }
+    {
+        any_numbered(self.entries.as_slice(), number)
     }
 
     /// Whether no entry is kept.

@@ -7,7 +7,8 @@ ghost use Rattle.axp_base.specs.Lines.{line_number};
 ghost use Rattle.axp_base.specs.Masks.{IsSize};
 ghost use Rattle.axp_base.specs.declared.lines.TheConstants.{LINE_BYTES};
 ghost use Rattle.axp_line.specs.Lines.{bytes_of_line};
-ghost use Rattle.axp_wbuf.specs.Pending.{Pending, is_at, is_before, is_of_group, is_of_line};
+ghost use Rattle.axp_wbuf.specs.Pending.{Pending, is_at, is_before, is_numbered, is_of_group};
+ghost use Rattle.axp_wbuf.specs.Pending.{is_of_line};
 ghost use Rattle.axp_wbuf.specs.Pending.{made_by, number_at_line, overlaid, put_into, with_store};
 ghost use Rattle.axp_wbuf.specs.Drains.{in_front, oldest_group};
 ghost use Rattle.axp_wbuf.specs.Views.{all_pending};
@@ -77,6 +78,18 @@ pub(crate) fn any_before(entries: &[Entry], group: u32) -> bool
 {
     for entry in entries {
         if entry.group < group {
+            return true;
+        }
+    }
+    false
+}
+
+/// Whether an entry has this number.
+pub(crate) fn any_numbered(entries: &[Entry], number: u32) -> bool
+    ensures { result ≡ list_any (is_numbered number) (all_pending entries.now) }
+{
+    for entry in entries {
+        if entry.number == number {
             return true;
         }
     }

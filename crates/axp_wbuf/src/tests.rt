@@ -132,3 +132,36 @@ fn overlay_takes_the_newest(rt: HostRuntime) {
     assert_eq!(rt; buffer.has_line(Line::of(0x403F)), true);
     assert_eq!(rt; buffer.has_line(Line::of(0x4040)), false);
 }
+
+/// Which of the entries 0 to 4 are kept.
+fn kept(buffer: &Wbuf) -> [bool; 5] {
+    [
+        buffer.keeps(0),
+        buffer.keeps(1),
+        buffer.keeps(2),
+        buffer.keeps(3),
+        buffer.keeps(4),
+    ]
+}
+
+/// Three entries are made, the first in a group of its own: it leaves, and then the third.
+#[test]
+fn an_entry_is_kept_from_its_first_store_until_it_leaves(rt: HostRuntime) {
+    let mut buffer = Wbuf::empty();
+    assert_eq!(rt; (buffer.made(), kept(&buffer)), (0, [false; 5]));
+    assert_eq!(rt; buffer.store(0x4000, 8, 5), Ok(1));
+    buffer.close_group();
+    assert_eq!(rt; buffer.store(0x4040, 8, 6), Ok(2));
+    assert_eq!(rt; buffer.store(0x4080, 8, 7), Ok(3));
+    assert_eq!(rt; buffer.store(0x4048, 8, 8), Ok(2));
+    assert_eq!(rt;
+        (buffer.made(), kept(&buffer)),
+        (3, [false, true, true, true, false])
+    );
+    assert!(rt; leaves(&mut buffer, 0));
+    assert!(rt; leaves(&mut buffer, 1));
+    assert_eq!(rt;
+        (buffer.made(), kept(&buffer)),
+        (3, [false, false, true, false, false])
+    );
+}

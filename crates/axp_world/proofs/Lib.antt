@@ -9,6 +9,7 @@ pub mod BufferBytes
 pub mod BufferOverlays
 pub mod BufferSteps
 pub mod BufferPlayed
+pub mod BufferStates
 -- how many acts, turns and events there are
 pub mod CountSums
 pub mod CountTallies

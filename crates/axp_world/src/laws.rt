@@ -13,7 +13,9 @@ ghost use Rattle.axp_cpu.specs.Actors.{outcome_of, request_of};
 ghost use Rattle.axp_cpu.specs.Following.{processors, seat_in};
 ghost use Rattle.axp_image.specs.Contents.{Contents, IsValid};
 ghost use Rattle.axp_line.specs.BusCalls as calls;
+ghost use Rattle.axp_lsu.specs.EntryStates.{entry_in};
 ghost use Rattle.axp_model.specs.Entries.{buffer};
+ghost use Rattle.axp_model.specs.EntryStates.{entry_state};
 ghost use Rattle.axp_model.specs.Memory.{final_byte, is_touched};
 ghost use Rattle.axp_model.specs.Outcomes.{IsRun};
 ghost use Rattle.axp_model.specs.Processors.{AreInLine};
@@ -26,7 +28,9 @@ ghost use Rattle.axp_world.specs.Worlds.{IsPlayed, answer_of, image_bytes, reply
 /// Every history that processors play over the bus is a run of the memory model: each event was
 /// legal after the records before it, and has the outcome that the model says. What processors want
 /// lies within a quadword each, so all laws of the model hold of it. Its turns, its memory and the
-/// quadwords that were written are the bus's, and each processor stands where its records say.
+/// quadwords that were written are the bus's, and each processor stands where its records say. What
+/// its write buffer keeps tells of each entry what the records do: whether a write went into it,
+/// and whether a drain named it.
 pub fn played_histories_are_runs()
     ensures in_line { (image : Contents) (cpus budget : ℕ) → IsValid image
         → AreInLine (processors image cpus budget) }
@@ -38,6 +42,8 @@ pub fn played_histories_are_runs()
         → calls.is_touched q (world_in g).calls ≡ is_touched g.history q }
     ensures seats { (g : Played) (p : ℕ) → p < MAX_CPUS
         → seat_in g.image g.cpus g.budget p g.history ≡ ((world_in g).actors p).seat }
+    ensures entries { (g : Played) (p n : ℕ)
+        → entry_in n ((world_in g).actors p).kept.buffer ≡ entry_state p n g.history }
 {}
 
 /// After a played history an event is refused as not legal exactly where the memory model says that

@@ -1,4 +1,5 @@
 use Rattle.axp_world.specs.RunLaws.{Played, bytes_in, world_in}
+use Rattle.axp_world.proofs.BufferStates.{state_agrees}
 use Rattle.axp_world.proofs.BusTouched.{touched_agrees}
 use Rattle.axp_world.proofs.RunJoined.{Joined, joined}
 use Rattle.axp_world.proofs.RunWants.{in_line}
@@ -15,4 +16,5 @@ returns c = record {
   memory = λ g. (has g).bus.bytes (bytes_in g);
   touched = λ g. touched_agrees (bytes_in g) g.history (world_in g).calls (has g).bus;
   seats = λ g. (has g).seats;
+  entries = λ g p n. state_agrees p n g.history ((world_in g).actors p).kept.buffer ((has g).buffers p);
 }
