@@ -4,6 +4,7 @@ pub mod Entries
 pub mod Accesses
 pub mod Sources
 pub mod Memory
+pub mod Console
 pub mod Locks
 pub mod Late
 pub mod Processors
