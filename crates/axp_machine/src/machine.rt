@@ -22,6 +22,9 @@ use std::alloc::Global;
 use std::marker::Model;
 
 mod offering;
+mod tails;
+
+pub use tails::TailAt;
 
 /// Processors over the bus, with the records of what they did.
 #[derive(Drop)]
