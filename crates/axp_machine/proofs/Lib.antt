@@ -2,6 +2,8 @@
 pub mod RunLemmas
 pub mod ReaderLemmas
 pub mod RoomLemmas
+-- the tail, item by item
+pub mod TailLemmas
 -- what an event is granted, and what it asks of the bus
 pub mod GrantLemmas
 pub mod AskLemmas

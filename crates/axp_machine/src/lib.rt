@@ -11,7 +11,7 @@ mod machine;
 pub use axp_cpu::NotLegal;
 pub use axp_regs::{REGISTERS, ZERO_REGISTER};
 pub use laws::{records_are_a_run, runs_keep_the_constraints};
-pub use machine::Machine;
+pub use machine::{Machine, TailAt};
 
 #[cfg(test)]
 mod tests;

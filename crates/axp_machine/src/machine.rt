@@ -23,6 +23,9 @@ use std::marker::Model;
 
 mod entries;
 mod offering;
+mod tails;
+
+pub use tails::TailAt;
 
 /// Processors over the bus, with the records of what they did.
 #[derive(Drop)]

@@ -5,6 +5,7 @@ pub mod EntryStates
 pub mod Accesses
 pub mod Sources
 pub mod Memory
+pub mod Console
 pub mod Locks
 pub mod Late
 pub mod Processors

@@ -44,6 +44,8 @@ pub mod RunPlayed
 pub mod RunRefusals
 pub mod RunJoined
 pub mod RunDeeds
+-- what went to the console
+pub mod BusConsole
 -- no processor is stuck
 pub mod ProgressFilled
 pub mod ProgressMidway

@@ -1,5 +1,5 @@
 -- What processors want along a history lies in lines, and names processors.
-use Rattle.std.proofs.Common.{true, false, ℕ, ◌%◌, ◌<◌, ◌≤◌, ◌≡◌, ⊎_elim, eqb, cond, Bool, List, [], ◌∷◌, ◌++◌, Option, Some, None, refl, sym, subst, arith}
+use Rattle.std.proofs.Common.{true, false, ℕ, ◌%◌, ◌^◌, ◌<◌, ◌≤◌, ◌≡◌, ⊎_elim, eqb, cond, Bool, List, [], ◌∷◌, ◌++◌, Option, Some, None, refl, sym, subst, arith}
 use Rattle.std.proofs.Math.Nat.{min-le_right}
 use Rattle.std.proofs.lemmas.Bool.{cases_Bool, cond_both}
 use Rattle.axp_base.specs.Cpus.{cpu_number, cpu_of}
@@ -132,18 +132,31 @@ kind_no_poll : (k : Kind) (size cpus : ℕ) (w : Wanted) → IsSoundAs size cpus
 kind_no_poll kind.Poll size cpus w sound = absurd sound
 kind_no_poll _ size cpus w sound = refl
 
+-- and what goes to the console is a byte
+abbrev pub IsByteFor : Kind → ℕ → Type 0
+IsByteFor kind.Console value = value < 2 ^ 8
+IsByteFor _ value = Unit {0}
+
+abbrev pub WantsByte : Option Wanted → Type 0
+WantsByte None = Unit {0}
+WantsByte (Some w) = IsByteFor w.kind w.value
+
+kind_byte : (k : Kind) (size cpus : ℕ) (w : Wanted) → IsSoundAs size cpus k w → IsByteFor k w.value
+kind_byte kind.Console size cpus w sound = sound.value
+kind_byte _ size cpus w sound = tt
+
 -- all of this of what is wanted, if anything
 abbrev WantsWell : Option Wanted → Type 0
-WantsWell o = WantsInLine o × WantsTarget o × (wants_poll o ≡ false)
+WantsWell o = WantsInLine o × WantsTarget o × (wants_poll o ≡ false) × WantsByte o
 
 plan_wants : (size cpus : ℕ) (p : Plan) → size ≤ MAX_MEMORY → cpus ≤ MAX_CPUS → IsSound size cpus p → WantsWell (wanted_by p)
-plan_wants size cpus (End t) most few sound = (tt, tt, refl)
-plan_wants size cpus (Want t w k) most few sound = (kind_in_line w.kind size cpus w most sound.0, kind_target w.kind size cpus w few refl sound.0, kind_no_poll w.kind size cpus w sound.0)
+plan_wants size cpus (End t) most few sound = (tt, tt, refl, tt)
+plan_wants size cpus (Want t w k) most few sound = (kind_in_line w.kind size cpus w most sound.0, kind_target w.kind size cpus w few refl sound.0, kind_no_poll w.kind size cpus w sound.0, kind_byte w.kind size cpus w sound.0)
 
 seat_wants : (s : Seat) → IsSeated s → WantsWell (wanted s)
 seat_wants s seated = by_finished (is_finished s) (wanted_by (plan_now s)) (plan_wants s.size s.cpus (plan_now s) seated.most seated.few (along_sound s.size s.cpus s.values (group s.size s.cpus s.start) (group_sound s.size s.cpus s.start seated.pages seated.settled))) where
   by_finished : (b : Bool) (o : Option Wanted) → WantsWell o → WantsWell (cond b None o)
-  by_finished true o wants = (tt, tt, refl)
+  by_finished true o wants = (tt, tt, refl, tt)
   by_finished false o wants = wants
 
 pub intents_in_line : (image : Contents) (cpus budget : ℕ) → IsValid image → (p : ℕ) (h : List Record) → WantsInLine (world_intent image cpus budget p h).wanted
@@ -154,6 +167,9 @@ intents_name_targets image cpus budget valid p h = (seat_wants ((world image cpu
 
 pub intents_want_no_poll : (image : Contents) (cpus budget : ℕ) → IsValid image → (p : ℕ) (h : List Record) → wants_poll (world_intent image cpus budget p h).wanted ≡ false
 intents_want_no_poll image cpus budget valid p h = (seat_wants ((world image cpus budget h).actors p).seat (seated image cpus budget valid h p)).2
+
+pub intents_print_bytes : (image : Contents) (cpus budget : ℕ) → IsValid image → (p : ℕ) (h : List Record) → WantsByte (world_intent image cpus budget p h).wanted
+intents_print_bytes image cpus budget valid p h = (seat_wants ((world image cpus budget h).actors p).seat (seated image cpus budget valid h p)).3
 
 -- the same by the records alone
 shown_seated : (o : Outcome) (s : Seat) → IsSeated s → IsSeated (seat_after_step o s)

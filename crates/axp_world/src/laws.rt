@@ -14,6 +14,7 @@ ghost use Rattle.axp_cpu.specs.Following.{processors, seat_in};
 ghost use Rattle.axp_image.specs.Contents.{Contents, IsValid};
 ghost use Rattle.axp_line.specs.BusCalls as calls;
 ghost use Rattle.axp_lsu.specs.EntryStates.{entry_in};
+ghost use Rattle.axp_model.specs.Console.{printed};
 ghost use Rattle.axp_model.specs.Entries.{buffer};
 ghost use Rattle.axp_model.specs.EntryStates.{entry_state};
 ghost use Rattle.axp_model.specs.Memory.{final_byte, is_touched};
@@ -27,10 +28,10 @@ ghost use Rattle.axp_world.specs.Worlds.{IsPlayed, answer_of, image_bytes, reply
 
 /// Every history that processors play over the bus is a run of the memory model: each event was
 /// legal after the records before it, and has the outcome that the model says. What processors want
-/// lies within a quadword each, so all laws of the model hold of it. Its turns, its memory and the
-/// quadwords that were written are the bus's, and each processor stands where its records say. What
-/// its write buffer keeps tells of each entry what the records do: whether a write went into it,
-/// and whether a drain named it.
+/// lies within a quadword each, so all laws of the model hold of it. Its turns, its memory, the
+/// quadwords that were written and what went to the console are the bus's, and each processor
+/// stands where its records say. What its write buffer keeps tells of each entry what the records
+/// do: whether a write went into it, and whether a drain named it.
 pub fn played_histories_are_runs()
     ensures in_line { (image : Contents) (cpus budget : ℕ) → IsValid image
         → AreInLine (processors image cpus budget) }
@@ -40,6 +41,7 @@ pub fn played_histories_are_runs()
         → calls.memory (bytes_in g) (world_in g).calls at ≡ final_byte (bytes_in g) g.history at }
     ensures touched { (g : Played) (q : ℕ)
         → calls.is_touched q (world_in g).calls ≡ is_touched g.history q }
+    ensures console { (g : Played) → calls.console (world_in g).calls ≡ printed g.history }
     ensures seats { (g : Played) (p : ℕ) → p < MAX_CPUS
         → seat_in g.image g.cpus g.budget p g.history ≡ ((world_in g).actors p).seat }
     ensures entries { (g : Played) (p n : ℕ)
