@@ -1,6 +1,7 @@
 -- A file has no fault exactly where it is an image.
 use Rattle.std.proofs.Common.{◌≡◌, ℕ, zero, suc, ◌+◌, ◌*◌, ◌/◌, ◌≤◌, Bool, true, false, leb, ltb, eqb, cond, List, [], ◌∷◌, length, take, drop, Option, Some, None, refl, sym, ap, subst, ◌∙◌, ◌↔◌, IsSome, arith}
 use Rattle.std.specs.Option.{option_map, option_or}
+use Rattle.std.proofs.lemmas.Option.{none-some}
 use Rattle.std.proofs.lemmas.Bool.{and_from, le-leb, leb-true, le-ltb, eqb-true}
 use Rattle.byteorder.specs.Endian.{little_number}
 use Rattle.axp_image.specs.declared.faults.ImageKind.{ImageKind}
@@ -244,3 +245,10 @@ sound_image bytes = (
     by_case : (o : Option Contents) → image_of bytes ≡ o → IsSome o → first_fault bytes ≡ None
     by_case None read some = absurd cc
     by_case (Some c) read some = image_sound bytes c read
+
+pub fault_is_no_image : (bytes : List ℕ) (f : Fault) → first_fault bytes ≡ Some f → image_of bytes ≡ None
+fault_is_no_image bytes f fault = by_case (image_of bytes) refl
+  where
+    by_case : (o : Option Contents) → image_of bytes ≡ o → o ≡ None
+    by_case None read = refl
+    by_case (Some c) read = absurd (none-some f (sym (image_sound bytes c read) ∙ fault))
