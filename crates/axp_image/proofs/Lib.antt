@@ -5,6 +5,7 @@ pub mod ReadingLoopLemmas
 -- which fault of a file is the first
 pub mod FaultLemmas
 pub mod NoFaultLemmas
+pub mod CutFileLemmas
 -- a valid image has one file, and is read back from it
 pub mod SpellingLemmas
 pub mod ReadBackLemmas

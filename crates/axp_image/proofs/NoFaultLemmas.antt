@@ -1,6 +1,7 @@
 -- A file has no fault exactly where it is an image.
 use Rattle.std.proofs.Common.{◌≡◌, ℕ, zero, suc, ◌+◌, ◌*◌, ◌/◌, ◌≤◌, Bool, true, false, leb, ltb, eqb, cond, List, [], ◌∷◌, length, take, drop, Option, Some, None, refl, sym, ap, subst, ◌∙◌, ◌↔◌, IsSome, arith}
 use Rattle.std.specs.Option.{option_map, option_or}
+use Rattle.std.proofs.lemmas.Option.{none-some}
 use Rattle.std.proofs.lemmas.Bool.{and_from, le-leb, leb-true, le-ltb, eqb-true}
 use Rattle.byteorder.specs.Endian.{little_number}
 use Rattle.axp_image.specs.declared.faults.ImageKind.{ImageKind}
@@ -20,13 +21,13 @@ use Rattle.axp_image.proofs.FaultLemmas.{header_fault, records_fault, body_fault
 -- ---- an image has no fault
 
 -- a number that is read lies in the file
-number_within : (bytes : List ℕ) (at n x : ℕ) → number_at bytes at n ≡ Some x → leb (at + n) (length bytes) ≡ true
+pub number_within : (bytes : List ℕ) (at n x : ℕ) → number_at bytes at n ≡ Some x → leb (at + n) (length bytes) ≡ true
 unfolding number_at
 number_within bytes at n x read =
     let piece = bind_some (piece_at bytes at n) (λ p. Some (little_number n p)) x read in
     le-leb _ _ (piece_some bytes at n piece.0 piece.1).0
 
-header_sound : (bytes : List ℕ) (h : Header) → HasHeader bytes h → header_fault bytes ≡ None
+pub header_sound : (bytes : List ℕ) (h : Header) → HasHeader bytes h → header_fault bytes ≡ None
 header_sound bytes h has =
     let w_magic = number_within bytes MAGIC_AT 4 MAGIC has.magic in
     let w_version = number_within bytes VERSION_AT 2 VERSION has.version in
@@ -37,12 +38,12 @@ header_sound bytes h has =
     let w_table = number_within bytes TABLE_AT 8 h.table has.table in
     rw (w_magic, w_version, w_count, w_size, w_entry, w_stack, w_table, has.magic, has.version, has.count, has.size, has.entry, has.table, has.count_good, has.size_good, has.entry_good, has.table_good) refl
 
-record ReadsRecord (bytes : List ℕ) (size from at : ℕ) (e : Extent) : Type 0 where
-  sound : fault_of (length bytes) (record_part bytes size from at) ≡ None
-  said : e ≡ extent_in bytes at
-  within : at + RECORD_BYTES ≤ length bytes
+pub record ReadsRecord (bytes : List ℕ) (size from at : ℕ) (e : Extent) : Type 0 where
+  pub sound : fault_of (length bytes) (record_part bytes size from at) ≡ None
+  pub said : e ≡ extent_in bytes at
+  pub within : at + RECORD_BYTES ≤ length bytes
 
-record_sound : (bytes : List ℕ) (size from at : ℕ) (e : Extent) → extent_at bytes size from at ≡ Some e → ReadsRecord bytes size from at e
+pub record_sound : (bytes : List ℕ) (size from at : ℕ) (e : Extent) → extent_at bytes size from at ≡ Some e → ReadsRecord bytes size from at e
 record_sound bytes size from at e read =
     let has = extent_has bytes size from at e read in
     let within = (piece_some bytes at RECORD_BYTES has.piece has.piece_is).0 in
@@ -55,12 +56,12 @@ record_sound bytes size from at e read =
     let here : leb (at + RECORD_BYTES) (length bytes) ≡ true = le-leb _ _ within in
     record { sound = rw (here, a, l, z, passed) refl; said = rw (a, l) refl; within = within }
 
-record ReadsRecords (bytes : List ℕ) (size n count : ℕ) (es : List Extent) : Type 0 where
-  sound : first_of (length bytes) (record_parts bytes size n count) ≡ None
-  said : es ≡ extents_in bytes n count
-  within : record_at (n + count) ≤ length bytes
+pub record ReadsRecords (bytes : List ℕ) (size n count : ℕ) (es : List Extent) : Type 0 where
+  pub sound : first_of (length bytes) (record_parts bytes size n count) ≡ None
+  pub said : es ≡ extents_in bytes n count
+  pub within : record_at (n + count) ≤ length bytes
 
-records_sound : (bytes : List ℕ) (size n count from : ℕ) (es : List Extent) → from ≡ end_before bytes n → record_at n ≤ length bytes
+pub records_sound : (bytes : List ℕ) (size n count from : ℕ) (es : List Extent) → from ≡ end_before bytes n → record_at n ≤ length bytes
     → extents_at bytes size count from (record_at n) ≡ Some es → ReadsRecords bytes size n count es
 unfolding extents_at
 records_sound bytes size n zero from es is before read =
@@ -80,7 +81,7 @@ records_sound bytes size n (suc count) from es is before read =
     }
 
 -- the segments' bytes end with the file
-segments_fill : (bytes : List ℕ) (at : ℕ) (es : List Extent) (ss : List Segment) → at ≤ length bytes → segments_at bytes at es ≡ Some ss → at + total es ≡ length bytes
+pub segments_fill : (bytes : List ℕ) (at : ℕ) (es : List Extent) (ss : List Segment) → at ≤ length bytes → segments_at bytes at es ≡ Some ss → at + total es ≡ length bytes
 unfolding segments_at
 segments_fill bytes at [] ss within read =
     let past = guard_none (ltb at (length bytes)) [] ss read in
@@ -244,3 +245,10 @@ sound_image bytes = (
     by_case : (o : Option Contents) → image_of bytes ≡ o → IsSome o → first_fault bytes ≡ None
     by_case None read some = absurd cc
     by_case (Some c) read some = image_sound bytes c read
+
+pub fault_is_no_image : (bytes : List ℕ) (f : Fault) → first_fault bytes ≡ Some f → image_of bytes ≡ None
+fault_is_no_image bytes f fault = by_case (image_of bytes) refl
+  where
+    by_case : (o : Option Contents) → image_of bytes ≡ o → o ≡ None
+    by_case None read = refl
+    by_case (Some c) read = absurd (none-some f (sym (image_sound bytes c read) ∙ fault))

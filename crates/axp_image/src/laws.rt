@@ -1,11 +1,12 @@
 //! Laws of images, each proved as the contract of a function that does nothing.
-ghost use Rattle.std.specs.Prelude.{ℕ, List, ◌≡◌, ◌<◌, Some, None, IsSome, ◌↔◌, ◌++◌, ◌∷◌, []};
+ghost use Rattle.std.specs.Prelude.{ℕ, List, ◌≡◌, ◌≢◌, ◌<◌, Some, None, IsSome, ◌↔◌, ◌++◌, ◌∷◌, []};
+ghost use Rattle.std.specs.Prelude.{length};
 ghost use Rattle.axp_image.specs.declared.limits.TheConstants.{PAGE_BYTES, MAX_MEMORY, KSEG};
 ghost use Rattle.axp_image.specs.declared.limits.TheConstants.{MAX_SEGMENTS, INSTRUCTION_BYTES};
 ghost use Rattle.axp_image.specs.Contents.{AreBytes, Contents, IsValid, byte_in};
 ghost use Rattle.axp_image.specs.Grammar.{image_of};
 ghost use Rattle.axp_image.specs.declared.faults.ImageKind.TheVariants.{Short, Extra};
-ghost use Rattle.axp_image.specs.Faults.{first_fault};
+ghost use Rattle.axp_image.specs.Faults.{Fault, first_fault};
 ghost use Rattle.axp_image.specs.Spelling.{spelling};
 ghost use Rattle.axp_image.specs.Laws.{DoNotOverlap, HaveTheirBytes, AreZeroElsewhere, smallest};
 ghost use Rattle.axp_image.specs.Laws.{smallest_file};
@@ -46,5 +47,15 @@ pub fn limits_as_numbers()
 
 /// A file has no fault exactly where it is an image.
 pub fn no_fault_is_an_image()
-    ensures { (bytes : List ℕ) → (first_fault bytes ≡ None) ↔ IsSome (image_of bytes) }
+    ensures image { (bytes : List ℕ) → (first_fault bytes ≡ None) ↔ IsSome (image_of bytes) }
+    ensures fault { (bytes : List ℕ) (f : Fault) → first_fault bytes ≡ Some f → image_of bytes ≡ None }
+{}
+
+/// An image file with more behind it is at fault where the image ends, and a front of an image file
+/// is short where it ends.
+pub fn cut_and_longer_files()
+    ensures longer { (bytes more : List ℕ) (c : Contents) → image_of bytes ≡ Some c → more ≢ []
+        → first_fault (bytes ++ more) ≡ Some (Extra, length bytes) }
+    ensures cut { (front rest : List ℕ) (c : Contents) → image_of (front ++ rest) ≡ Some c → rest ≢ []
+        → first_fault front ≡ Some (Short, length front) }
 {}

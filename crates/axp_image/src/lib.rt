@@ -13,7 +13,8 @@ mod writing;
 pub use faults::{ImageError, ImageKind};
 pub use images::Image;
 pub use laws::{
-    limits_as_numbers, memory_of_segments, no_fault_is_an_image, one_file, smallest_image,
+    cut_and_longer_files, limits_as_numbers, memory_of_segments, no_fault_is_an_image, one_file,
+    smallest_image,
 };
 pub use limits::{INSTRUCTION_BYTES, KSEG, MAX_MEMORY, MAX_SEGMENTS, PAGE_BYTES};
 pub use reading::read_image;

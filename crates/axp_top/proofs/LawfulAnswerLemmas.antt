@@ -1,5 +1,5 @@
 -- The answer to a file shows a run that keeps the constraints of shared memory, and why it ended.
-use Rattle.std.proofs.Common.{◌≡◌, ◌⊎◌, ⊎_elim, ℕ, ◌+◌, Bool, true, false, cond, eqb, List, [], ◌∷◌, ◌++◌, length, map, reverse, Option, Some, None, Ok, Err, Result, IfSome, refl, sym, ap, ◌∙◌, subst, inl, inr, append_assoc}
+use Rattle.std.proofs.Common.{◌≡◌, ◌⊎◌, ⊎_elim, ℕ, ◌+◌, ◌&&◌, Bool, true, false, cond, eqb, List, [], ◌∷◌, ◌++◌, length, map, reverse, Option, Some, None, Ok, Err, Result, IfSome, refl, sym, ap, ◌∙◌, subst, inl, inr, append_assoc}
 use Rattle.std.specs.Prelude.{nat_lt, not}
 use Rattle.std.specs.Str.{bytes_eq}
 use Rattle.std.proofs.lemmas.Bool.{and_parts, eqb-true}
@@ -166,9 +166,9 @@ why h m None a is valid run = bad_why h m None a is
 why h m (Some line) a is valid run = line_why h m line (line_of h line) a refl is valid run
 
 why_cause : (h : Header) (m : Seen) (l : FileLine) (ls : List FileLine) (a : Answer) → result_of h m l ≡ Refused a → Why h m l a → IsCause h m (l ∷ ls) a a.status
-why_cause h m l ls a is (IsBad n same) = rw same at (inl is)
-why_cause h m l ls a is (IsOther n given right same) = rw same at (inl is)
-why_cause h m l ls a is (IsForbidden not same) = rw same (not, refl)
+why_cause h m l ls a is (IsBad n same) = subst (λ (x : Answer). result_of h m l ≡ Refused x → IsCause h m (l ∷ ls) x x.status) (sym same) (λ e. inl e) is
+why_cause h m l ls a is (IsOther n given right same) = subst (λ (x : Answer). result_of h m l ≡ Refused x → IsCause h m (l ∷ ls) x x.status) (sym same) (λ e. inl e) is
+why_cause h m l ls a is (IsForbidden never same) = subst (λ (x : Answer). IsCause h m (l ∷ ls) x x.status) (sym same) (never, refl)
 
 -- ---- the tail is refused
 
@@ -247,8 +247,10 @@ ends_at h start m all (l ∷ ls) on = ends_by h start m all l ls (result_of h m 
 -- ---- the whole answer
 
 tail_cause : (h : Header) (m : Seen) (l : FileLine) (ls : List FileLine) (a : Answer) → EventsEnd h (l ∷ ls) → is_complete m ≡ true → tail_refusal h (next_line m) (tail_items m) (l ∷ ls) ≡ Some a → TailWhy a → IsCause h m (l ∷ ls) a a.status
-tail_cause h m l ls a begins complete is (IsBadTail n same) = rw same at (inr (record { begins = begins; complete = complete; refused = is }))
-tail_cause h m l ls a begins complete is (IsOtherTail n given right same) = rw same at (inr (record { begins = begins; complete = complete; refused = is }))
+tail_cause h m l ls a begins complete is (IsBadTail n same) =
+    subst (λ (x : Answer). tail_refusal h (next_line m) (tail_items m) (l ∷ ls) ≡ Some x → IsCause h m (l ∷ ls) x x.status) (sym same) (λ e. inr (record { begins = begins; complete = complete; refused = e })) is
+tail_cause h m l ls a begins complete is (IsOtherTail n given right same) =
+    subst (λ (x : Answer). tail_refusal h (next_line m) (tail_items m) (l ∷ ls) ≡ Some x → IsCause h m (l ∷ ls) x x.status) (sym same) (λ e. inr (record { begins = begins; complete = complete; refused = e })) is
 
 whole_cause : (h : Header) (m : Seen) (l : FileLine) (ls : List FileLine) (o : Option Answer) → EventsEnd h (l ∷ ls) → is_complete m ≡ true → tail_refusal h (next_line m) (tail_items m) (l ∷ ls) ≡ o
     → IsCause h m (l ∷ ls) (refused_or_whole m o) (refused_or_whole m o).status

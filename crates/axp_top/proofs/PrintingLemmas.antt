@@ -132,6 +132,7 @@ pub prints_then : {A : Type 0} (b m n : SinkState) (xs ys : Lines) (r : Result A
 prints_then b m n xs ys (Ok v) first next = printed_then b m n xs ys first next
 prints_then b m n xs ys (Err s) first next = stopped_then b m n xs ys s first next
 
--- a stop by which a line is not printed is one of the stops that a `?` hands on
-pub stopped_by : (b n : SinkState) (xs : Lines) (s t : Stop) → s ≡ t → Stopped b n xs s → Stopped b n xs t
-stopped_by b n xs s t is h = subst (Stopped b n xs) is h
+-- the same of any promise
+pub hands_on : {A : Type 0} (P : Result A Stop → Type 0) (r : Result A Stop) (s : Stop) → IsErrAnd r (λ x. x ≡ s) → P (Err s) → P r
+hands_on P (Ok v) s err h = absurd err
+hands_on P (Err x) s err h = subst (λ y. P (Err y)) (sym err) h

@@ -43,7 +43,7 @@ longer_than most = replicate (most + 1) 0
 
 longer : (most : ℕ) → most < length (longer_than most)
 unfolding longer_than
-longer most = let is = length-replicate (most + 1) 0 in omega (arith, is)
+longer most = let is = length-replicate {A = ℕ} (most + 1) 0 in omega (arith, is)
 
 abbrev told_or_long : ℕ → Option (List ℕ) → List ℕ
 told_or_long most None = longer_than most
@@ -151,7 +151,7 @@ faulty : (bytes : List ℕ) (f : Fault) → first_fault bytes ≡ Some f → ima
 faulty bytes f is = by (image_of bytes) refl where
   by : (o : Option Contents) → image_of bytes ≡ o → image_of bytes ≡ None
   by None same = same
-  by (Some c) same = let none : first_fault bytes ≡ None = (sound_image bytes).1 (rw same tt) in let never : Some f ≡ None = sym is ∙ none in cc
+  by (Some c) same = let none : first_fault bytes ≡ None = (sound_image bytes).1 (rw same refl) in let never : Some f ≡ None = sym is ∙ none in cc
 
 -- the file is within its limit and no image
 pub files_refused : (told : List ℕ → Option (List ℕ)) (b n : Outside) (first second bytes : List ℕ) (f : Fault) (s : Status) → IfSome (told first) (λ t. FetchTold t MAX_IMAGE_BYTES (Ok bytes)) → length bytes ≤ MAX_IMAGE_BYTES → first_fault bytes ≡ Some f → n.desk.faults ≡ b.desk.faults

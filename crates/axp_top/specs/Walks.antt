@@ -1,5 +1,5 @@
 -- What the code does with the lines of a file, one after the other.
-use Rattle.std.specs.Prelude.{◌≡◌, ◌⊎◌, ℕ, List, Option, Some, None, Result, Ok, Err, option_map}
+use Rattle.std.specs.Prelude.{◌≡◌, ◌⊎◌, ℕ, List, [], Option, Some, None, Result, Ok, Err, option_map}
 use Rattle.axp_machine.specs.Runs.{Seen, with_record}
 use Rattle.axp_trace.specs.declared.headers.Header.{Header}
 use Rattle.axp_trace.specs.Files.{lines_of}
@@ -63,7 +63,7 @@ abbrev pub PrintsStep : SinkState → SinkState → LineResult → Result Step S
 PrintsStep before now result (Ok s) = Printed before now (result_lines result) × (s ≡ step_of result)
 PrintsStep before now result (Err x) = Stopped before now (result_lines result) x
 
--- a result with the list that its part of a file is
-abbrev pub result_parts : Result (Option Status × Bor (List ℕ)) Stop → Result (Option Status × List ℕ) Stop
-result_parts (Ok (s, rest)) = Ok (s, rest.now)
-result_parts (Err x) = Err x
+-- a result with the list that its part of a file is, told by a function
+abbrev pub result_parts : {B : Type 0} → (B → List ℕ) → Result (Option Status × B) Stop → Result (Option Status × List ℕ) Stop
+result_parts part (Ok (s, rest)) = Ok (s, part rest)
+result_parts part (Err x) = Err x

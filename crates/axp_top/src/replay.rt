@@ -32,9 +32,9 @@ fn print_events<'a, K: Sink>(
     header: &Header,
     lines: &'a [u8],
 ) -> Result<(Option<Status>, &'a [u8]), Stop>
-    ensures { let seen = sink_state K.taken K.faults K.puts in
+    ensures printed { let seen = sink_state K.taken K.faults K.puts in
         PrintsEvents (seen sink.old) (seen sink.new) header.now machine.old machine.new
-        (lines_of lines.now) (result_parts result) }
+        (lines_of lines.now) (result_parts (λ r. r.now) result) }
     ensures rest { IfOk result (λ r. length r.1.now ≤ length lines.now) }
 {
     let mut rest = lines;
