@@ -94,9 +94,8 @@ stops_longer b n xs ys part stops = record {
 lacks_then : (b m n : SinkState) (xs ys : Lines) → Printed b m xs → LacksAt m n ys → LacksAt b n (xs ++ ys)
 lacks_then b m n xs ys first next = record {
   whole = xs ++ next.whole;
-  line = next.line;
   others = next.others;
-  parted = ap (λ (t : Lines). xs ++ t) next.parted ∙ sym (append_assoc xs next.whole (next.line ∷ next.others));
+  parted = ap (λ (t : Lines). xs ++ t) next.parted ∙ sym (append_assoc xs next.whole next.others);
   text = rw (concat-append xs next.whole) (Appends-trans b.taken m.taken n.taken (concat xs) (concat next.whole) first.text next.text);
   each = next.each ∙ ap (λ k. after_puts k (length next.whole)) first.each ∙ puts_then b.puts (length xs) (length next.whole) ∙ ap (after_puts b.puts) (sym (length-append xs next.whole));
 }
@@ -104,16 +103,15 @@ lacks_then b m n xs ys first next = record {
 lacks_longer : (b n : SinkState) (xs ys : Lines) → LacksAt b n xs → LacksAt b n (xs ++ ys)
 lacks_longer b n xs ys lacks = record {
   whole = lacks.whole;
-  line = lacks.line;
   others = lacks.others ++ ys;
-  parted = ap (λ (t : Lines). t ++ ys) lacks.parted ∙ append_assoc lacks.whole (lacks.line ∷ lacks.others) ys;
+  parted = ap (λ (t : Lines). t ++ ys) lacks.parted ∙ append_assoc lacks.whole lacks.others ys;
   text = lacks.text;
   each = lacks.each;
 }
 
--- memory was not found for a line
-pub lacks_line : (b : SinkState) (line : List ℕ) (others : Lines) → Stopped b b (line ∷ others) stop.Memory
-lacks_line b line others = (inr (record { whole = []; line = line; others = others; parted = refl; text = Appends-nil b.taken; each = refl }), refl)
+-- memory was not found before any put
+pub lacks_all : (b : SinkState) (others : Lines) → Stopped b b others stop.Memory
+lacks_all b others = (inr (record { whole = []; others = others; parted = refl; text = Appends-nil b.taken; each = refl }), refl)
 
 pub stopped_then : (b m n : SinkState) (xs ys : Lines) (s : Stop) → Printed b m xs → Stopped m n ys s → Stopped b n (xs ++ ys) s
 stopped_then b m n xs ys stop.WriteFault first next = ((next.0.0, stops_then b m n xs ys next.0.0 first next.0.1), next.1 ∙ ap (λ k. raised k 1) first.count)

@@ -4,7 +4,7 @@ use Rattle.std.specs.Prelude.{slice_index, nat_lt, replicate}
 use Rattle.std.proofs.lemmas.Bool.{lt-ltb, le-ltb, ltb-true}
 use Rattle.std.proofs.lemmas.List.{length-replicate}
 use Rattle.axp_image.specs.Contents.{AreBytes, Contents, IsValid}
-use Rattle.axp_image.proofs.NoFaultLemmas.{sound_image}
+use Rattle.axp_image.proofs.NoFaultLemmas.{fault_is_no_image}
 use Rattle.axp_image.specs.Faults.{Fault, first_fault}
 use Rattle.axp_image.specs.Grammar as grammar
 use Rattle.axp_image.specs.Grammar.{image_of}
@@ -146,19 +146,12 @@ refused_serves told b n first second image s none is h = record {
   sure = inl (rw none tt);
 }
 
--- a file with a fault is no image
-faulty : (bytes : List ℕ) (f : Fault) → first_fault bytes ≡ Some f → image_of bytes ≡ None
-faulty bytes f is = by (image_of bytes) refl where
-  by : (o : Option Contents) → image_of bytes ≡ o → image_of bytes ≡ None
-  by None same = same
-  by (Some c) same = let none : first_fault bytes ≡ None = (sound_image bytes).1 (rw same refl) in let never : Some f ≡ None = sym is ∙ none in cc
-
 -- the file is within its limit and no image
 pub files_refused : (told : List ℕ → Option (List ℕ)) (b n : Outside) (first second bytes : List ℕ) (f : Fault) (s : Status) → IfSome (told first) (λ t. FetchTold t MAX_IMAGE_BYTES (Ok bytes)) → length bytes ≤ MAX_IMAGE_BYTES → first_fault bytes ≡ Some f → n.desk.faults ≡ b.desk.faults
     → n.desk.asks ≡ b.desk.asks ++ (first, MAX_IMAGE_BYTES) ∷ [] → Ends b.sink n.sink (bad_image f) s → Serves told (Some (Replay first second)) b n s
 files_refused told b n first second bytes f s is short fault count asks ends =
     let within : nat_lt MAX_IMAGE_BYTES (length bytes) ≡ false = le-ltb MAX_IMAGE_BYTES (length bytes) short in
-    refused_serves told b n first second bytes s (rw within (faulty bytes f fault)) (handed_is (told first) bytes MAX_IMAGE_BYTES is)
+    refused_serves told b n first second bytes s (rw within (fault_is_no_image bytes f fault)) (handed_is (told first) bytes MAX_IMAGE_BYTES is)
     (rw (within, fault) (handed_course b n (bad_image f) (first, MAX_IMAGE_BYTES) s count asks ends))
 
 -- the empty list is no image

@@ -211,8 +211,8 @@ stops_front b n xs part stops = (
 lacks_front : (b n : SinkState) (xs : Lines) → LacksAt b n xs → AppendsFront b.taken n.taken (concat xs)
 lacks_front b n xs lacks = (
   concat lacks.whole,
-  concat (lacks.line ∷ lacks.others),
-  ap concat lacks.parted ∙ concat-append lacks.whole (lacks.line ∷ lacks.others),
+  concat lacks.others,
+  ap concat lacks.parted ∙ concat-append lacks.whole lacks.others,
   lacks.text,
 )
 

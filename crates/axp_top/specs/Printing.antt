@@ -32,16 +32,15 @@ pub record StopsAt (before now : SinkState) (printed : Lines) (part : List ℕ) 
   pub text : Appends before.taken now.taken (concat whole ++ part)
   pub each : now.puts ≡ raised before.puts (length whole + 1)
 
--- memory was not found for a line, and it was not put: those before it were printed
+-- memory was not found between two puts: these lines were printed, and no other put
 pub record LacksAt (before now : SinkState) (printed : Lines) : Type 0 where
   pub whole : Lines
-  pub line : List ℕ
   pub others : Lines
-  pub parted : printed ≡ whole ++ line ∷ others
+  pub parted : printed ≡ whole ++ others
   pub text : Appends before.taken now.taken (concat whole)
   pub each : now.puts ≡ after_puts before.puts (length whole)
 
--- the sink failed in a line, or memory was not found for its put, or for the line
+-- the sink failed in a line, or memory was not found for its put, or between two
 abbrev pub Stopped : SinkState → SinkState → Lines → Stop → Type 0
 Stopped before now printed stop.WriteFault =
     ((part : List ℕ) × StopsAt before now printed part) × (now.faults ≡ raised before.faults 1)

@@ -44,16 +44,15 @@ StopsIn before now answer part =
     StopsAt before.sink now.sink answer.lines part
     ⊎ (StopsAt before.sink now.sink read_fault.lines part × Rose before.desk.faults now.desk.faults)
 
--- memory was not found for a line of the answer, which was not put; or, where the desk counted a fault, for the read
--- fault's
+-- memory was not found between two puts of the answer; or, where the desk counted a fault, of the read fault
 abbrev pub LacksIn : Outside → Outside → Answer → Type 0
 LacksIn before now answer =
     LacksAt before.sink now.sink answer.lines
     ⊎ (LacksAt before.sink now.sink read_fault.lines × Rose before.desk.faults now.desk.faults)
 
 -- The puts by the answer and the status: one for each line; or, where the work stopped, one for each line before and
--- one for that in which it stopped, of which nothing is taken for want of memory, or which was not put for want of it.
--- None, where memory was not found before the first.
+-- one for that in which it stopped, of which nothing is taken for want of memory; or no put more, where memory was not
+-- found between two.
 abbrev pub PutsEach : Outside → Outside → Answer → Status → Type 0
 PutsEach before now answer status.ReadFault = PutsLines before.sink now.sink read_fault.lines
 PutsEach before now answer status.WriteFault = (part : List ℕ) × StopsIn before now answer part

@@ -1,5 +1,5 @@
 //! One line of a file behind the first: its event is done and printed, or it is refused.
-ghost use Rattle.std.specs.Prelude.{◌≡◌, Some};
+ghost use Rattle.std.specs.Prelude.{◌≡◌, ◌+◌, ◌^◌, ◌<◌, Some};
 ghost use Rattle.axp_access.specs.Spelling.{Spells};
 ghost use Rattle.axp_machine.specs.Runs.{answer_of};
 ghost use Rattle.axp_top.specs.Outside.{sink_state};
@@ -30,7 +30,8 @@ pub enum Step {
 
 /// The number of the line behind a machine's records: the header is the first.
 pub fn next_line(machine: &Machine) -> u32
-    ensures { result ≡ next_line machine.now }
+    ensures value { result ≡ next_line machine.now }
+    ensures few { result < 2 ^ 31 + 2 }
 {
     machine.events() + 2
 }

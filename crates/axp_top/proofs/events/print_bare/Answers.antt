@@ -1,15 +1,10 @@
-use Rattle.std.proofs.Common.{rules, ◌≡◌, Some, ℕ, ◌+◌, ◌-◌, ◌*◌, ◌<◌, ◌≤◌, length, ◌/◌, ◌%◌, Bool, true, false, nat_eq, nat_lt, List, [], ◌∷◌, ◌++◌, slice_index_or, slice_set, bit_and, bit_or, Fits, w8, w32, w64, Bor, MutBor}
-use Rattle.axp_access.specs.Spelling.{Spells}
-use Rattle.axp_machine.specs.Runs.{answer_of}
-use Rattle.axp_top.specs.Outside.{sink_state}
-use Rattle.axp_top.specs.Replays.{event_result, full_result, is_in_order, is_undrained, is_waiting, next_line, refused_event, refused_line, result_of, right_result}
-use Rattle.axp_top.specs.Walks.{PrintsLine, PrintsStep}
+use Rattle.axp_top.proofs.ReplayLemmas.{event_done, event_refused}
 use Rattle.axp_top.proofs.events.print_bare.Goals as goal
 
--- src/events.rt:81:1
 pub returns-in-Err : goal.returns-in-Err
-returns-in-Err g c = ?
+returns-in-Err g c =
+    event_refused _ _ c.args.machine.now c.event.new.self c.refuse_event.new.machine c.args.event c.in-Err.field-0 c.refuse_event.result c.in-Err.ensures.answer c.event.ensures.after c.refuse_event.ensures
 
--- src/events.rt:81:1
 pub returns-in_ok-print_line-in-Ok : goal.returns-in_ok-print_line-in-Ok
-returns-in_ok-print_line-in-Ok g c = ?
+returns-in_ok-print_line-in-Ok g c =
+    event_done _ _ c.args.machine.now c.event.new.self c.args.event c.in-Ok.outcome c.write_event.result.items c.in-Ok.ensures.answer c.event.ensures.after c.write_event.ensures.text c.in_ok-print_line-in-Ok.ensures

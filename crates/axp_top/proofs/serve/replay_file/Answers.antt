@@ -12,7 +12,7 @@ returns-in-Err-Failed g c =
 
 pub returns-in-Err-TooLong : goal.returns-in-Err-TooLong
 returns-in-Err-TooLong g c =
-    trace_long _ _ _ _ c.args.image.now c.refuse_all.result c.in-Err-TooLong.field-0 c.in-Err-TooLong.field-0-is c.in-Err-TooLong.ensures.told c.in-Err-TooLong.ensures.count c.in-Err-TooLong.ensures.asks c.refuse_all.ensures
+    trace_long _ _ _ _ c.args.image.now c.refuse_long.result c.in-Err-TooLong.field-0 c.in-Err-TooLong.field-0-is c.in-Err-TooLong.ensures.told c.in-Err-TooLong.ensures.count c.in-Err-TooLong.ensures.asks c.refuse_long.ensures
 
 pub returns-in-Err-Memory : goal.returns-in-Err-Memory
 returns-in-Err-Memory g c = trace_unfound _ _ _ _ c.args.image.now c.in-Err-Memory.field-0 c.in-Err-Memory.field-0-is refl c.in-Err-Memory.ensures.count c.in-Err-Memory.ensures.asks
