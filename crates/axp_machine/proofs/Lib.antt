@@ -4,6 +4,7 @@ pub mod ReaderLemmas
 pub mod RoomLemmas
 -- the tail, item by item
 pub mod TailLemmas
+pub mod TailOrders
 -- what an event is granted, and what it asks of the bus
 pub mod GrantLemmas
 pub mod AskLemmas

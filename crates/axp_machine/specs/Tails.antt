@@ -30,10 +30,11 @@ ended m p = item.Cpu (cpu_at p) (halt_of (table_of m p).halted) (steps_of m p) (
 abbrev pub register_of : Seen → ℕ → ℕ → ℕ
 register_of m p n = register (table_of m p).state n
 
+-- its register n
 abbrev pub register_item : Seen → ℕ → ℕ → TailItem
 register_item m p n = item.Reg (cpu_at p) n (register_of m p n)
 
--- register n, unless it is 0
+-- the same, unless it is 0
 abbrev pub register_items : Seen → ℕ → ℕ → List TailItem
 register_items m p n = if register_of m p n == 0 then [] else register_item m p n ∷ []
 

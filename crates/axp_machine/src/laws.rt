@@ -1,11 +1,16 @@
 //! Laws of runs, each proved as the contract of a function that does nothing.
-ghost use Rattle.std.specs.Prelude.{ℕ, List, ◌≡◌, ◌++◌};
+ghost use Rattle.std.specs.List.{All, Contains};
+ghost use Rattle.std.specs.Prelude.{ℕ, List, ◌≡◌, ◌++◌, ◌≤◌};
 ghost use Rattle.axp_access.specs.declared.Event.{Event};
 ghost use Rattle.axp_access.specs.declared.Record.{Record};
+ghost use Rattle.axp_access.specs.declared.tail_items.TailItem.{TailItem};
+ghost use Rattle.axp_base.specs.declared.processors.TheConstants.{MAX_CPUS};
 ghost use Rattle.axp_image.specs.Contents.{Contents, IsValid};
 ghost use Rattle.axp_model.specs.Outcomes as model;
 ghost use Rattle.axp_machine.specs.Constraints.{KeepsConstraints};
 ghost use Rattle.axp_machine.specs.Runs.{Seen, IsRun, events_of, processors_of, run, started};
+ghost use Rattle.axp_machine.specs.TailOrder.{AreAscending, IsLeft};
+ghost use Rattle.axp_machine.specs.Tails.{tail_items};
 ghost use Rattle.axp_world.specs.Worlds.{IsPlayed, image_bytes};
 
 /// A machine's records are the run of their own events: the same events, in the same order, bring a
@@ -28,4 +33,13 @@ pub fn runs_keep_the_constraints()
     ensures prefix { (image : Contents) (cpus budget : ℕ) (more h : List Record)
         → IsPlayed image cpus budget (more ++ h) → IsPlayed image cpus budget h }
     ensures constraints { (m : Seen) → IsValid m.image → IsRun m → KeepsConstraints m }
+{}
+
+/// A tail tells all that is left, nothing else, and each thing once: how each processor ended, its
+/// registers that are not 0, the quadwords that were written, the console and the number of events,
+/// in this order, and by ascending processors, registers and addresses.
+pub fn tails_tell_what_is_left()
+    ensures told { (m : Seen) (item : TailItem) → IsLeft m item → Contains (tail_items m) item }
+    ensures left { (m : Seen) → m.cpus ≤ MAX_CPUS → All (IsLeft m) (tail_items m) }
+    ensures ascending { (m : Seen) → m.cpus ≤ MAX_CPUS → AreAscending (tail_items m) }
 {}

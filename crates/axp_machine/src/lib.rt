@@ -10,7 +10,7 @@ mod machine;
 
 pub use axp_cpu::NotLegal;
 pub use axp_regs::{REGISTERS, ZERO_REGISTER};
-pub use laws::{records_are_a_run, runs_keep_the_constraints};
+pub use laws::{records_are_a_run, runs_keep_the_constraints, tails_tell_what_is_left};
 pub use machine::{Machine, TailAt};
 
 #[cfg(test)]

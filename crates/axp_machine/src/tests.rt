@@ -7,6 +7,7 @@ mod instructions;
 mod locks;
 mod runs;
 mod tables;
+mod tails;
 mod translation;
 
 use self::tables::{Expected, both, first_difference, makes, register, start_with};

@@ -1,7 +1,6 @@
 //! The tail of a trace, item by item.
-ghost use Rattle.std.specs.Prelude.{◌≡◌, ◌+◌, ◌-◌, ◌*◌, ◌<◌, ◌≤◌, true, drop, slice_get, IfOk};
+ghost use Rattle.std.specs.Prelude.{◌≡◌, ◌-◌, ◌<◌, ◌≤◌, true, drop, slice_get, IfOk};
 ghost use Rattle.axp_base.specs.Cpus.{cpu_number};
-ghost use Rattle.axp_base.specs.declared.processors.TheConstants.{MAX_CPUS};
 ghost use Rattle.axp_model.specs.Console.{printed};
 ghost use Rattle.axp_machine.specs.Runs.{Seen, is_complete};
 ghost use Rattle.axp_machine.specs.Tails.{IsNext, IsPlace, IsRegister, console_item, cpu_at};
@@ -14,14 +13,17 @@ use axp_base::{Bytes, Cpu, NoMemory, QUADWORD_BYTES};
 use axp_regs::ZERO_REGISTER;
 use std::alloc::Global;
 
-/// A place in the tail of a trace: what follows is the first item that stands there or behind it.
+/// A place in the tail of a trace, whose items `docs/FORMATS.md` lists in their order. A place need
+/// not have an item: a register may be 0, and a quadword untouched.
 #[derive(Clone, Copy, Debug, PartialEq, Eq)]
 pub enum TailAt {
-    /// How the processor of this number ended.
+    /// How the processor of this number ended; a number that no processor has stands behind all
+    /// processors.
     Processor(u8),
-    /// A register of a processor: the processor's number, and the register's.
+    /// A register of a processor: the processor's number, and the register's; a number above 30
+    /// stands behind its registers.
     Register(u8, u8),
-    /// The aligned quadword of memory of this number.
+    /// The aligned quadword of memory of this number; a number beyond memory stands behind it.
     Quadword(u64),
     /// All that went to the console.
     Console,
@@ -41,9 +43,9 @@ impl TailAt {
 }
 
 impl Machine {
-    /// The item of this number, counted from 1, of a complete machine's tail, as `docs/FORMATS.md`
-    /// lists them; `None` exactly past the last. [`NoMemory`] where memory was not found for the
-    /// bytes of the console.
+    /// The item of this number, counted from 1, of a complete machine's tail (`docs/FORMATS.md`, the
+    /// trace); `None` exactly past the last. [`NoMemory`] where memory was not found for the bytes
+    /// of the console.
     pub fn tail(&self, alloc: Global, n: u32) -> Result<Option<TailItem>, NoMemory>
         requires complete { is_complete self.now ≡ true }
         requires first { 1 ≤ n }
@@ -54,7 +56,9 @@ impl Machine {
     }
 
     /// The first item that stands at a place of the tail or behind it, and the place where those
-    /// behind it begin; `None` exactly where there is none. [`NoMemory`] where memory was not found
+    /// behind it begin; `None` exactly where there is none. From [`TailAt::start`] on, these are the
+    /// items of [`Machine::tail`] in their order. A processor that is not halted is told with the
+    /// halt code 0, also where its budget is not spent yet. [`NoMemory`] where memory was not found
     /// for the bytes of the console.
     pub fn tail_next(
         &self,
