@@ -139,7 +139,6 @@ drop_since Even p h u since = since.even
 drop_since Odd p h u since = since.odd
 drop_since Code p h u since = since.code
 
-
 none_of_code : (pairs : List (Line × ℕ)) → AllByRecursion (InBank Code) pairs → is_empty pairs ≡ true
 none_of_code [] all = refl
 none_of_code (x ∷ pairs) all = absurd (false≢true all.0)

@@ -44,7 +44,7 @@ calls_for image cs cpu _ = cs
 -- a Take is not legal where nothing is late, which the bus alone knows
 abbrev pub answer_by : Result Ask2 NotLegal → Option Reply → Outcome → Result Outcome NotLegal
 answer_by (Err e) r o = Err e
-answer_by (Ok q) (Some reply.Nothing) o = Err (record { })
+answer_by (Ok q) (Some reply.Nothing) o = Err (record {})
 answer_by (Ok q) r o = Ok o
 
 -- what an event gives, in a world of so many processors, or that it is not legal
@@ -52,7 +52,7 @@ unfoldable pub answer_of : Contents → ℕ → World → Event → Result Outco
 answer_of image cpus w e =
     if nat_lt (cpu_number e.cpu) cpus
     then answer_by (asked w e) (reply_at image w e) (outcome_of (w.actors (cpu_number e.cpu)) e.act (reply_at image w e))
-    else Err (record { })
+    else Err (record {})
 
 -- the world after a legal event
 unfoldable pub after_event : Contents → World → Event → World
