@@ -1,6 +1,5 @@
 -- How far an entry has come is so by the records.
 use Rattle.std.proofs.Common.{◌≡◌, ℕ, ◌≤◌, sym}
-use Rattle.axp_access.specs.declared.entry_states.EntryState.{EntryState}
 use Rattle.axp_access.specs.declared.entry_states.EntryState.TheVariants as entry
 use Rattle.axp_base.specs.Cpus.{cpu_number}
 use Rattle.axp_base.specs.declared.processors.Cpu.{Cpu}

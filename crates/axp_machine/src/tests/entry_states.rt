@@ -30,13 +30,25 @@ fn entries_are_written_and_then_drained(rt: HostRuntime) -> Result<(), Fail> {
     assert_eq!(rt; states(&machine, a), [unwritten; 4]);
     // the store; the write barrier leaves its entry waiting
     assert!(rt; makes(&mut machine, a, &[Act::Step, Act::Step, Act::Step]));
-    assert_eq!(rt; states(&machine, a), [unwritten, waiting, unwritten, unwritten]);
+    assert_eq!(rt;
+        states(&machine, a),
+        [unwritten, waiting, unwritten, unwritten]
+    );
     assert!(rt; makes(&mut machine, a, &[Act::Step, Act::Step]));
-    assert_eq!(rt; states(&machine, a), [unwritten, waiting, waiting, unwritten]);
+    assert_eq!(rt;
+        states(&machine, a),
+        [unwritten, waiting, waiting, unwritten]
+    );
     assert!(rt; makes(&mut machine, a, &[Act::Drain(0)]));
-    assert_eq!(rt; states(&machine, a), [unwritten, drained, waiting, unwritten]);
+    assert_eq!(rt;
+        states(&machine, a),
+        [unwritten, drained, waiting, unwritten]
+    );
     assert!(rt; makes(&mut machine, a, &[Act::Drain(0)]));
-    assert_eq!(rt; states(&machine, a), [unwritten, drained, drained, unwritten]);
+    assert_eq!(rt;
+        states(&machine, a),
+        [unwritten, drained, drained, unwritten]
+    );
     for other in [b, none] {
         assert_eq!(rt; states(&machine, other), [unwritten; 4]);
     }
