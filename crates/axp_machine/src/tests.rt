@@ -3,6 +3,7 @@ ghost use Rattle.axp_base.specs.declared.processors.TheConstants.{MAX_BUDGET};
 
 mod calls;
 mod entries;
+mod entry_states;
 mod instructions;
 mod locks;
 mod runs;

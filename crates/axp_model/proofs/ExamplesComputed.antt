@@ -4,7 +4,7 @@ use Rattle.axp_base.specs.Parts.{number_at}
 use Rattle.axp_access.specs.Order.{key_before}
 use Rattle.axp_model.specs.Legal.{legal}
 use Rattle.axp_model.specs.Outcomes.{outcome_of}
-use Rattle.axp_model.specs.Examples.{StoreBuffering, MixedSources, Merging, WriteBarrierBetween, YoungerGroupWaits, FullBuffer, RoomAfterDrain, DependentLoad, TakenInTime, ReadWantsCopy, BarrierBetween, DroppedAndFilled, OneDropAStep, SignalIsATurn, SignalBehindBarrier, LockRange, AnotherBlock, OwnStoreWaits, OwnStoreDrained, CodeAfterMb, CodeAfterImb}
+use Rattle.axp_model.specs.Examples.{StoreBuffering, MixedSources, Merging, EntriesRoundWriteBarrier, WriteBarrierBetween, YoungerGroupWaits, FullBuffer, RoomAfterDrain, DependentLoad, TakenInTime, ReadWantsCopy, BarrierBetween, DroppedAndFilled, OneDropAStep, SignalIsATurn, SignalBehindBarrier, LockRange, AnotherBlock, OwnStoreWaits, OwnStoreDrained, CodeAfterMb, CodeAfterImb}
 
 pub store_buffering : StoreBuffering
 unfolding legal outcome_of key_before number_at
@@ -21,6 +21,9 @@ merging = refl
 pub write_barrier_between : WriteBarrierBetween
 unfolding legal outcome_of key_before number_at
 write_barrier_between = refl
+
+pub entries_round_write_barrier : EntriesRoundWriteBarrier
+entries_round_write_barrier = (refl, refl)
 
 pub younger_group_waits : YoungerGroupWaits
 unfolding legal outcome_of key_before number_at

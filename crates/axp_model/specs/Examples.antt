@@ -17,6 +17,8 @@ use Rattle.axp_access.specs.declared.Place.{Place}
 use Rattle.axp_access.specs.declared.Place.TheVariants.{At, Entry, Absent}
 use Rattle.axp_access.specs.declared.Record.{Record}
 use Rattle.axp_access.specs.declared.Wanted.{Wanted}
+use Rattle.axp_access.specs.declared.entry_states.EntryState.TheVariants as entry
+use Rattle.axp_model.specs.EntryStates.{entry_state}
 use Rattle.axp_model.specs.Records.{is_of, makes_access}
 use Rattle.axp_access.specs.Kinds.{is_locked, is_conditional}
 use Rattle.axp_base.specs.Lines.{line_at}
@@ -297,15 +299,24 @@ written_round_wmb =
     ∷ cpu0 writes 0x4000 value 2 entry 3
     ∷ []
 
+abbrev pub drained_round_wmb : List Record
+drained_round_wmb =
+    written_round_wmb
+    ++ cpu0 drains 0 entry 1 line 0x4000 at 1
+    ∷ cpu0 drains 1 entry 3 line 0x4000 at 2
+    ∷ []
+
 -- A write barrier between: the last write joins no entry from before the WMB, but gets entry 3. Once
 -- entry 1 is drained, those after the WMB may be, in any order.
 abbrev pub WriteBarrierBetween : Type 0
-WriteBarrierBetween =
-    Shows zeros writes_round_wmb
-    (written_round_wmb
-    ++ cpu0 drains 0 entry 1 line 0x4000 at 1
-    ∷ cpu0 drains 1 entry 3 line 0x4000 at 2
-    ∷ [])
+WriteBarrierBetween = Shows zeros writes_round_wmb drained_round_wmb
+
+-- How far its entries have come: entries 1 and 3 are drained and entry 2 waits; none is numbered 0, and
+-- entry 4 is not made yet. The other processor has none.
+abbrev pub EntriesRoundWriteBarrier : Type 0
+EntriesRoundWriteBarrier =
+    (map (λ n. entry_state 0 n (reverse drained_round_wmb)) (0 ∷ 1 ∷ 2 ∷ 3 ∷ 4 ∷ []) ≡ entry.Unwritten ∷ entry.Drained ∷ entry.Waiting ∷ entry.Drained ∷ entry.Unwritten ∷ [])
+    × (entry_state 1 1 (reverse drained_round_wmb) ≡ entry.Unwritten)
 
 -- The younger group waits: while entry 1 does, it alone is the oldest group, so that the drain of a
 -- second entry is refused.

@@ -11,6 +11,7 @@ ghost use Rattle.axp_model.specs.Examples.{Merging, MixedSources, OneDropAStep, 
 ghost use Rattle.axp_model.specs.Examples.{OwnStoreWaits, ReadWantsCopy, RoomAfterDrain};
 ghost use Rattle.axp_model.specs.Examples.{SignalBehindBarrier, SignalIsATurn, StoreBuffering};
 ghost use Rattle.axp_model.specs.Examples.{TakenInTime, WriteBarrierBetween, YoungerGroupWaits};
+ghost use Rattle.axp_model.specs.Examples.{EntriesRoundWriteBarrier};
 ghost use Rattle.axp_model.specs.Outcomes.{IsRun};
 
 /// A trace that an example shows is a run, as the laws of the model speak of one: what holds of
@@ -23,14 +24,16 @@ pub fn shown_traces_are_runs()
 /// Writes wait in write buffers. So two processors both read old data (`store_buffering`), and a
 /// read takes bytes of its own processor's waiting write and others of older memory
 /// (`mixed_sources`). A write joins the entry of its line, and so passes one in between
-/// (`merging`), but no write barrier (`write_barrier_between`): what comes after one is not drained
-/// before what came before (`younger_group_waits`). A full buffer refuses a write (`full_buffer`)
-/// until an entry is drained (`room_after_drain`).
+/// (`merging`), but no write barrier (`write_barrier_between`, with how far each entry has then
+/// come, `entries_round_write_barrier`): what comes after one is not drained before what came
+/// before (`younger_group_waits`). A full buffer refuses a write (`full_buffer`) until an entry is
+/// drained (`room_after_drain`).
 pub fn writes_wait()
     ensures store_buffering { StoreBuffering }
     ensures mixed_sources { MixedSources }
     ensures merging { Merging }
     ensures write_barrier_between { WriteBarrierBetween }
+    ensures entries_round_write_barrier { EntriesRoundWriteBarrier }
     ensures younger_group_waits { YoungerGroupWaits }
     ensures full_buffer { FullBuffer }
     ensures room_after_drain { RoomAfterDrain }

@@ -7,6 +7,7 @@ returns c = record {
   mixed_sources = example.mixed_sources;
   merging = example.merging;
   write_barrier_between = example.write_barrier_between;
+  entries_round_write_barrier = example.entries_round_write_barrier;
   younger_group_waits = example.younger_group_waits;
   full_buffer = example.full_buffer;
   room_after_drain = example.room_after_drain;
