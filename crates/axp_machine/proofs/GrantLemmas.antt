@@ -42,7 +42,7 @@ pub answers : (m : Seen) (e : Event) (g : Result Ask2 NotLegal) → g ≡ grante
 answers m e g is = answer_passed m e ∙ ap (λ (x : Result Ask2 NotLegal). passed x (outcome_in m e)) (sym is)
 
 -- an event of no processor of the machine
-pub granted_past : (m : Seen) (e : Event) → m.cpus ≤ cpu_number e.cpu → Err (record { }) ≡ granted_in m e
+pub granted_past : (m : Seen) (e : Event) → m.cpus ≤ cpu_number e.cpu → Err (record {}) ≡ granted_in m e
 unfolding granted_in
 granted_past m e past = rw (le-ltb (cpu_number e.cpu) m.cpus past) refl
 
@@ -56,16 +56,16 @@ granted_below m e a below is =
 pub granted_refused : (m : Seen) (e : Event) (refused : NotLegal) → cpu_number e.cpu < m.cpus → asked (world_of m) e ≡ Err refused → Err refused ≡ granted_in m e
 granted_refused m e refused below is = sym (granted_below m e (Err refused) below is)
 
-by_nothing : (q : Ask2) (r : Option Reply) → granted_by (Ok q) r ≡ cond (is_nothing r) (Err (record { })) (Ok q)
+by_nothing : (q : Ask2) (r : Option Reply) → granted_by (Ok q) r ≡ cond (is_nothing r) (Err (record {})) (Ok q)
 by_nothing q None = refl
 by_nothing q (Some reply.Nothing) = refl
 by_nothing q (Some _) = refl
 
 -- one that its processor allows
 pub granted_asked : (m : Seen) (e : Event) (q : Ask2) (vain : Bool) → cpu_number e.cpu < m.cpus → asked (world_of m) e ≡ Ok q → vain ≡ is_nothing (reply_for (image_bytes m.image) (world_of m).calls (cpu_number e.cpu) (Ok q))
-    → cond vain (Err (record { })) (Ok q) ≡ granted_in m e
+    → cond vain (Err (record {})) (Ok q) ≡ granted_in m e
 granted_asked m e q vain below is tests =
-    ap (λ b. cond b (Err (record { })) (Ok q)) tests ∙ sym (by_nothing q (reply_for (image_bytes m.image) (world_of m).calls (cpu_number e.cpu) (Ok q))) ∙ sym (granted_below m e (Ok q) below is)
+    ap (λ b. cond b (Err (record {})) (Ok q)) tests ∙ sym (by_nothing q (reply_for (image_bytes m.image) (world_of m).calls (cpu_number e.cpu) (Ok q))) ∙ sym (granted_below m e (Ok q) below is)
 
 -- what a granted event is
 pub record IsGranted (m : Seen) (e : Event) (q : Ask2) : Type 0 where
@@ -80,7 +80,7 @@ by_ok (Ok x) None q is = let same : x ≡ q = cc in (ap (λ (y : Ask2). Ok y) sa
 by_ok (Ok x) (Some reply.Nothing) q is = cc
 by_ok (Ok x) (Some _) q is = let same : x ≡ q = cc in (ap (λ (y : Ask2). Ok y) same, λ e. cc)
 
-parts_below : (m : Seen) (e : Event) (q : Ask2) (b : Bool) → ltb (cpu_number e.cpu) m.cpus ≡ b → cond b (granted m.image (world_of m) e) (Err (record { })) ≡ Ok q
+parts_below : (m : Seen) (e : Event) (q : Ask2) (b : Bool) → ltb (cpu_number e.cpu) m.cpus ≡ b → cond b (granted m.image (world_of m) e) (Err (record {})) ≡ Ok q
     → (cpu_number e.cpu < m.cpus) × ((asked (world_of m) e ≡ Ok q) × (reply_at m.image (world_of m) e ≡ Some reply.Nothing → ⊥))
 parts_below m e q true below is = (ltb-true (cpu_number e.cpu) m.cpus below, by_ok (asked (world_of m) e) (reply_at m.image (world_of m) e) q is)
 parts_below m e q false past is = cc

@@ -22,7 +22,7 @@ use Rattle.axp_machine.specs.Runs.{Seen, world_of}
 -- what is asked is granted, but for a take where nothing is late
 abbrev pub granted_by : Result Ask2 NotLegal → Option Reply → Result Ask2 NotLegal
 granted_by (Err e) r = Err e
-granted_by (Ok q) (Some reply.Nothing) = Err (record { })
+granted_by (Ok q) (Some reply.Nothing) = Err (record {})
 granted_by (Ok q) r = Ok q
 
 abbrev pub granted : Contents → World → Event → Result Ask2 NotLegal
@@ -30,7 +30,7 @@ granted image w e = granted_by (asked w e) (reply_at image w e)
 
 -- what an event of a machine's processor asks
 unfoldable pub granted_in : Seen → Event → Result Ask2 NotLegal
-granted_in m e = if nat_lt (cpu_number e.cpu) m.cpus then granted m.image (world_of m) e else Err (record { })
+granted_in m e = if nat_lt (cpu_number e.cpu) m.cpus then granted m.image (world_of m) e else Err (record {})
 
 -- the bus answers that there is nothing
 abbrev pub is_nothing : Option Reply → Bool

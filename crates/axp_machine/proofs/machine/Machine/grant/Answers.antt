@@ -17,23 +17,23 @@ pub returns-then-from-len-clause-granted : goal.returns-then-from-len-clause-gra
 returns-then-from-len-clause-granted c = granted_past c.args.self.now c.args.event (past c)
 
 pub returns-then-from-len-clause-answer : goal.returns-then-from-len-clause-answer
-returns-then-from-len-clause-answer c = answers c.args.self.now c.args.event (Err (record { })) (granted_past c.args.self.now c.args.event (past c))
+returns-then-from-len-clause-answer c = answers c.args.self.now c.args.event (Err (record {})) (granted_past c.args.self.now c.args.event (past c))
 
 -- its processor refuses
-refuses : (c : goal.In-Err) → Err (record { }) ≡ granted_in c.args.self.now c.args.event
+refuses : (c : goal.In-Err) → Err (record {}) ≡ granted_in c.args.self.now c.args.event
 refuses c =
     let count = ap (λ (m : Seen). m.cpus) c.self.view_is in
-    granted_refused c.args.self.now c.args.event (record { }) (omega (arith, count, c.if-from-len.false, c.len.ensures, c.from.ensures, c.number.ensures.value))
+    granted_refused c.args.self.now c.args.event (record {}) (omega (arith, count, c.if-from-len.false, c.len.ensures, c.from.ensures, c.number.ensures.value))
     (sym (c.request.ensures.asked (actor_of c.args.self.now (cpu_number c.args.event.cpu)) c.processor.ensures.at) ∙ c.in-Err.is)
 
 pub returns-in-Err-clause-granted : goal.returns-in-Err-clause-granted
 returns-in-Err-clause-granted c = refuses c
 
 pub returns-in-Err-clause-answer : goal.returns-in-Err-clause-answer
-returns-in-Err-clause-answer c = answers c.args.self.now c.args.event (Err (record { })) (refuses c)
+returns-in-Err-clause-answer c = answers c.args.self.now c.args.event (Err (record {})) (refuses c)
 
 -- a take in vain
-vain : (c : goal.Then-is_taken_in_vain) → Err (record { }) ≡ granted_in c.args.self.now c.args.event
+vain : (c : goal.Then-is_taken_in_vain) → Err (record {}) ≡ granted_in c.args.self.now c.args.event
 vain c =
     let count = ap (λ (m : Seen). m.cpus) c.self.view_is in
     let stands = subst (λ (m : Seen). Stands c.self.inside.bus (image_bytes m.image) (world_of m).calls) c.self.view_is c.self.invariant.bus in
@@ -45,7 +45,7 @@ pub returns-then-is_taken_in_vain-clause-granted : goal.returns-then-is_taken_in
 returns-then-is_taken_in_vain-clause-granted c = vain c
 
 pub returns-then-is_taken_in_vain-clause-answer : goal.returns-then-is_taken_in_vain-clause-answer
-returns-then-is_taken_in_vain-clause-answer c = answers c.args.self.now c.args.event (Err (record { })) (vain c)
+returns-then-is_taken_in_vain-clause-answer c = answers c.args.self.now c.args.event (Err (record {})) (vain c)
 
 pub returns-else-is_taken_in_vain-clause-granted : goal.returns-else-is_taken_in_vain-clause-granted
 returns-else-is_taken_in_vain-clause-granted c =
