@@ -1,4 +1,4 @@
-ghost use Rattle.std.specs.Prelude.{◌≡◌, ◌≤◌, IfSome};
+ghost use Rattle.std.specs.Prelude.{◌≡◌, ◌≤◌, ◌&&◌, IfSome, is_none};
 ghost use Rattle.axp_base.specs.Cpus.{cpu_number};
 ghost use Rattle.axp_base.specs.declared.processors.TheConstants.{MAX_CPUS};
 ghost use Rattle.axp_cpu.specs.Phases.{ended, plan_of, EndingFits, PhaseFits};
@@ -131,11 +131,18 @@ impl Sequencer {
     {
         Intent {
             finished: self.finished(),
-            boundary: self.making.is_none() && self.table.pending.is_none(),
+            boundary: self.is_at_boundary(),
             takes_interrupts: self.table.state.ps() % 8 < 5,
             lock_flag: self.table.state.locked(),
             wanted: self.wanted(),
         }
+    }
+
+    /// Whether it has made no access of its next group, and is about to make no entry.
+    fn is_at_boundary(&self) -> bool
+        ensures { result ≡ (is_none self.now.making && is_none self.now.table.pending) }
+    {
+        self.making.is_none() && self.table.pending.is_none()
     }
 
     /// Makes a step whose access gave this value, 0 where it gives none.

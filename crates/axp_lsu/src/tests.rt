@@ -9,7 +9,7 @@ ghost use Rattle.axp_lsu.specs.Fitting.{FitsRequest, IsWantedInSome, IsWithinSom
 ghost use Rattle.axp_lsu.specs.Within.{IsInMemory, IsKeptWithin, IsWantedBy, IsWantedWithin};
 
 use super::*;
-use axp_access::{Act, EntryState, Intent, Outcome, Place, Wanted};
+use axp_access::{Act, EntryState, Intent, Offer, Outcome, Place, Wanted};
 use axp_base::{Bank, Cpu, Line};
 use axp_line::{LineData, Reply, Request};
 use axp_regs::Kind;
@@ -58,6 +58,11 @@ impl Rig {
     /// What an act asks.
     fn asks(&self, act: Act, intent: &Intent) -> Option<Ask2> {
         self.lsu.ask(act, intent)
+    }
+
+    /// What is offered.
+    fn offers(&self, intent: &Intent) -> Offer {
+        self.lsu.offer(intent, &intent.wanted)
     }
 
     /// The act is legal.
@@ -478,6 +483,30 @@ fn each_bank_gives_up_one_line_a_step(rt: HostRuntime) {
     assert!(rt; rig.makes(&read, None).is_some());
     assert!(rt; rig.may(next, &read));
     assert!(rt; !rig.may(odd, &read));
+}
+
+#[test]
+fn offer_names_what_may_be_done(rt: HostRuntime) {
+    let mut rig = Rig::empty();
+    for address in [EVEN, ODD] {
+        rig.makes(&wants(Kind::Write, address, 8, 1), None);
+    }
+    let read = wants(Kind::Read, NEXT_EVEN, 8, 0);
+    rig.fills(&read, 1, LineData::zero());
+    let filled = rig.offers(&read);
+    assert!(rt; filled.step && !filled.fill);
+    assert_eq!(rt; (filled.drains, filled.late), (0, (false, false)));
+    assert!(rt; filled.drops.is_empty());
+    rig.makes(&read, None);
+    let offer = rig.offers(&wants(Kind::Read, NEXT_ODD, 8, 0));
+    assert!(rt; !offer.spent && !offer.step && offer.fill);
+    assert_eq!(rt; (offer.drains, offer.late), (2, (true, true)));
+    assert_eq!(rt;
+        offer.drops.as_slice(),
+        &[(Bank::Even, Line::of(NEXT_EVEN))][..]
+    );
+    assert_eq!(rt; offer.needs, None);
+    assert!(rt; !offer.poll && !offer.tick);
 }
 
 #[test]

@@ -5,7 +5,9 @@ mod calls;
 mod entries;
 mod entry_states;
 mod instructions;
+mod interrupts;
 mod locks;
+mod offers;
 mod runs;
 mod tables;
 mod tails;
@@ -13,8 +15,8 @@ mod translation;
 
 use self::tables::{Expected, both, first_difference, makes, register, start_with};
 use super::*;
-use axp_access::{Access, Act, Event, Kind, Outcome, Place};
-use axp_base::{Bank, Cpu, Line, QUADWORD_BYTES};
+use axp_access::{Access, Act, Event, Kind, Offer, Outcome, Place};
+use axp_base::{Bank, Cpu, Line, NoMemory, QUADWORD_BYTES};
 use axp_image::read_image;
 use std::alloc::Global;
 use std::test::Fail;
@@ -109,7 +111,7 @@ fn both_processors_read_their_own_store(rt: HostRuntime) -> Result<(), Fail> {
     ];
     assert_eq!(rt; first_difference(&mut machine, &stored), None);
     let delivered = [
-        (b, Act::Poll, Expected::NotBuilt),
+        (b, Act::Poll, Expected::Polled(false, false, 0)), // at level 7
         (b, Act::Take(Bank::Even), Expected::NotLegal), // nothing is late
         (a, Act::Drain(0), Expected::Drained(STACK, 1)),
         (b, Act::Take(Bank::Odd), Expected::NotLegal),
@@ -122,7 +124,7 @@ fn both_processors_read_their_own_store(rt: HostRuntime) -> Result<(), Fail> {
         (a, Act::Step, Expected::NotLegal), // it is halted
     ];
     assert_eq!(rt; first_difference(&mut machine, &delivered), None);
-    assert_eq!(rt; machine.events(), 20);
+    assert_eq!(rt; machine.events(), 21);
     assert!(rt; !machine.complete());
     assert_eq!(rt; machine.budget(), 7);
     assert_eq!(rt; register(&machine, a, 3), Some(1));

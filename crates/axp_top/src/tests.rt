@@ -161,14 +161,8 @@ fn ends_at_the_first_event_that_is_not_legal(rt: HostRuntime) -> Result<(), Fail
 }
 
 #[test]
-fn ends_at_the_first_line_that_is_not_built(rt: HostRuntime) -> Result<(), Fail> {
+fn ends_at_the_first_line_that_is_no_event(rt: HostRuntime) -> Result<(), Fail> {
     let lists = [
-        // an interrupt that is legal
-        Ended {
-            events: "0 poll\n",
-            printed: "axp: not built at event 1\n",
-            status: Status::NotBuilt { event: 1 },
-        },
         // no processor has number 2
         Ended {
             events: "2 step\n",
@@ -200,6 +194,12 @@ fn ends_where_the_list_is_incomplete(rt: HostRuntime) -> Result<(), Fail> {
             events: "",
             printed: "axp: incomplete after event 0\n",
             status: Status::Incomplete { event: 0 },
+        },
+        // nothing is requested, and no processor stepped
+        Ended {
+            events: "1 poll\n",
+            printed: "1 poll : 0 @0 stay\naxp: incomplete after event 1\n",
+            status: Status::Incomplete { event: 1 },
         },
         // processor 1 is not finished
         Ended {

@@ -56,7 +56,7 @@ pub(super) fn next_access(machine: &mut Machine, cpu: Cpu) -> Option<(u64, u64)>
         act: Act::Fill,
     };
     let stepped = match machine.event(step) {
-        Err(Refusal::NotLegal) => match machine.event(fill) {
+        Err(NotLegal) => match machine.event(fill) {
             Ok(_) => machine.event(step),
             Err(refusal) => Err(refusal),
         },

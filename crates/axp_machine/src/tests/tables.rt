@@ -26,18 +26,24 @@ pub(super) enum Expected {
     Written(u64, u64),
     /// The first entry, of the line of an address, as this turn.
     Drained(u64, u64),
+    /// A write of the quadword at an address into an entry of this number.
+    WrittenAs(u64, u64, u32),
     /// The stack's line of the first turn, by which the copy goes.
     Taken,
+    /// A signal to this processor, and its turn.
+    Signalled(u8, u64),
+    /// A byte for the console, and how many turns were made.
+    Printed(u8, u64),
+    /// Whether a signal is awaited, whether its entry begins, and how many turns were made.
+    Polled(bool, bool, u64),
     /// Nothing more than that it was done.
     Done,
     /// It is not legal.
     NotLegal,
-    /// It comes to what is not built.
-    NotBuilt,
 }
 
 /// The outcome of an event of a processor that is to give this.
-fn outcome_of(cpu: Cpu, expected: Expected) -> Result<Outcome, Refusal> {
+fn outcome_of(cpu: Cpu, expected: Expected) -> Result<Outcome, NotLegal> {
     match expected {
         Expected::CodeFilled => Ok(filled(Bank::Code, CODE, 0)),
         Expected::Filled(turn) => Ok(filled(Bank::Even, STACK, turn)),
@@ -57,6 +63,9 @@ fn outcome_of(cpu: Cpu, expected: Expected) -> Result<Outcome, Refusal> {
         })),
         Expected::Read(at, value, turn) => access(cpu, Kind::Read, at, 8, value, Place::At(turn)),
         Expected::Written(at, value) => access(cpu, Kind::Write, at, 8, value, Place::Entry(1)),
+        Expected::WrittenAs(at, value, entry) => {
+            access(cpu, Kind::Write, at, 8, value, Place::Entry(entry))
+        }
         Expected::Drained(at, turn) => Ok(Outcome::Drained {
             entry: 1,
             line: Line::of(at),
@@ -68,8 +77,18 @@ fn outcome_of(cpu: Cpu, expected: Expected) -> Result<Outcome, Refusal> {
             gone: true,
         }),
         Expected::Done => Ok(Outcome::Done),
-        Expected::NotLegal => Err(Refusal::NotLegal),
-        Expected::NotBuilt => Err(Refusal::NotBuilt),
+        Expected::Signalled(target, turn) => {
+            access(cpu, Kind::Signal, 0, 0, u64::from(target), Place::At(turn))
+        }
+        Expected::Printed(byte, turn) => {
+            access(cpu, Kind::Console, 0, 0, u64::from(byte), Place::At(turn))
+        }
+        Expected::Polled(pending, entered, turn) => Ok(Outcome::Polled {
+            pending,
+            entered,
+            turn,
+        }),
+        Expected::NotLegal => Err(NotLegal),
     }
 }
 
@@ -90,7 +109,7 @@ fn access(
     size: u8,
     value: u64,
     place: Place,
-) -> Result<Outcome, Refusal> {
+) -> Result<Outcome, NotLegal> {
     Ok(Outcome::Access(Access {
         cpu,
         kind,
@@ -136,7 +155,7 @@ pub(super) fn start_with(alloc: Global, words: &[u32], budget: u32) -> Result<Ma
     load(alloc, words, budget)
 }
 
-/// Whether each of these acts of a processor was legal and built.
+/// Whether each of these acts of a processor was legal.
 pub(super) fn makes(machine: &mut Machine, cpu: Cpu, acts: &[Act]) -> bool {
     for n in 0..acts.len() {
         let act = acts[n];

@@ -1,4 +1,5 @@
-//! Entries to the operating system, and the calls of PALcode that reach beyond their processor.
+//! Entries to the operating system, interrupts among them, and the calls of PALcode that reach beyond
+//! their processor.
 use super::worked::{Layout, PLAIN, Worked, holds};
 use crate::Status;
 use std::test::Fail;
@@ -180,20 +181,62 @@ const FRAME_IS_NOT_ALIGNED: Worked = Worked {
     ..OVERFLOW
 };
 
-/// LDA R16, 1(R31); wripir: the step that would fetch it is refused.
+/// LDA R16, 1(R31); wripir: processor 1 is signalled. At level 7 its poll leaves the request.
 const SIGNAL: Worked = Worked {
     words: &[0x221F_0001, 0x0000_000D],
     layout: &PLAIN,
     budget: "20",
     start: "0 fill : i 00002000 @0\n\
         0 step : i 00002000 221F0001 @0\n",
-    rest: "axp: not built at event 3\n",
-    more: "0 step\n",
-    status: Status::NotBuilt { event: 3 },
+    rest: "0 step : i 00002004 0000000D @0\n\
+        0 step : g 1 @1\n\
+        0 poll : 0 @1 stay\n\
+        1 poll : 1 @1 stay\n\
+        axp: incomplete after event 6\n",
+    more: "",
+    status: Status::Incomplete { event: 6 },
 };
 
-/// LDA R16, 1(R31); LDA R17, 0x14B(R31); cserve: so is one that would fetch this, where it has a
-/// byte for the console.
+/// swpipl, to level 0; wripir, to itself: the poll begins the entry.
+const SIGNAL_TO_ITSELF: Worked = Worked {
+    words: &[0x0000_0035, 0x0000_000D, 0],
+    layout: &PLAIN,
+    budget: "20",
+    start: "0 fill : i 00002000 @0\n\
+        0 step : i 00002000 00000035 @0\n\
+        0 step : i 00002004 0000000D @0\n\
+        0 step : g 0 @1\n\
+        0 poll : 1 @1 enter\n",
+    rest: "0 step : w 00003FD0 8 0000000000000000 e1\n\
+        0 step : w 00003FD8 8 FFFFFC0000002008 e1\n\
+        axp: incomplete after event 7\n",
+    more: "",
+    status: Status::Incomplete { event: 7 },
+};
+
+/// A poll in place of the first write is refused.
+const POLL_AFTER_ONE_THAT_ENTERED: Worked = Worked {
+    rest: "axp: not legal at event 6\n",
+    more: "0 poll\n",
+    status: Status::NotLegal { event: 6 },
+    ..SIGNAL_TO_ITSELF
+};
+
+/// wripir, to itself, at level 7: the first poll stays, and the second is one too many.
+const TWO_POLLS: Worked = Worked {
+    words: &[0x0000_000D, 0],
+    layout: &PLAIN,
+    budget: "20",
+    start: "0 fill : i 00002000 @0\n\
+        0 step : i 00002000 0000000D @0\n",
+    rest: "0 step : g 0 @1\n\
+        0 poll : 1 @1 stay\n\
+        axp: not legal at event 5\n",
+    more: "0 poll\n",
+    status: Status::NotLegal { event: 5 },
+};
+
+/// LDA R16, 1(R31); LDA R17, 0x14B(R31); cserve: the low byte goes to the console.
 const CONSOLE: Worked = Worked {
     words: &[0x221F_0001, 0x223F_014B, 0x0000_0009],
     layout: &PLAIN,
@@ -201,21 +244,59 @@ const CONSOLE: Worked = Worked {
     start: "0 fill : i 00002000 @0\n\
         0 step : i 00002000 221F0001 @0\n\
         0 step : i 00002004 223F014B @0\n",
-    rest: "axp: not built at event 4\n",
-    more: "0 step\n",
-    status: Status::NotBuilt { event: 4 },
+    rest: "0 step : i 00002008 00000009 @0\n\
+        0 step : p 4B @0\n\
+        axp: incomplete after event 5\n",
+    more: "",
+    status: Status::Incomplete { event: 5 },
 };
 
-/// swpipl, to level 0; bpt: at the boundary between them a tick is legal, which is not built.
+/// swpipl, to level 0; bpt: at the boundary between them a tick is legal.
 const TICK_AT_A_BOUNDARY: Worked = Worked {
     words: &[0x0000_0035, 0x0000_0080],
     layout: &PLAIN,
     budget: "20",
     start: "0 fill : i 00002000 @0\n\
         0 step : i 00002000 00000035 @0\n",
-    rest: "axp: not built at event 3\n",
+    rest: "0 tick : ok\n\
+        0 step : w 00003FD0 8 0000000000000000 e1\n\
+        0 step : w 00003FD8 8 FFFFFC0000002004 e1\n\
+        axp: incomplete after event 5\n",
+    more: "",
+    status: Status::Incomplete { event: 5 },
+};
+
+/// Behind a fill only the step is legal.
+const TICK_AFTER_A_FILL: Worked = Worked {
+    start: "0 fill : i 00002000 @0\n",
+    rest: "axp: not legal at event 2\n",
     more: "0 tick\n",
-    status: Status::NotBuilt { event: 3 },
+    status: Status::NotLegal { event: 2 },
+    ..TICK_AT_A_BOUNDARY
+};
+
+/// The stack is no multiple of a quadword's bytes: the tick halts its processor. It is no step, and
+/// the registers and the program counter stay.
+const TICK_HALTS: Worked = Worked {
+    layout: &Layout {
+        stack: 0x4004,
+        ..PLAIN
+    },
+    rest: "0 tick : ok\n\
+        1 fill : i 00002000 @0\n\
+        1 step : i 00002000 00000035 @0\n\
+        1 tick : ok\n\
+        cpu 0 halt 2 steps 1 pc FFFFFC0000002004\n\
+        reg 0 0 0000000000000007\n\
+        reg 0 30 FFFFFC0000004004\n\
+        cpu 1 halt 2 steps 1 pc FFFFFC0000002004\n\
+        reg 1 0 0000000000000007\n\
+        reg 1 16 0000000000000001\n\
+        reg 1 30 FFFFFC0000004004\n\
+        console -\n\
+        end 6\n",
+    status: Status::Done,
+    ..TICK_AT_A_BOUNDARY
 };
 
 /// Between two writes of the frame it is not legal.
@@ -255,13 +336,15 @@ fn entries_save_their_frames(rt: HostRuntime) -> Result<(), Fail> {
 
 #[test]
 fn frames_that_cannot_be_saved_halt(rt: HostRuntime) -> Result<(), Fail> {
-    assert!(rt; holds(rt.alloc(), &FRAME_IS_NOT_ALIGNED)?);
+    for worked in [&FRAME_IS_NOT_ALIGNED, &TICK_HALTS] {
+        assert!(rt; holds(rt.alloc(), worked)?);
+    }
     Ok(())
 }
 
 #[test]
-fn signals_and_the_console_are_not_built(rt: HostRuntime) -> Result<(), Fail> {
-    for worked in [&SIGNAL, &CONSOLE] {
+fn signals_and_console_bytes_are_printed(rt: HostRuntime) -> Result<(), Fail> {
+    for worked in [&SIGNAL, &SIGNAL_TO_ITSELF, &CONSOLE] {
         assert!(rt; holds(rt.alloc(), worked)?);
     }
     Ok(())
@@ -270,7 +353,10 @@ fn signals_and_the_console_are_not_built(rt: HostRuntime) -> Result<(), Fail> {
 #[test]
 fn interrupts_come_at_boundaries_alone(rt: HostRuntime) -> Result<(), Fail> {
     for worked in [
+        &POLL_AFTER_ONE_THAT_ENTERED,
+        &TWO_POLLS,
         &TICK_AT_A_BOUNDARY,
+        &TICK_AFTER_A_FILL,
         &TICK_INSIDE_AN_ENTRY,
         &POLL_AHEAD_OF_A_FRAME,
     ] {
