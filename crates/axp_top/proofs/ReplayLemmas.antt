@@ -1,6 +1,6 @@
 -- From line to line through a file.
 use Rattle.std.proofs.Common.{◌≡◌, ℕ, ◌+◌, ◌<◌, ◌≤◌, Bool, true, false, cond, List, [], ◌∷◌, ◌++◌, length, Option, Some, None, Result, Ok, Err, refl, sym, ap, ◌∙◌, subst, append_assoc, append-nil, arith}
-use Rattle.std.specs.Prelude.{IsErrAnd, ◌==◌, is_some, if◌then◌else◌}
+use Rattle.std.specs.Prelude.{not, IsErrAnd, ◌==◌, is_some, if◌then◌else◌}
 use Rattle.std.specs.Str.{bytes_eq}
 use Rattle.axp_access.specs.declared.Event.{Event}
 use Rattle.axp_access.specs.declared.Outcome.{Outcome}
@@ -11,7 +11,8 @@ use Rattle.axp_machine.specs.Runs.{Seen, after_event, answer_of, is_complete, wi
 use Rattle.axp_machine.specs.Tails.{IsNext, items_from, tail_items}
 use Rattle.axp_machine.specs.declared.machine.tails.TailAt.{TailAt}
 use Rattle.axp_trace.specs.declared.headers.Header.{Header}
-use Rattle.axp_trace.specs.Files.{lines_of}
+use Rattle.axp_trace.specs.declared.files.TheConstants.{LINE_FEED}
+use Rattle.axp_trace.specs.Files.{lines_of, longer}
 use Rattle.axp_trace.specs.Lines.{differs_line, given_line, line_text, right_line, tail_line, trace_header, with_feed}
 use Rattle.axp_trace.specs.TraceLines.{line_of}
 use Rattle.axp_top.specs.declared.events.Step.{Step}
@@ -22,7 +23,7 @@ use Rattle.axp_top.specs.declared.status.Status.{Status}
 use Rattle.axp_top.specs.declared.status.Status.TheVariants as status
 use Rattle.axp_top.specs.Outside.{SinkState}
 use Rattle.axp_top.specs.Printing.{Printed, Stopped}
-use Rattle.axp_top.specs.Replays.{Answer, FileLine, Front, LineResult, OfTail, Recorded, Refused, bad_trace, complete_ending, differs, ending_by, event_result, events_ending, front_lines, front_of, full_result, incomplete, is_in_order, is_tail_line, item_refusal, next_line, or_else, refused_event, refused_line, refused_or_whole, result_lines, result_of, right_result, shown_result, tail_refusal, whole_ending}
+use Rattle.axp_top.specs.Replays.{answer_of_run, answer_of_start, ending_of, is_other_memory, other_memory, Answer, FileLine, Front, LineResult, OfTail, Recorded, Refused, bad_trace, complete_ending, differs, ending_by, event_result, events_ending, front_lines, front_of, full_result, incomplete, is_in_order, is_tail_line, item_refusal, next_line, or_else, refused_event, refused_line, refused_or_whole, result_lines, result_of, right_result, shown_result, tail_refusal, whole_ending}
 use Rattle.axp_top.specs.Texts.{Lines, header_text, item_lines, lines, record_lines, record_text, right_header, tail}
 use Rattle.axp_top.specs.Walks.{Leaves, LeavesRest, PrintsAnswer, PrintsEvents, PrintsLine, PrintsRefusal, PrintsStep, refusal_lines, refusal_status, result_parts, step_of}
 use Rattle.axp_top.proofs.PrintingLemmas.{lacks_all, printed_none, printed_then, stopped_longer, stopped_then}
@@ -71,9 +72,9 @@ unchanged : (m : Seen) (e : Event) (x : NotLegal) → answer_of m e ≡ Err x �
 unfolding after_event
 unchanged m e x is = rw is refl
 
-longer : (m : Seen) (e : Event) (o : Outcome) → answer_of m e ≡ Ok o → after_event m e ≡ with_record m (record { event = e; outcome = o })
+one_more : (m : Seen) (e : Event) (o : Outcome) → answer_of m e ≡ Ok o → after_event m e ≡ with_record m (record { event = e; outcome = o })
 unfolding after_event
-longer m e o is = rw is refl
+one_more m e o is = rw is refl
 
 -- a refusal's machine is not asked for
 refused_alike : (b n : SinkState) (m m' k : Seen) (a : Answer) (r : Result Step Stop) → PrintsLine b n m' k (Refused a) r → PrintsLine b n m k (Refused a) r
@@ -87,7 +88,7 @@ pub event_refused : (b n : SinkState) (m m' k : Seen) (e : Event) (x : NotLegal)
 event_refused b n m m' k e x r refuses after prints = rw (sym refuses) (as_refused b n m m' k r (after ∙ unchanged m e x (sym refuses)) prints)
 
 pub event_done : (b n : SinkState) (m m' : Seen) (e : Event) (o : Outcome) (items : List ℕ) → Ok o ≡ answer_of m e → m' ≡ after_event m e → items ≡ line_text e o → Printed b n (with_feed items ∷ []) → PrintsLine b n m m' (event_result m e (answer_of m e)) (Ok step.Recorded)
-event_done b n m m' e o items gives after text prints = rw (sym gives) (line_printed b n items (line_text e o) text prints, (refl, after ∙ longer m e o (sym gives)))
+event_done b n m m' e o items gives after text prints = rw (sym gives) (line_printed b n items (line_text e o) text prints, (refl, after ∙ one_more m e o (sym gives)))
 
 pub event_stopped : (b n : SinkState) (m m' : Seen) (e : Event) (o : Outcome) (items : List ℕ) (r : Result Step Stop) (s : Stop) → IsErrAnd r (λ x. x ≡ s) → Ok o ≡ answer_of m e → items ≡ line_text e o → Stopped b n (with_feed items ∷ []) s → PrintsLine b n m m' (event_result m e (answer_of m e)) r
 event_stopped b n m m' e o items (Ok v) s err gives text stops = absurd err
@@ -107,7 +108,7 @@ pub full_done : (b n : SinkState) (m m' : Seen) (k : ℕ) (line : List ℕ) (e :
 full_done b n m m' k line e given o ordered r is yes_in count gives after prints =
     let in_order : is_in_order m e given ≡ true = sym is ∙ yes_in in
     rw (in_order, sym gives) (subst (λ (j : ℕ). PrintsLine b n m m' (right_result j line (record { event = e; outcome = o })) r) count
-    (right_prints b n m m' k line (record { event = e; outcome = o }) r (after ∙ longer m e o (sym gives)) prints))
+    (right_prints b n m m' k line (record { event = e; outcome = o }) r (after ∙ one_more m e o (sym gives)) prints))
 
 pub full_refused : (b n : SinkState) (m m' k : Seen) (line : List ℕ) (e : Event) (given : Outcome) (x : NotLegal) (ordered : Bool) (r : Result Step Stop) → ordered ≡ is_in_order m e given → ordered ≡ true → Err x ≡ answer_of m e → m' ≡ after_event m e
     → PrintsLine b n m' k (refused_event m') r → PrintsLine b n m k (full_result m line e given) r
@@ -391,3 +392,162 @@ no_more_lines text ls empty is tested ends = let none : (length text == 0) ≡ t
 
 pub part_of_line : (text : List ℕ) (ls : List FileLine) (empty : Bool) → empty ≡ false → empty ≡ (length text == 0) → ls ≡ (if length text == 0 then [] else None ∷ []) → ls ≡ None ∷ []
 part_of_line text ls empty is tested ends = let some : (length text == 0) ≡ false = sym tested ∙ is in rw some at ends
+
+-- a file that is not at its end has a line
+pub record HasLine (ls : List FileLine) : Type 0 where
+  pub line : FileLine
+  pub more : List FileLine
+  pub is : ls ≡ line ∷ more
+
+longer_has : (b : ℕ) (ls : List FileLine) → HasLine (longer b ls)
+longer_has b [] = record { line = None; more = []; is = refl }
+longer_has b (None ∷ ls) = record { line = None; more = ls; is = refl }
+longer_has b (Some l ∷ ls) = record { line = Some (b ∷ l); more = ls; is = refl }
+
+either_has : (feed : Bool) (b : ℕ) (ls : List FileLine) → HasLine (cond feed (Some [] ∷ ls) (longer b ls))
+either_has true b ls = record { line = Some []; more = ls; is = refl }
+either_has false b ls = longer_has b ls
+
+pub has_line : (text : List ℕ) (empty : Bool) → empty ≡ false → empty ≡ (length text == 0) → HasLine (lines_of text)
+has_line [] empty is tested = let never : true ≡ false = sym tested ∙ is in cc
+has_line (b ∷ bs) empty is tested = either_has (b == LINE_FEED) b (lines_of bs)
+
+pub no_line : (text : List ℕ) (empty : Bool) → empty ≡ true → empty ≡ (length text == 0) → lines_of text ≡ []
+no_line [] empty is tested = refl
+no_line (b ∷ bs) empty is tested = absurd (omega (arith, eqb-true (length (b ∷ bs)) 0 (sym tested ∙ is)))
+
+-- ---- what the next item of a tail is
+
+pub next_some : (m : Seen) (at : TailAt) (o : Option (TailItem × TailAt)) (i : TailItem) (next : TailAt) → o ≡ Some (i, next) → IsNext m at o → items_from m at ≡ i ∷ items_from m next
+next_some m at o i next is h = subst (IsNext m at) is h
+
+pub next_none : (m : Seen) (at : TailAt) (o : Option (TailItem × TailAt)) → ((p : TailItem × TailAt) → o ≡ Some p → ⊥) → IsNext m at o → items_from m at ≡ []
+next_none m at None never h = h
+next_none m at (Some p) never h = absurd (never p refl)
+
+-- ---- the end of a complete run
+
+whole_or_stops : (b n : SinkState) (m : Seen) (o : Option Answer) (s : Stop) → Stopped b n (refusal_lines o) s → Stopped b n (refused_or_whole m o).lines s
+whole_or_stops b n m None s stops = stopped_longer b n [] (whole_ending m).lines s stops
+whole_or_stops b n m (Some a) s stops = stops
+
+pub complete_stops : (b n : SinkState) (h : Header) (m : Seen) (ls : List FileLine) (r : Result Status Stop) (s : Stop) → HasLine ls → IsErrAnd r (λ x. x ≡ s) → PrintsRefusal b n (tail_refusal h (next_line m) (tail_items m) ls) (Err s) → PrintsAnswer b n (complete_ending h m ls) r
+complete_stops b n h m ls (Ok v) s has err stops = absurd err
+complete_stops b n h m ls (Err x) s has err stops =
+    let here = subst (λ (xs : List FileLine). Stopped b n (refusal_lines (tail_refusal h (next_line m) (tail_items m) xs)) s) has.is stops in
+    rw has.is (subst (λ (y : Stop). Stopped b n (refused_or_whole m (tail_refusal h (next_line m) (tail_items m) (has.line ∷ has.more))).lines y) (sym err)
+    (whole_or_stops b n m (tail_refusal h (next_line m) (tail_items m) (has.line ∷ has.more)) s here))
+
+refused_prints : (b n : SinkState) (m : Seen) (o : Option Answer) (s : Status) → PrintsRefusal b n o (Ok (Some s)) → PrintsAnswer b n (refused_or_whole m o) (Ok s)
+refused_prints b n m None s prints = let never : Some s ≡ None = prints.1 in cc
+refused_prints b n m (Some a) s prints = let is : Some s ≡ Some a.status = prints.1 in (prints.0, some_same s a.status is) where
+  some_same : (s t : Status) → Some s ≡ Some t → s ≡ t
+  some_same s t is = cc
+
+pub complete_refused : (b n : SinkState) (h : Header) (m : Seen) (ls : List FileLine) (told : Option Status) (s : Status) → HasLine ls → told ≡ Some s → PrintsRefusal b n (tail_refusal h (next_line m) (tail_items m) ls) (Ok told) → PrintsAnswer b n (complete_ending h m ls) (Ok s)
+complete_refused b n h m ls told s has is prints =
+    let said = subst (λ (t : Option Status). PrintsRefusal b n (tail_refusal h (next_line m) (tail_items m) ls) (Ok t)) is prints in
+    let here = subst (λ (xs : List FileLine). PrintsRefusal b n (tail_refusal h (next_line m) (tail_items m) xs) (Ok (Some s))) has.is said in
+    rw has.is (refused_prints b n m (tail_refusal h (next_line m) (tail_items m) (has.line ∷ has.more)) s here)
+
+whole_prints : (b k n : SinkState) (m : Seen) (o : Option Answer) (r : Result Status Stop) → PrintsRefusal b k o (Ok None) → PrintsAnswer k n (whole_ending m) r → PrintsAnswer b n (refused_or_whole m o) r
+whole_prints b k n m (Some a) r none whole = let never : None ≡ Some a.status = none.1 in cc
+whole_prints b k n m None (Ok s) none whole = (printed_then b k n [] (whole_ending m).lines none.0 whole.0, whole.1)
+whole_prints b k n m None (Err s) none whole = stopped_then b k n [] (whole_ending m).lines s none.0 whole
+
+pub complete_whole : (b k n : SinkState) (h : Header) (m : Seen) (ls : List FileLine) (told : Option Status) (r : Result Status Stop) → HasLine ls → told ≡ None → PrintsRefusal b k (tail_refusal h (next_line m) (tail_items m) ls) (Ok told) → PrintsAnswer k n (whole_ending m) r → PrintsAnswer b n (complete_ending h m ls) r
+complete_whole b k n h m ls told r has is prints whole =
+    let said = subst (λ (t : Option Status). PrintsRefusal b k (tail_refusal h (next_line m) (tail_items m) ls) (Ok t)) is prints in
+    let here = subst (λ (xs : List FileLine). PrintsRefusal b k (tail_refusal h (next_line m) (tail_items m) xs) (Ok None)) has.is said in
+    rw has.is (whole_prints b k n m (tail_refusal h (next_line m) (tail_items m) (has.line ∷ has.more)) r here whole)
+
+-- ---- the text of a run in its order: the header, the front of the file, and what is behind it
+
+abbrev FrontText : Header → Seen → List FileLine → Type 0
+FrontText h m ls = lines (front_of h m ls).machine ++ refusal_lines (front_of h m ls).refused ≡ lines m ++ front_lines h m ls
+
+front_step : (h : Header) (m : Seen) (l : FileLine) (ls : List FileLine) (r : LineResult) → ((x : Record) → FrontText h (with_record m x) ls) → result_of h m l ≡ r → FrontText h m (l ∷ ls)
+front_step h m l ls (Recorded x) more is = rw (front_some h m l ls x is, lines_some h m l ls x is) (more x ∙ append_assoc (lines m) (record_text x ∷ []) (front_lines h (with_record m x) ls))
+front_step h m l ls OfTail more is = rw (front_tail h m l ls is, lines_tail h m l ls is) refl
+front_step h m l ls (Refused a) more is = rw (front_refused h m l ls a is, lines_refused h m l ls a is) refl
+
+front_text : (h : Header) (m : Seen) (ls : List FileLine) → FrontText h m ls
+front_text h m [] = rw (front_end h m, lines_end h m) refl
+front_text h m (l ∷ ls) = front_step h m l ls (result_of h m l) (λ x. front_text h (with_record m x) ls) refl
+
+-- the ending, where no line was refused
+abbrev behind_by : Header → Seen → List FileLine → Option Answer → Lines
+behind_by h m rest (Some a) = []
+behind_by h m rest None = (events_ending h m rest).lines
+
+abbrev behind : Header → Front → Lines
+behind h f = behind_by h f.machine f.rest f.refused
+
+ending_text : (h : Header) (start : Lines) (fl : Lines) (m : Seen) (rest : List FileLine) (o : Option Answer) → lines m ++ refusal_lines o ≡ start ++ fl → lines m ++ (ending_by h m rest o).lines ≡ start ++ (fl ++ behind_by h m rest o)
+ending_text h start fl m rest (Some a) is = is ∙ ap (λ (t : Lines). start ++ t) (sym (append-nil fl))
+ending_text h start fl m rest None is = ap (λ (t : Lines). t ++ (events_ending h m rest).lines) (sym (append-nil (lines m)) ∙ is) ∙ append_assoc start fl (events_ending h m rest).lines
+
+run_text : (h : Header) (m : Seen) (ls : List FileLine) (items : List ℕ) → m.records ≡ [] → items ≡ right_header m → (with_feed items ∷ []) ++ (front_lines h m ls ++ behind h (front_of h m ls)) ≡ (answer_of_run h m ls).lines
+run_text h m ls items none is =
+    let start : lines m ≡ header_text m ∷ [] = ap (λ (x : List Record). header_text m ∷ record_lines x) none in
+    ap (λ (t : List ℕ). (with_feed t ∷ []) ++ (front_lines h m ls ++ behind h (front_of h m ls))) is
+    ∙ ap (λ (t : Lines). t ++ (front_lines h m ls ++ behind h (front_of h m ls))) (sym start)
+    ∙ sym (ending_text h (lines m) (front_lines h m ls) (front_of h m ls).machine (front_of h m ls).rest (front_of h m ls).refused (front_text h m ls))
+
+pub run_stops_first : (b n : SinkState) (h : Header) (m : Seen) (ls : List FileLine) (items : List ℕ) (r : Result Status Stop) (s : Stop) → m.records ≡ [] → items ≡ right_header m → IsErrAnd r (λ x. x ≡ s) → Stopped b n (with_feed items ∷ []) s → PrintsAnswer b n (answer_of_run h m ls) r
+run_stops_first b n h m ls items (Ok v) s none is err stops = absurd err
+run_stops_first b n h m ls items (Err x) s none is err stops =
+    subst (λ (y : Stop). Stopped b n (answer_of_run h m ls).lines y) (sym err) (subst (λ (t : Lines). Stopped b n t s) (run_text h m ls items none is)
+    (stopped_longer b n (with_feed items ∷ []) (front_lines h m ls ++ behind h (front_of h m ls)) s stops))
+
+pub run_stops_front : (b k n : SinkState) (h : Header) (m : Seen) (ls : List FileLine) (items : List ℕ) (r : Result Status Stop) (s : Stop) → m.records ≡ [] → items ≡ right_header m → IsErrAnd r (λ x. x ≡ s) → Printed b k (with_feed items ∷ []) → Stopped k n (front_lines h m ls) s → PrintsAnswer b n (answer_of_run h m ls) r
+run_stops_front b k n h m ls items (Ok v) s none is err first stops = absurd err
+run_stops_front b k n h m ls items (Err x) s none is err first stops =
+    subst (λ (y : Stop). Stopped b n (answer_of_run h m ls).lines y) (sym err) (subst (λ (t : Lines). Stopped b n t s) (run_text h m ls items none is)
+    (stopped_then b k n (with_feed items ∷ []) (front_lines h m ls ++ behind h (front_of h m ls)) s first (stopped_longer k n (front_lines h m ls) (behind h (front_of h m ls)) s stops)))
+
+refused_front : (k l : SinkState) (h : Header) (m : Seen) (rest : List FileLine) (o : Option Answer) (fl : Lines) (s : Status) → Some s ≡ refusal_status o → Printed k l fl → Printed k l (fl ++ behind_by h m rest o) × (s ≡ (ending_by h m rest o).status)
+refused_front k l h m rest None fl s is prints = let never : Some s ≡ None = is in cc
+refused_front k l h m rest (Some a) fl s is prints = (subst (Printed k l) (sym (append-nil fl)) prints, some_same s a.status is) where
+  some_same : (s t : Status) → Some s ≡ Some t → s ≡ t
+  some_same s t is = cc
+
+pub run_refused : (b k l : SinkState) (h : Header) (m m' : Seen) (ls : List FileLine) (items rest : List ℕ) (told : Option Status) (s : Status) → m.records ≡ [] → items ≡ right_header m → told ≡ Some s → Printed b k (with_feed items ∷ []) → PrintsEvents k l h m m' ls (Ok (told, rest)) → PrintsAnswer b l (answer_of_run h m ls) (Ok s)
+run_refused b k l h m m' ls items rest told s none is some first events =
+    let behind_it = refused_front k l h (front_of h m ls).machine (front_of h m ls).rest (front_of h m ls).refused (front_lines h m ls) s (sym some ∙ events.1.0) events.0 in
+    (subst (Printed b l) (run_text h m ls items none is) (printed_then b k l (with_feed items ∷ []) (front_lines h m ls ++ behind h (front_of h m ls)) first behind_it.0), behind_it.1)
+
+ended_front : (b k l n : SinkState) (h : Header) (m : Seen) (rest : List FileLine) (o : Option Answer) (first fl : Lines) (r : Result Status Stop) → None ≡ refusal_status o → Printed b k first → Printed k l fl → PrintsAnswer l n (events_ending h m rest) r
+    → PrintsAnswer b n (record { status = (ending_by h m rest o).status; lines = first ++ (fl ++ behind_by h m rest o) }) r
+ended_front b k l n h m rest (Some a) first fl r is before front ending = let never : None ≡ Some a.status = is in cc
+ended_front b k l n h m rest None first fl (Ok s) is before front ending = (printed_then b k n first (fl ++ (events_ending h m rest).lines) before (printed_then k l n fl (events_ending h m rest).lines front ending.0), ending.1)
+ended_front b k l n h m rest None first fl (Err s) is before front ending = stopped_then b k n first (fl ++ (events_ending h m rest).lines) s before (stopped_then k l n fl (events_ending h m rest).lines s front ending)
+
+pub run_ends : (b k l n : SinkState) (h : Header) (m m' : Seen) (ls : List FileLine) (items rest : List ℕ) (told : Option Status) (r : Result Status Stop) → m.records ≡ [] → items ≡ right_header m → told ≡ None → Printed b k (with_feed items ∷ []) → PrintsEvents k l h m m' ls (Ok (told, rest)) → PrintsAnswer l n (events_ending h m' (lines_of rest)) r
+    → PrintsAnswer b n (answer_of_run h m ls) r
+run_ends b k l n h m m' ls items rest told r none is no_refusal first events ending =
+    let front : PrintsEvents k l h m m' ls (Ok (None, rest)) = subst (λ (t : Option Status). PrintsEvents k l h m m' ls (Ok (t, rest))) no_refusal events in
+    let at_machine = subst (λ (x : Seen). PrintsAnswer l n (events_ending h x (lines_of rest)) r) front.1.1.0 ending in
+    let at_rest = subst (λ (xs : List FileLine). PrintsAnswer l n (events_ending h (front_of h m ls).machine xs) r) front.1.1.1 at_machine in
+    subst (λ (t : Lines). PrintsAnswer b n (record { status = (ending_of h (front_of h m ls)).status; lines = t }) r) (run_text h m ls items none is)
+    (ended_front b k l n h (front_of h m ls).machine (front_of h m ls).rest (front_of h m ls).refused (with_feed items ∷ []) (front_lines h m ls) r front.1.0 first front.0 at_rest)
+
+-- a trace of another size of memory
+pub other_stops : (b n : SinkState) (h : Header) (m : Seen) (first : List ℕ) (ls : List FileLine) (items : List ℕ) (r : Result Status Stop) (s : Stop) → is_other_memory h m ≡ true → m.records ≡ [] → items ≡ right_header m → IsErrAnd r (λ x. x ≡ s) → Stopped b n (with_feed items ∷ []) s → PrintsAnswer b n (answer_of_start h m first ls) r
+other_stops b n h m first ls items (Ok v) s other none is err stops = absurd err
+other_stops b n h m first ls items (Err x) s other none is err stops =
+    let start : with_feed items ∷ [] ≡ lines m = ap (λ (t : List ℕ). with_feed t ∷ []) is ∙ sym (ap (λ (x : List Record). header_text m ∷ record_lines x) none) in
+    rw other (subst (λ (y : Stop). Stopped b n (other_memory m first).lines y) (sym err)
+    (stopped_longer b n (lines m) (differs 1 first (right_header m)).lines s (subst (λ (t : Lines). Stopped b n t s) start stops)))
+
+other_prints : (b k n : SinkState) (m : Seen) (first : List ℕ) (r : Result Status Stop) → Printed b k (lines m) → PrintsAnswer k n (differs 1 first (right_header m)) r → PrintsAnswer b n (other_memory m first) r
+other_prints b k n m first (Ok s) before differ = (printed_then b k n (lines m) (differs 1 first (right_header m)).lines before differ.0, differ.1)
+other_prints b k n m first (Err s) before differ = stopped_then b k n (lines m) (differs 1 first (right_header m)).lines s before differ
+
+pub other_differs : (b k n : SinkState) (h : Header) (m : Seen) (first : List ℕ) (ls : List FileLine) (items right : List ℕ) (r : Result Status Stop) → is_other_memory h m ≡ true → m.records ≡ [] → items ≡ right_header m → right ≡ right_header m → Printed b k (with_feed items ∷ []) → PrintsAnswer k n (differs 1 first right) r → PrintsAnswer b n (answer_of_start h m first ls) r
+other_differs b k n h m first ls items right r other none is text before differ =
+    let start : with_feed items ∷ [] ≡ lines m = ap (λ (t : List ℕ). with_feed t ∷ []) is ∙ sym (ap (λ (x : List Record). header_text m ∷ record_lines x) none) in
+    rw other (other_prints b k n m first r (subst (Printed b k) start before) (subst (λ (t : List ℕ). PrintsAnswer k n (differs 1 first t) r) text differ))
+
+pub is_other : (h : Header) (m : Seen) (size : ℕ) → size ≡ m.image.size → h.full ≡ true → not (h.memory == size) ≡ true → is_other_memory h m ≡ true
+is_other h m size is full differs = rw (full, sym is) differs

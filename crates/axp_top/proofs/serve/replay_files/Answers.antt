@@ -5,10 +5,16 @@ use Rattle.axp_top.proofs.ServingLemmas.{files_failed, files_long, files_refused
 use Rattle.axp_top.proofs.serve.replay_files.Goals as goal
 
 pub returns-in-Ok-read_image : goal.returns-in-Ok-read_image
-returns-in-Ok-read_image g c = ?
+returns-in-Ok-read_image g c =
+    files_served _ _ _ _ _ _ _ c.in-Ok.bytes c.in-Ok-read_image.image c.replay_file.result c.in-Ok.ensures.told c.in-Ok.ensures.most
+    (subst (λ x. Some c.in-Ok-read_image.image ≡ image_of x) c.as_slice.ensures (sym c.in-Ok-read_image.ensures.read)) c.in-Ok-read_image.ensures.valid
+    c.in-Ok.ensures.count c.in-Ok.ensures.asks c.fetch.ensures.stays c.replay_file.ensures
 
 pub returns-in-Err-Bad : goal.returns-in-Err-Bad
-returns-in-Err-Bad g c = ?
+returns-in-Err-Bad g c =
+    files_refused _ _ _ _ _ c.in-Ok.bytes (c.in-Err-Bad.kind, c.in-Err-Bad.offset) c.refuse_image.result c.in-Ok.ensures.told c.in-Ok.ensures.most
+    (subst (λ x. first_fault x ≡ Some (c.in-Err-Bad.kind, c.in-Err-Bad.offset)) c.as_slice.ensures c.in-Err-Bad.ensures.fault)
+    c.in-Ok.ensures.count c.in-Ok.ensures.asks c.refuse_image.ensures
 
 pub returns-in-Err-Failed : goal.returns-in-Err-Failed
 returns-in-Err-Failed g c =
