@@ -34,7 +34,7 @@ abbrev pub actor_intent : Actor → Intent
 actor_intent a = intent_of a.seat
 
 abbrev pub asked_or_refused : Option Ask2 → Result Ask2 NotLegal
-asked_or_refused None = Err (record { })
+asked_or_refused None = Err (record {})
 asked_or_refused (Some q) = Ok q
 
 -- what an act asks, or that it is not legal, as far as the processor knows

@@ -55,7 +55,7 @@ IsReason m (Some NotLegal) (line ∷ more) = IsNotLegal m line
 IsReason m (Some NotBuilt) (line ∷ more) = event_in m.cpus line ≡ None
 IsReason m refused rest = ⊥
 
-recorded_refusal : (e : Event) (o : Result Outcome cpu.NotLegal) (f : Refusal) → recorded e o ≡ Err f → (o ≡ Err (record { })) × (NotLegal ≡ f)
+recorded_refusal : (e : Event) (o : Result Outcome cpu.NotLegal) (f : Refusal) → recorded e o ≡ Err f → (o ≡ Err (record {})) × (NotLegal ≡ f)
 recorded_refusal e (Ok o) f is = cc
 recorded_refusal e (Err x) f is = (refl, cc)
 
@@ -63,8 +63,8 @@ not_true : (b : Bool) → true ≡ not b → b ≡ false
 not_true true is = cc
 not_true false is = refl
 
-event_reason : (m : Seen) (line : FileLine) (more : List FileLine) (e : Event) → event_in m.cpus line ≡ Some e → answer_of m e ≡ Err (record { }) → IsValid m.image → IsRun m → IsReason m (Some NotLegal) (line ∷ more)
-event_reason m line more e reads is valid run = record { event = e; read = reads; refused = not_true (legal (processors_of m) m.records e) (refused_exactly m e (Err (record { })) (sym is) valid run) }
+event_reason : (m : Seen) (line : FileLine) (more : List FileLine) (e : Event) → event_in m.cpus line ≡ Some e → answer_of m e ≡ Err (record {}) → IsValid m.image → IsRun m → IsReason m (Some NotLegal) (line ∷ more)
+event_reason m line more e reads is valid run = record { event = e; read = reads; refused = not_true (legal (processors_of m) m.records e) (refused_exactly m e (Err (record {})) (sym is) valid run) }
 
 line_reason : (m : Seen) (line : FileLine) (more : List FileLine) (e : Option Event) (f : Refusal) → event_in m.cpus line ≡ e → record_of m e ≡ Err f → IsValid m.image → IsRun m → IsReason m (Some f) (line ∷ more)
 line_reason m line more None NotLegal reads is valid run = cc

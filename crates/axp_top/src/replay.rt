@@ -7,8 +7,8 @@ ghost use Rattle.axp_top.specs.Replays.{answer_of_lines, answer_of_replay, endin
 ghost use Rattle.axp_top.specs.Replays.{not_built_at_all, record_of, refused_at};
 
 use crate::Status;
-use crate::refusals::Refusal;
 use crate::printing::{Stop, print_line, refuse};
+use crate::refusals::Refusal;
 use crate::tail::print_tail;
 use axp_image::Image;
 use axp_io::Sink;
