@@ -1,5 +1,6 @@
 -- From line to line through a file.
-use Rattle.std.proofs.Common.{◌≡◌, ℕ, ◌+◌, ◌<◌, ◌≤◌, Bool, true, false, cond, List, [], ◌∷◌, ◌++◌, length, Option, Some, None, Result, Ok, Err, refl, sym, ap, ◌∙◌, subst, append_assoc, append-nil, arith}
+use Rattle.std.proofs.Common.{◌≡◌, ℕ, ◌+◌, ◌<◌, ◌≤◌, Bool, true, false, cond, List, [], ◌∷◌, ◌++◌, length, Option, Some, None, Result, Ok, Err, refl, sym, ap, ◌∙◌, subst, append_assoc, append-nil, arith, eqb-true}
+use Rattle.std.proofs.lemmas.Bool.{false_from_ne_true}
 use Rattle.std.specs.Prelude.{not, IsErrAnd, ◌==◌, is_some, if◌then◌else◌}
 use Rattle.std.specs.Str.{bytes_eq}
 use Rattle.axp_access.specs.declared.Event.{Event}
@@ -549,5 +550,7 @@ other_differs b k n h m first ls items right r other none is text before differ 
     let start : with_feed items ∷ [] ≡ lines m = ap (λ (t : List ℕ). with_feed t ∷ []) is ∙ sym (ap (λ (x : List Record). header_text m ∷ record_lines x) none) in
     rw other (other_prints b k n m first r (subst (Printed b k) start before) (subst (λ (t : List ℕ). PrintsAnswer k n (differs 1 first t) r) text differ))
 
-pub is_other : (h : Header) (m : Seen) (size : ℕ) → size ≡ m.image.size → h.full ≡ true → not (h.memory == size) ≡ true → is_other_memory h m ≡ true
-is_other h m size is full differs = rw (full, sym is) differs
+pub is_other : (h : Header) (m : Seen) (size : ℕ) → size ≡ m.image.size → h.full ≡ true → (h.memory ≡ size → ⊥) → is_other_memory h m ≡ true
+is_other h m size is full differs =
+    let other : (h.memory == m.image.size) ≡ false = false_from_ne_true (h.memory == m.image.size) (λ t. differs (eqb-true h.memory m.image.size t ∙ sym is)) in
+    rw (full, other) refl

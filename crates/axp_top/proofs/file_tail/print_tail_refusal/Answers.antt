@@ -1,4 +1,4 @@
-use Rattle.std.proofs.Common.{◌∙◌, length, refl, sym}
+use Rattle.std.proofs.Common.{◌+◌, ◌∙◌, length, refl, sym}
 use Rattle.axp_machine.specs.Tails.{items_from, tail_items}
 use Rattle.axp_trace.specs.Files.{lines_of}
 use Rattle.axp_top.specs.Replays.{bad_trace, item_refusal, next_line, tail_refusal}

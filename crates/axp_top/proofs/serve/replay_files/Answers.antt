@@ -1,5 +1,5 @@
 use Rattle.std.proofs.Common.{◌≡◌, ◌∙◌, IfSome, None, Option, Some, refl, subst, sym}
-use Rattle.axp_image.specs.Faults.{first_fault}
+use Rattle.axp_image.specs.Faults.{Names, first_fault}
 use Rattle.axp_image.specs.Grammar.{image_of}
 use Rattle.axp_top.proofs.ServingLemmas.{files_failed, files_long, files_refused, files_served, files_unfound_first, files_unfound_image}
 use Rattle.axp_top.proofs.serve.replay_files.Goals as goal
@@ -13,7 +13,7 @@ returns-in-Ok-read_image g c =
 pub returns-in-Err-Bad : goal.returns-in-Err-Bad
 returns-in-Err-Bad g c =
     files_refused _ _ _ _ _ c.in-Ok.bytes (c.in-Err-Bad.kind, c.in-Err-Bad.offset) c.refuse_image.result c.in-Ok.ensures.told c.in-Ok.ensures.most
-    (subst (λ x. first_fault x ≡ Some (c.in-Err-Bad.kind, c.in-Err-Bad.offset)) c.as_slice.ensures c.in-Err-Bad.ensures.fault)
+    (subst (λ x. first_fault x ≡ Some (c.in-Err-Bad.kind, c.in-Err-Bad.offset)) c.as_slice.ensures (subst (Names (first_fault c.as_slice.result.now)) c.in-Err-Bad.field-0-is c.in-Err-Bad.ensures.fault))
     c.in-Ok.ensures.count c.in-Ok.ensures.asks c.refuse_image.ensures
 
 pub returns-in-Err-Failed : goal.returns-in-Err-Failed
