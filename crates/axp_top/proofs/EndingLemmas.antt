@@ -1,5 +1,5 @@
 -- How the work ends.
-use Rattle.std.proofs.Common.{◌≡◌, ◌⊎◌, ℕ, Bool, true, false, cond, List, [], ◌∷◌, length, Option, Some, None, Result, Ok, Err, refl, sym, ap, ◌∙◌, subst, inl, inr}
+use Rattle.std.proofs.Common.{◌≡◌, ℕ, Bool, true, false, cond, List, [], ◌∷◌, length, Some, None, Ok, Err, refl, sym, ap, ◌∙◌, subst, inl, inr}
 use Rattle.std.specs.Prelude.{◌==◌, if◌then◌else◌}
 use Rattle.axp_image.specs.Contents.{Contents}
 use Rattle.axp_machine.specs.Runs.{Seen, started}
@@ -11,7 +11,7 @@ use Rattle.axp_top.specs.declared.status.Status.{Status}
 use Rattle.axp_top.specs.declared.status.Status.TheVariants as status
 use Rattle.axp_top.specs.Outside.{SinkState}
 use Rattle.axp_top.specs.Printing.{Printed, Stopped, Ends, EndsBy, status_of_stop, stop_of}
-use Rattle.axp_top.specs.Replays.{Answer, FileLine, answer_of_header, answer_of_lines, answer_of_start, bad_trace}
+use Rattle.axp_top.specs.Replays.{Answer, FileLine, answer_of_lines, answer_of_start, bad_trace}
 use Rattle.axp_top.specs.Walks.{PrintsAnswer}
 
 pub ends_stopped : (b n : SinkState) (a : Answer) (s : Stop) → Stopped b n a.lines s → Ends b n a (status_of_stop s)

@@ -1,5 +1,5 @@
 -- The answer to a file shows a run that keeps the constraints of shared memory, and why it ended.
-use Rattle.std.proofs.Common.{◌≡◌, ◌⊎◌, ⊎_elim, ℕ, ◌+◌, ◌&&◌, Bool, true, false, cond, eqb, List, [], ◌∷◌, ◌++◌, length, map, reverse, Option, Some, None, Ok, Err, Result, IfSome, refl, sym, ap, ◌∙◌, subst, inl, inr, append_assoc}
+use Rattle.std.proofs.Common.{◌≡◌, ℕ, ◌+◌, ◌&&◌, Bool, true, false, cond, eqb, List, [], ◌∷◌, ◌++◌, length, map, reverse, Option, Some, None, Ok, Err, Result, IfSome, refl, sym, ap, ◌∙◌, subst, inl, inr, append_assoc}
 use Rattle.std.specs.Prelude.{nat_lt, not}
 use Rattle.std.specs.Str.{bytes_eq}
 use Rattle.std.proofs.lemmas.Bool.{and_parts, eqb-true}
@@ -28,11 +28,10 @@ use Rattle.axp_trace.specs.Records.{record_of}
 use Rattle.axp_trace.specs.Tails.{tail_of}
 use Rattle.axp_trace.specs.TraceLines.{full_by, line_by, line_of}
 use Rattle.axp_top.specs.declared.limits.TheConstants.{MAX_IMAGE_BYTES, MAX_TRACE_BYTES}
-use Rattle.axp_top.specs.declared.status.Status.TheVariants as status
 use Rattle.axp_top.specs.Answers as answers
 use Rattle.axp_top.specs.Answers.{answer_by, answer_of_files, answer_of_image, answer_of_trace, answer_over, first_bad, image_in, image_told, no_image, too_long, trace_told}
-use Rattle.axp_top.specs.Lawful.{AreRight, EventsEnd, IsCause, IsLawful, IsNotLegal, IsOtherMemory, IsWhole, RefusesAll, ShowsRun, event_in, event_shown, image_of_file, image_over, is_at_once, lines_of_file}
-use Rattle.axp_top.specs.Replays.{Answer, FileLine, Front, LineResult, OfTail, Recorded, Refused, answer_of_front, answer_of_header, answer_of_lines, answer_of_run, answer_of_start, bad_trace, complete_ending, differs, ending_by, event_result, front_of, incomplete, is_in_order, is_other_memory, is_tail_line, item_refusal, next_line, not_legal, or_else, other_memory, refused_line, refused_or_whole, result_by, result_of, right_result, shown_result, tail_refusal}
+use Rattle.axp_top.specs.Lawful.{AreRight, EventsEnd, IsCause, IsLawful, IsNotLegal, RefusesAll, ShowsRun, event_in, event_shown, image_of_file, image_over, lines_of_file}
+use Rattle.axp_top.specs.Replays.{Answer, FileLine, Front, LineResult, OfTail, Recorded, Refused, answer_of_front, answer_of_header, answer_of_lines, answer_of_run, bad_trace, complete_ending, differs, ending_by, event_result, front_of, incomplete, is_in_order, is_other_memory, is_tail_line, next_line, not_legal, or_else, other_memory, refused_line, refused_or_whole, result_by, result_of, shown_result, tail_refusal}
 use Rattle.axp_top.specs.Words.{Order, Replay}
 
 -- ---- a line whose event is done
@@ -49,6 +48,7 @@ full_is_no_bare true cpus line e is full = by (record_of cpus line) (tail_of cpu
   tail_no_bare : (b : Bool) → cond b (Some Tail) None ≡ Some (Bare e) → ⊥
   tail_no_bare true is = cc
   tail_no_bare false is = cc
+
   by : (o : Option Record) (i : Option TailItem) → full_by o i ≡ Some (Bare e) → ⊥
   by (Some r) i is = cc
   by None None is = cc

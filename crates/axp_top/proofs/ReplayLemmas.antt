@@ -1,32 +1,31 @@
 -- From line to line through a file.
 use Rattle.std.proofs.Common.{◌≡◌, ℕ, ◌+◌, ◌<◌, ◌≤◌, Bool, true, false, cond, List, [], ◌∷◌, ◌++◌, length, Option, Some, None, Result, Ok, Err, refl, sym, ap, ◌∙◌, subst, append_assoc, append-nil, arith, eqb-true}
 use Rattle.std.proofs.lemmas.Bool.{false_from_ne_true}
-use Rattle.std.specs.Prelude.{not, IsErrAnd, ◌==◌, is_some, if◌then◌else◌}
+use Rattle.std.specs.Prelude.{IsErrAnd, ◌==◌, is_some, if◌then◌else◌}
 use Rattle.std.specs.Str.{bytes_eq}
 use Rattle.axp_access.specs.declared.Event.{Event}
 use Rattle.axp_access.specs.declared.Outcome.{Outcome}
 use Rattle.axp_access.specs.declared.Record.{Record}
 use Rattle.axp_access.specs.declared.tail_items.TailItem.{TailItem}
 use Rattle.axp_cpu.specs.declared.refusals.NotLegal.{NotLegal}
-use Rattle.axp_machine.specs.Runs.{Seen, after_event, answer_of, is_complete, with_record}
+use Rattle.axp_machine.specs.Runs.{Seen, after_event, answer_of, with_record}
 use Rattle.axp_machine.specs.Tails.{IsNext, items_from, tail_items}
 use Rattle.axp_machine.specs.declared.machine.tails.TailAt.{TailAt}
 use Rattle.axp_trace.specs.declared.headers.Header.{Header}
 use Rattle.axp_trace.specs.declared.files.TheConstants.{LINE_FEED}
 use Rattle.axp_trace.specs.Files.{lines_of, longer}
-use Rattle.axp_trace.specs.Lines.{differs_line, given_line, line_text, right_line, tail_line, trace_header, with_feed}
+use Rattle.axp_trace.specs.Lines.{differs_line, given_line, line_text, right_line, tail_line, with_feed}
 use Rattle.axp_trace.specs.TraceLines.{line_of}
 use Rattle.axp_top.specs.declared.events.Step.{Step}
 use Rattle.axp_top.specs.declared.events.Step.TheVariants as step
 use Rattle.axp_top.specs.declared.printing.Stop.{Stop}
 use Rattle.axp_top.specs.declared.printing.Stop.TheVariants as stop
 use Rattle.axp_top.specs.declared.status.Status.{Status}
-use Rattle.axp_top.specs.declared.status.Status.TheVariants as status
 use Rattle.axp_top.specs.Outside.{SinkState}
 use Rattle.axp_top.specs.Printing.{Printed, Stopped}
-use Rattle.axp_top.specs.Replays.{answer_of_run, answer_of_start, ending_of, is_other_memory, other_memory, Answer, FileLine, Front, LineResult, OfTail, Recorded, Refused, bad_trace, complete_ending, differs, ending_by, event_result, events_ending, front_lines, front_of, full_result, incomplete, is_in_order, is_tail_line, item_refusal, next_line, or_else, refused_event, refused_line, refused_or_whole, result_lines, result_of, right_result, shown_result, tail_refusal, whole_ending}
+use Rattle.axp_top.specs.Replays.{answer_of_run, answer_of_start, ending_of, is_other_memory, other_memory, Answer, FileLine, Front, LineResult, OfTail, Recorded, Refused, bad_trace, complete_ending, differs, ending_by, event_result, events_ending, front_lines, front_of, full_result, is_in_order, is_tail_line, item_refusal, next_line, or_else, refused_event, refused_or_whole, result_lines, result_of, right_result, tail_refusal, whole_ending}
 use Rattle.axp_top.specs.Texts.{Lines, header_text, item_lines, lines, record_lines, record_text, right_header, tail}
-use Rattle.axp_top.specs.Walks.{Leaves, LeavesRest, PrintsAnswer, PrintsEvents, PrintsLine, PrintsRefusal, PrintsStep, refusal_lines, refusal_status, result_parts, step_of}
+use Rattle.axp_top.specs.Walks.{Leaves, PrintsAnswer, PrintsEvents, PrintsLine, PrintsRefusal, PrintsStep, refusal_lines, refusal_status, result_parts}
 use Rattle.axp_top.proofs.PrintingLemmas.{lacks_all, printed_none, printed_then, stopped_longer, stopped_then}
 
 -- ---- a difference: three lines
@@ -327,9 +326,10 @@ comes_on b k n h first m m' all ls l s is comes does = more_by b k n h first m m
 -- the tail begins
 tail_by : (b k n : SinkState) (h : Header) (first m m' : Seen) (all ls : List FileLine) (l : FileLine) (rest : List ℕ) (r : LineResult) → result_of h m l ≡ r → lines_of rest ≡ l ∷ ls → Comes b k h first m all (l ∷ ls) → PrintsLine k n m m' r (Ok step.OfTail) → PrintsEvents b n h first m' all (Ok (None, rest))
 tail_by b k n h first m m' all ls l rest OfTail is left comes does =
-    let front : front_of h first all ≡ record { machine = m; refused = None; rest = l ∷ ls } = sym comes.ends ∙ front_tail h m l ls is in
-    (subst (Printed b n) (ap (λ (t : Lines). comes.done ++ t) (sym (lines_tail h m l ls is)) ∙ comes.parted) (printed_then b k n comes.done [] comes.printed does.0),
-    (rw front refl, rw front (does.1.1, left)))
+    let front : front_of h first all ≡ record { machine = m; refused = None; rest = l ∷ ls } = sym comes.ends ∙ front_tail h m l ls is in (
+      subst (Printed b n) (ap (λ (t : Lines). comes.done ++ t) (sym (lines_tail h m l ls is)) ∙ comes.parted) (printed_then b k n comes.done [] comes.printed does.0),
+      (rw front refl, rw front (does.1.1, left)),
+    )
 tail_by b k n h first m m' all ls l rest (Recorded x) is left comes does = let never : step.OfTail ≡ step.Recorded = does.1.0 in cc
 tail_by b k n h first m m' all ls l rest (Refused a) is left comes does = let never : step.OfTail ≡ step.Refused a.status = does.1.0 in cc
 
@@ -342,9 +342,10 @@ status_same s t is = cc
 
 refused_by : (b k n : SinkState) (h : Header) (first m m' : Seen) (all ls : List FileLine) (l : FileLine) (rest : List ℕ) (s : Status) (r : LineResult) → result_of h m l ≡ r → Comes b k h first m all (l ∷ ls) → PrintsLine k n m m' r (Ok (step.Refused s)) → PrintsEvents b n h first m' all (Ok (Some s, rest))
 refused_by b k n h first m m' all ls l rest s (Refused a) is comes does =
-    let front : front_of h first all ≡ record { machine = m; refused = Some a; rest = l ∷ ls } = sym comes.ends ∙ front_refused h m l ls a is in
-    (subst (Printed b n) (ap (λ (t : Lines). comes.done ++ t) (sym (lines_refused h m l ls a is)) ∙ comes.parted) (printed_then b k n comes.done a.lines comes.printed does.0),
-    (rw front (ap Some (status_same s a.status does.1.0)), tt))
+    let front : front_of h first all ≡ record { machine = m; refused = Some a; rest = l ∷ ls } = sym comes.ends ∙ front_refused h m l ls a is in (
+      subst (Printed b n) (ap (λ (t : Lines). comes.done ++ t) (sym (lines_refused h m l ls a is)) ∙ comes.parted) (printed_then b k n comes.done a.lines comes.printed does.0),
+      (rw front (ap Some (status_same s a.status does.1.0)), tt),
+    )
 refused_by b k n h first m m' all ls l rest s (Recorded x) is comes does = let never : step.Refused s ≡ step.Recorded = does.1.0 in cc
 refused_by b k n h first m m' all ls l rest s OfTail is comes does = let never : step.Refused s ≡ step.OfTail = does.1.0 in cc
 
@@ -369,18 +370,20 @@ exits_events b n h m m' ls part (Err x) s err stops = subst (Stopped b n (front_
 pub comes_to_end : (b n : SinkState) (h : Header) (first m : Seen) (all ls : List FileLine) (rest : List ℕ) → ls ≡ [] → lines_of rest ≡ ls → Comes b n h first m all ls → PrintsEvents b n h first m all (Ok (None, rest))
 comes_to_end b n h first m all ls rest is left comes =
     let here = subst (λ (xs : List FileLine). Comes b n h first m all xs) is comes in
-    let front : front_of h first all ≡ record { machine = m; refused = None; rest = [] } = sym here.ends ∙ front_end h m in
-    (subst (Printed b n) (sym (append-nil here.done) ∙ ap (λ (t : Lines). here.done ++ t) (sym (lines_end h m)) ∙ here.parted) here.printed,
-    (rw front refl, rw front (refl, left ∙ is)))
+    let front : front_of h first all ≡ record { machine = m; refused = None; rest = [] } = sym here.ends ∙ front_end h m in (
+      subst (Printed b n) (sym (append-nil here.done) ∙ ap (λ (t : Lines). here.done ++ t) (sym (lines_end h m)) ∙ here.parted) here.printed,
+      (rw front refl, rw front (refl, left ∙ is)),
+    )
 
 -- the file ends within a line
 pub comes_to_part : (b k n : SinkState) (h : Header) (first m : Seen) (all ls : List FileLine) (rest : List ℕ) (number : ℕ) (s : Status) → ls ≡ None ∷ [] → number ≡ next_line m → Comes b k h first m all ls → PrintsAnswer k n (bad_trace number) (Ok s) → PrintsEvents b n h first m all (Ok (Some s, rest))
 comes_to_part b k n h first m all ls rest number s is count comes prints =
     let here = subst (λ (xs : List FileLine). Comes b k h first m all xs) is comes in
     let said = subst (λ j. PrintsAnswer k n (bad_trace j) (Ok s)) count prints in
-    let front : front_of h first all ≡ record { machine = m; refused = Some (bad_trace (next_line m)); rest = None ∷ [] } = sym here.ends ∙ front_refused h m None [] (bad_trace (next_line m)) refl in
-    (subst (Printed b n) (ap (λ (t : Lines). here.done ++ t) (sym (lines_refused h m None [] (bad_trace (next_line m)) refl)) ∙ here.parted) (printed_then b k n here.done (bad_trace (next_line m)).lines here.printed said.0),
-    (rw front (ap Some said.1), tt))
+    let front : front_of h first all ≡ record { machine = m; refused = Some (bad_trace (next_line m)); rest = None ∷ [] } = sym here.ends ∙ front_refused h m None [] (bad_trace (next_line m)) refl in (
+      subst (Printed b n) (ap (λ (t : Lines). here.done ++ t) (sym (lines_refused h m None [] (bad_trace (next_line m)) refl)) ∙ here.parted) (printed_then b k n here.done (bad_trace (next_line m)).lines here.printed said.0),
+      (rw front (ap Some said.1), tt),
+    )
 
 pub part_stopped : (b k n : SinkState) (h : Header) (first m : Seen) (all ls : List FileLine) (number : ℕ) (s : Stop) → ls ≡ None ∷ [] → number ≡ next_line m → Comes b k h first m all ls → PrintsAnswer k n (bad_trace number) (Err s) → Stopped b n (front_lines h first all) s
 part_stopped b k n h first m all ls number s is count comes stops =

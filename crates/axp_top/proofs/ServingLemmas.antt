@@ -15,7 +15,7 @@ use Rattle.axp_trace.specs.Files.{lines_of}
 use Rattle.axp_top.specs.declared.limits.TheConstants.{MAX_IMAGE_BYTES, MAX_TRACE_BYTES}
 use Rattle.axp_top.specs.declared.status.Status.{Status}
 use Rattle.axp_top.specs.declared.status.Status.TheVariants as status
-use Rattle.axp_top.specs.Answers.{answer_by, answer_of, answer_of_files, answer_of_image, answer_of_trace, answer_over, asks_by, asks_of, bad_image, first_bad, image_in, image_told, no_image, read_fault, too_long, trace_told, usage}
+use Rattle.axp_top.specs.Answers.{answer_by, answer_of, answer_of_files, answer_of_image, answer_of_trace, answer_over, asks_by, asks_of, bad_image, image_in, image_told, no_image, read_fault, too_long, trace_told, usage}
 use Rattle.axp_top.specs.Lawful.{IsLawful, image_of_file, image_over, lines_of_file}
 use Rattle.axp_top.specs.Outside.{DeskState, Outside}
 use Rattle.axp_top.specs.Printing.{Ends}

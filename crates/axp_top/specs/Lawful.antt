@@ -17,7 +17,7 @@ use Rattle.axp_trace.specs.TraceLines.{line_of}
 use Rattle.axp_top.specs.declared.status.Status.{Status}
 use Rattle.axp_top.specs.declared.status.Status.TheVariants as status
 use Rattle.axp_top.specs.Answers.{image_in}
-use Rattle.axp_top.specs.Replays.{Answer, FileLine, LineResult, Refused, next_line, other_memory, result_of, tail_refusal}
+use Rattle.axp_top.specs.Replays.{Answer, FileLine, Refused, next_line, other_memory, result_of, tail_refusal}
 use Rattle.axp_top.specs.Texts.{lines}
 use Rattle.axp_top.specs.Words.{Order}
 

@@ -1,16 +1,15 @@
 -- What `replay` prints of an event list, or of a trace that it compares with the right one. The earliest line
 -- decides; of one line grammar comes first, then legality, then difference.
-use Rattle.std.specs.Prelude.{ℕ, zero, suc, ◌+◌, ◌==◌, Bool, true, false, not, ◌&&◌, List, [], ◌∷◌, ◌++◌, length, Option, Some, None, Result, Ok, Err, if◌then◌else◌}
+use Rattle.std.specs.Prelude.{ℕ, ◌+◌, ◌==◌, Bool, true, false, not, ◌&&◌, List, [], ◌∷◌, ◌++◌, length, Option, Some, None, Result, Ok, Err, if◌then◌else◌}
 use Rattle.std.specs.List.{concat}
 use Rattle.std.specs.Str.{bytes_eq}
-use Rattle.axp_access.specs.declared.Access.{Access}
 use Rattle.axp_access.specs.declared.EntryState.{EntryState}
-use Rattle.axp_access.specs.declared.EntryState.TheVariants.{Unwritten, Waiting, Drained}
+use Rattle.axp_access.specs.declared.EntryState.TheVariants.{Waiting, Drained}
 use Rattle.axp_access.specs.declared.Event.{Event}
 use Rattle.axp_access.specs.declared.Outcome.{Outcome}
 use Rattle.axp_access.specs.declared.Outcome.TheVariants as outcome
 use Rattle.axp_access.specs.declared.Place.{Place}
-use Rattle.axp_access.specs.declared.Place.TheVariants.{At, Entry, Absent}
+use Rattle.axp_access.specs.declared.Place.TheVariants.{Entry}
 use Rattle.axp_access.specs.declared.Record.{Record}
 use Rattle.axp_access.specs.declared.tail_items.TailItem.{TailItem}
 use Rattle.axp_base.specs.Cpus.{cpu_number}

@@ -1,5 +1,5 @@
 -- What the code does with the lines of a file, one after the other.
-use Rattle.std.specs.Prelude.{◌≡◌, ◌⊎◌, ℕ, List, [], Option, Some, None, Result, Ok, Err, option_map}
+use Rattle.std.specs.Prelude.{◌≡◌, ℕ, List, [], Option, Some, None, Result, Ok, Err, option_map}
 use Rattle.axp_machine.specs.Runs.{Seen, with_record}
 use Rattle.axp_trace.specs.declared.headers.Header.{Header}
 use Rattle.axp_trace.specs.Files.{lines_of}
@@ -8,7 +8,7 @@ use Rattle.axp_top.specs.declared.events.Step.TheVariants as step
 use Rattle.axp_top.specs.declared.printing.Stop.{Stop}
 use Rattle.axp_top.specs.declared.status.Status.{Status}
 use Rattle.axp_top.specs.Outside.{SinkState}
-use Rattle.axp_top.specs.Printing.{Printed, Prints, Stopped}
+use Rattle.axp_top.specs.Printing.{Printed, Stopped}
 use Rattle.axp_top.specs.Replays.{Answer, FileLine, Front, LineResult, OfTail, Recorded, Refused, front_lines, front_of, result_lines}
 use Rattle.axp_top.specs.Texts.{Lines}
 

@@ -15,8 +15,8 @@ mod tail;
 #[cfg(test)]
 mod tests;
 
+pub use axp_words::Word;
 pub use laws::{limits_of_files, no_fault_gives_the_whole_text};
 pub use limits::{MAX_IMAGE_BYTES, MAX_TRACE_BYTES};
 pub use serve::serve_plain;
 pub use status::Status;
-pub use axp_words::Word;

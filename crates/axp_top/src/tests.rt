@@ -1,4 +1,5 @@
 use super::*;
+use axp_image::ImageKind;
 use axp_io::{ListSink, TableDesk};
 use std::alloc::Global;
 use std::test::Fail;
@@ -6,6 +7,7 @@ use std::test::Fail;
 mod entries;
 mod locks;
 mod shared_memory;
+mod traces;
 mod translation;
 mod worked;
 
@@ -36,8 +38,6 @@ const HALTS_PRINTED: &str = "0 fill : i 00000000 @0\n\
     end 4\n";
 
 const READ_FAULT: &str = "axp: read fault\n";
-
-const NOT_BUILT: &str = "axp: not built at event 0\n";
 
 /// How a call of `serve_plain` over two files ends.
 #[derive(Drop)]
@@ -166,20 +166,20 @@ fn ends_at_the_first_line_that_is_no_event(rt: HostRuntime) -> Result<(), Fail> 
         // no processor has number 2
         Ended {
             events: "2 step\n",
-            printed: "axp: not built at event 1\n",
-            status: Status::NotBuilt { event: 1 },
+            printed: "axp: bad trace at line 2\n",
+            status: Status::BadTrace { line: 2 },
         },
         // a line that is no event
         Ended {
             events: "0 fill\n0 walk\n",
-            printed: "0 fill : i 00000000 @0\naxp: not built at event 2\n",
-            status: Status::NotBuilt { event: 2 },
+            printed: "0 fill : i 00000000 @0\naxp: bad trace at line 3\n",
+            status: Status::BadTrace { line: 3 },
         },
         // a last line without its line feed
         Ended {
             events: "0 fill\n0 step",
-            printed: "0 fill : i 00000000 @0\naxp: not built at event 2\n",
-            status: Status::NotBuilt { event: 2 },
+            printed: "0 fill : i 00000000 @0\naxp: bad trace at line 3\n",
+            status: Status::BadTrace { line: 3 },
         },
     ];
     assert!(rt; all_end(rt.alloc(), &lists)?);
@@ -241,26 +241,31 @@ fn asks_nothing_for_unknown_words(rt: HostRuntime) -> Result<(), Fail> {
     ] {
         let call = Call {
             words,
-            ..replayed(Status::NotBuilt { event: 0 }, 0)
+            ..replayed(Status::Usage, 0)
         };
         let events = LIST_HEADER.as_bytes();
-        assert!(rt; gives(rt.alloc(), &call, &ZEROS, events, NOT_BUILT.as_bytes())?);
+        assert!(rt; gives(rt.alloc(), &call, &ZEROS, events, b"axp: usage\n")?);
     }
     Ok(())
 }
 
-/// Whether the file is refused before anything is printed, after so many asks.
-fn is_refused(alloc: Global, image: &[u8], events: &str, asks: usize) -> Result<bool, Fail> {
-    let call = replayed(Status::NotBuilt { event: 0 }, asks);
-    gives(alloc, &call, image, events.as_bytes(), NOT_BUILT.as_bytes())
-}
-
 #[test]
-fn prints_nothing_before_a_refused_file(rt: HostRuntime) -> Result<(), Fail> {
-    let one_processor = "axp-events 1 cpus 1 budget 1\n";
-    assert!(rt; is_refused(rt.alloc(), &ZEROS, "", 2)?);
-    assert!(rt; is_refused(rt.alloc(), &ZEROS, one_processor, 2)?);
-    assert!(rt; is_refused(rt.alloc(), b"AXPI", LIST_HEADER, 1)?);
+fn prints_one_line_for_a_refused_file(rt: HostRuntime) -> Result<(), Fail> {
+    let kind = ImageKind::Short;
+    let bad_image = replayed(Status::BadImage { kind, offset: 4 }, 1);
+    let events = LIST_HEADER.as_bytes();
+    let text = b"axp: bad image short at 4\n";
+    assert!(rt; gives(rt.alloc(), &bad_image, b"AXPI", events, text)?);
+    let bad_trace = replayed(Status::BadTrace { line: 1 }, 2);
+    let text = b"axp: bad trace at line 1\n";
+    for events in [
+        "",
+        "axp-events 1 cpus 1 budget 1\n",
+        "axp-events 1 cpus 2 budget 1",
+        "axp-trace 1 cpus 2 budget 1\n",
+    ] {
+        assert!(rt; gives(rt.alloc(), &bad_trace, &ZEROS, events.as_bytes(), text)?);
+    }
     Ok(())
 }
 
@@ -268,7 +273,9 @@ fn prints_nothing_before_a_refused_file(rt: HostRuntime) -> Result<(), Fail> {
 #[test]
 fn refuses_a_long_image(rt: HostRuntime) -> Result<(), Fail> {
     let long = vec![in rt.alloc(); 0_u8; 33_554_433]?;
-    assert!(rt; is_refused(rt.alloc(), long.as_slice(), LIST_HEADER, 1)?);
+    let call = replayed(Status::TooLong, 1);
+    let events = LIST_HEADER.as_bytes();
+    assert!(rt; gives(rt.alloc(), &call, long.as_slice(), events, b"axp: too long\n")?);
     Ok(())
 }
 
@@ -316,11 +323,16 @@ fn tells_that_the_sink_failed(rt: HostRuntime) -> Result<(), Fail> {
 
 #[test]
 fn each_status_has_its_number(rt: HostRuntime) {
+    let kind = ImageKind::Short;
     assert_eq!(rt; Status::Done.number(), 0);
+    assert_eq!(rt; Status::Usage.number(), 1);
     assert_eq!(rt; Status::ReadFault.number(), 2);
     assert_eq!(rt; Status::WriteFault.number(), 3);
+    assert_eq!(rt; Status::BadImage { kind, offset: 5 }.number(), 4);
+    assert_eq!(rt; Status::BadTrace { line: 5 }.number(), 5);
     assert_eq!(rt; Status::NotLegal { event: 5 }.number(), 6);
+    assert_eq!(rt; Status::Differs { line: 5 }.number(), 7);
     assert_eq!(rt; Status::Incomplete { event: 5 }.number(), 9);
+    assert_eq!(rt; Status::TooLong.number(), 10);
     assert_eq!(rt; Status::Memory.number(), 11);
-    assert_eq!(rt; Status::NotBuilt { event: 5 }.number(), 12);
 }

@@ -36,7 +36,9 @@ returns-in_err-print_long_line-2 g c =
     (line_stops _ _ _ _ c.in_err-print_long_line-2.field-0.0 c.in_ok-write_right.ensures c.in_err-print_long_line-2.ensures))
 
 pub returns : goal.returns
-returns g c =
-    (three_printed _ _ _ _ c.write_differs.result.items c.args.line c.args.given.now c.args.right.now c.write_differs.ensures.text c.in_ok-print_line.ensures
-    (as_second _ _ _ c.args.given.now c.in_ok-write_given.ensures c.in_ok-print_long_line.ensures)
-    (as_third _ _ _ c.args.right.now c.in_ok-write_right.ensures c.in_ok-print_long_line-2.ensures), refl)
+returns g c = (
+  three_printed _ _ _ _ c.write_differs.result.items c.args.line c.args.given.now c.args.right.now c.write_differs.ensures.text c.in_ok-print_line.ensures
+      (as_second _ _ _ c.args.given.now c.in_ok-write_given.ensures c.in_ok-print_long_line.ensures)
+      (as_third _ _ _ c.args.right.now c.in_ok-write_right.ensures c.in_ok-print_long_line-2.ensures),
+  refl,
+)

@@ -10,10 +10,11 @@ returns-in_err-print_event-clause-printed g c =
     (comes_at _ _ c.args.header.now c.args.machine.now c.loop-line.machine (lines_of c.args.lines.now) (lines_of c.loop-line.rest.now) (Some c.in-Some.line.now ∷ lines_of c.in-Some.more.now) c.in-Some.ensures.lines c.loop-line.invariant.0) c.in_err-print_event.ensures)
 
 pub loop-line-preserved : goal.loop-line-preserved
-loop-line-preserved g c =
-    (comes_on _ _ _ c.args.header.now c.args.machine.now c.loop-line.machine c.print_event.new.machine (lines_of c.args.lines.now) (lines_of c.in-Some.more.now) (Some c.in-Some.line.now) c.in_ok-print_event.field-0 c.in-Recorded.is
-    (comes_at _ _ c.args.header.now c.args.machine.now c.loop-line.machine (lines_of c.args.lines.now) (lines_of c.loop-line.rest.now) (Some c.in-Some.line.now ∷ lines_of c.in-Some.more.now) c.in-Some.ensures.lines c.loop-line.invariant.0) c.in_ok-print_event.ensures,
-    omega (arith, c.loop-line.invariant.1, c.in-Some.ensures.shorter))
+loop-line-preserved g c = (
+  comes_on _ _ _ c.args.header.now c.args.machine.now c.loop-line.machine c.print_event.new.machine (lines_of c.args.lines.now) (lines_of c.in-Some.more.now) (Some c.in-Some.line.now) c.in_ok-print_event.field-0 c.in-Recorded.is
+      (comes_at _ _ c.args.header.now c.args.machine.now c.loop-line.machine (lines_of c.args.lines.now) (lines_of c.loop-line.rest.now) (Some c.in-Some.line.now ∷ lines_of c.in-Some.more.now) c.in-Some.ensures.lines c.loop-line.invariant.0) c.in_ok-print_event.ensures,
+  omega (arith, c.loop-line.invariant.1, c.in-Some.ensures.shorter),
+)
 
 pub returns-in-OfTail-clause-printed : goal.returns-in-OfTail-clause-printed
 returns-in-OfTail-clause-printed g c =

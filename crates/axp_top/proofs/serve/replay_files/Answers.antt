@@ -1,4 +1,4 @@
-use Rattle.std.proofs.Common.{◌≡◌, ◌∙◌, IfSome, None, Option, Some, refl, subst, sym}
+use Rattle.std.proofs.Common.{◌≡◌, Some, refl, subst, sym}
 use Rattle.axp_image.specs.Faults.{Names, first_fault}
 use Rattle.axp_image.specs.Grammar.{image_of}
 use Rattle.axp_top.proofs.ServingLemmas.{files_failed, files_long, files_refused, files_served, files_unfound_first, files_unfound_image}
@@ -23,3 +23,9 @@ returns-in-Err-Failed g c =
 pub returns-in-Err-TooLong : goal.returns-in-Err-TooLong
 returns-in-Err-TooLong g c =
     files_long _ _ _ _ _ c.refuse_long.result c.in-Err-TooLong.field-0 c.in-Err-TooLong.field-0-is c.in-Err-TooLong.ensures.told c.in-Err-TooLong.ensures.count c.in-Err-TooLong.ensures.asks c.refuse_long.ensures
+
+pub returns-in-Ok : goal.returns-in-Ok
+returns-in-Ok g c = files_unfound_image _ _ _ _ _ refl c.in-Ok.ensures.count c.in-Ok.ensures.asks
+
+pub returns : goal.returns
+returns g c = files_unfound_first _ _ _ _ _ c.in-Err-Memory.field-0 c.in-Err-Memory.field-0-is refl c.in-Err-Memory.ensures.count c.in-Err-Memory.ensures.asks
