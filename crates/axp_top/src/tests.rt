@@ -275,7 +275,15 @@ fn refuses_a_long_image(rt: HostRuntime) -> Result<(), Fail> {
     let long = vec![in rt.alloc(); 0_u8; 33_554_433]?;
     let call = replayed(Status::TooLong, 1);
     let events = LIST_HEADER.as_bytes();
-    assert!(rt; gives(rt.alloc(), &call, long.as_slice(), events, b"axp: too long\n")?);
+    assert!(rt;
+        gives(
+            rt.alloc(),
+            &call,
+            long.as_slice(),
+            events,
+            b"axp: too long\n"
+        )?
+    );
     Ok(())
 }
 

@@ -251,6 +251,36 @@ const CONSOLE: Worked = Worked {
     status: Status::Incomplete { event: 5 },
 };
 
+/// LDA R17, 0x4B(R16); LDA R16, 1(R31); cserve: each processor sends 4B and its number. The console
+/// has the bytes in the order of the steps.
+const TWO_BYTES: Worked = Worked {
+    words: &[0x2230_004B, 0x221F_0001, 0x0000_0009],
+    layout: &PLAIN,
+    budget: "4",
+    start: "1 fill : i 00002000 @0\n\
+        1 step : i 00002000 2230004B @0\n\
+        1 step : i 00002004 221F0001 @0\n\
+        1 step : i 00002008 00000009 @0\n\
+        1 step : p 4C @0\n",
+    rest: "0 fill : i 00002000 @0\n\
+        0 step : i 00002000 2230004B @0\n\
+        0 step : i 00002004 221F0001 @0\n\
+        0 step : i 00002008 00000009 @0\n\
+        0 step : p 4B @0\n\
+        cpu 0 spent steps 4 pc FFFFFC000000200C\n\
+        reg 0 16 0000000000000001\n\
+        reg 0 17 000000000000004B\n\
+        reg 0 30 FFFFFC0000004000\n\
+        cpu 1 spent steps 4 pc FFFFFC000000200C\n\
+        reg 1 16 0000000000000001\n\
+        reg 1 17 000000000000004C\n\
+        reg 1 30 FFFFFC0000004000\n\
+        console 4C4B\n\
+        end 10\n",
+    more: "",
+    status: Status::Done,
+};
+
 /// swpipl, to level 0; bpt: at the boundary between them a tick is legal.
 const TICK_AT_A_BOUNDARY: Worked = Worked {
     words: &[0x0000_0035, 0x0000_0080],
@@ -344,7 +374,7 @@ fn frames_that_cannot_be_saved_halt(rt: HostRuntime) -> Result<(), Fail> {
 
 #[test]
 fn signals_and_console_bytes_are_printed(rt: HostRuntime) -> Result<(), Fail> {
-    for worked in [&SIGNAL, &SIGNAL_TO_ITSELF, &CONSOLE] {
+    for worked in [&SIGNAL, &SIGNAL_TO_ITSELF, &CONSOLE, &TWO_BYTES] {
         assert!(rt; holds(rt.alloc(), worked)?);
     }
     Ok(())

@@ -51,7 +51,15 @@ fn ends(alloc: Global, altered: &Altered<'_>) -> Result<bool, Fail> {
 fn a_trace_prints_itself(rt: HostRuntime) -> Result<(), Fail> {
     let trace = joined(rt.alloc(), TEXT_HEADER, HALTS_PRINTED)?;
     let call = replayed(Status::Done, 2);
-    assert!(rt; gives(rt.alloc(), &call, &ZEROS, trace.as_slice(), trace.as_slice())?);
+    assert!(rt;
+        gives(
+            rt.alloc(),
+            &call,
+            &ZEROS,
+            trace.as_slice(),
+            trace.as_slice()
+        )?
+    );
     Ok(())
 }
 
@@ -60,7 +68,15 @@ fn a_trace_may_have_no_tail(rt: HostRuntime) -> Result<(), Fail> {
     let trace = text(rt.alloc(), TEXT_HEADER, &EVENTS)?;
     let printed = joined(rt.alloc(), TEXT_HEADER, HALTS_PRINTED)?;
     let call = replayed(Status::Done, 2);
-    assert!(rt; gives(rt.alloc(), &call, &ZEROS, trace.as_slice(), printed.as_slice())?);
+    assert!(rt;
+        gives(
+            rt.alloc(),
+            &call,
+            &ZEROS,
+            trace.as_slice(),
+            printed.as_slice()
+        )?
+    );
     Ok(())
 }
 
@@ -150,51 +166,67 @@ fn tail_ends(
 fn an_altered_tail_is_answered_by_its_line(rt: HostRuntime) -> Result<(), Fail> {
     let [zero, one, register, console, end] = TAIL;
     // a register's line is missing
-    assert!(rt; tail_ends(
-        rt.alloc(),
-        &[zero, one, console, end],
-        &[
-            "axp: differs at line 8\n",
-            "trace: console -\n",
-            "right: reg 1 16 0000000000000001\n",
-        ],
-        Status::Differs { line: 8 },
-    )?);
+    assert!(rt;
+        tail_ends(
+            rt.alloc(),
+            &[zero, one, console, end],
+            &[
+                "axp: differs at line 8\n",
+                "trace: console -\n",
+                "right: reg 1 16 0000000000000001\n",
+            ],
+            Status::Differs { line: 8 },
+        )?
+    );
     // another number of events
-    assert!(rt; tail_ends(
-        rt.alloc(),
-        &[zero, one, register, console, "end 5\n"],
-        &["axp: differs at line 10\n", "trace: end 5\n", "right: end 4\n"],
-        Status::Differs { line: 10 },
-    )?);
+    assert!(rt;
+        tail_ends(
+            rt.alloc(),
+            &[zero, one, register, console, "end 5\n"],
+            &[
+                "axp: differs at line 10\n",
+                "trace: end 5\n",
+                "right: end 4\n"
+            ],
+            Status::Differs { line: 10 },
+        )?
+    );
     // the last line has no line feed
-    assert!(rt; tail_ends(
-        rt.alloc(),
-        &[zero, one, register, console, "end 4"],
-        &["axp: bad trace at line 10\n"],
-        Status::BadTrace { line: 10 },
-    )?);
+    assert!(rt;
+        tail_ends(
+            rt.alloc(),
+            &[zero, one, register, console, "end 4"],
+            &["axp: bad trace at line 10\n"],
+            Status::BadTrace { line: 10 },
+        )?
+    );
     // two lines are missing
-    assert!(rt; tail_ends(
-        rt.alloc(),
-        &[zero, one, register],
-        &["axp: bad trace at line 9\n"],
-        Status::BadTrace { line: 9 },
-    )?);
+    assert!(rt;
+        tail_ends(
+            rt.alloc(),
+            &[zero, one, register],
+            &["axp: bad trace at line 9\n"],
+            Status::BadTrace { line: 9 },
+        )?
+    );
     // one line is too many
-    assert!(rt; tail_ends(
-        rt.alloc(),
-        &[zero, one, register, console, end, end],
-        &["axp: bad trace at line 11\n"],
-        Status::BadTrace { line: 11 },
-    )?);
+    assert!(rt;
+        tail_ends(
+            rt.alloc(),
+            &[zero, one, register, console, end, end],
+            &["axp: bad trace at line 11\n"],
+            Status::BadTrace { line: 11 },
+        )?
+    );
     // an event stands in the tail
-    assert!(rt; tail_ends(
-        rt.alloc(),
-        &[zero, "0 poll : 0 @0 stay\n", register, console, end],
-        &["axp: bad trace at line 7\n"],
-        Status::BadTrace { line: 7 },
-    )?);
+    assert!(rt;
+        tail_ends(
+            rt.alloc(),
+            &[zero, "0 poll : 0 @0 stay\n", register, console, end],
+            &["axp: bad trace at line 7\n"],
+            Status::BadTrace { line: 7 },
+        )?
+    );
     Ok(())
 }
 
@@ -213,7 +245,15 @@ fn another_size_of_memory_differs_at_the_first_line(rt: HostRuntime) -> Result<(
         ],
     )?;
     let call = replayed(Status::Differs { line: 1 }, 2);
-    assert!(rt; gives(rt.alloc(), &call, &ZEROS, trace.as_slice(), printed.as_slice())?);
+    assert!(rt;
+        gives(
+            rt.alloc(),
+            &call,
+            &ZEROS,
+            trace.as_slice(),
+            printed.as_slice()
+        )?
+    );
     Ok(())
 }
 
@@ -227,7 +267,15 @@ fn a_list_has_no_lines_of_a_trace(rt: HostRuntime) -> Result<(), Fail> {
         let list = joined(rt.alloc(), super::LIST_HEADER, line)?;
         let printed = joined(rt.alloc(), TEXT_HEADER, number)?;
         let call = replayed(Status::BadTrace { line: 2 }, 2);
-        assert!(rt; gives(rt.alloc(), &call, &ZEROS, list.as_slice(), printed.as_slice())?);
+        assert!(rt;
+            gives(
+                rt.alloc(),
+                &call,
+                &ZEROS,
+                list.as_slice(),
+                printed.as_slice()
+            )?
+        );
     }
     Ok(())
 }
