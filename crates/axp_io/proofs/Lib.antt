@@ -1,3 +1,4 @@
+pub mod BufferLemmas
 pub mod Fronts
 pub mod ListsLemmas
 pub mod ReadLemmas

@@ -18,6 +18,7 @@ ghost use Rattle.axp_io.specs.Causes.{Ask, FetchCount, FetchGiven, FetchTold, Fe
 ghost use Rattle.axp_io.specs.Causes.{raised, PutCount, PutTaken};
 
 mod asks;
+mod buffers;
 mod files;
 mod gates;
 mod list_sinks;

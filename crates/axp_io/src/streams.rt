@@ -1,20 +1,24 @@
-ghost use Rattle.std.specs.Prelude.{◌≡◌, None};
+ghost use Rattle.std.specs.Prelude.{◌≡◌, ◌≤◌, None};
+ghost use Rattle.axp_io.specs.Causes.{PutCount};
 ghost use Rattle.axp_io.specs.Streams.{fresh_stream};
 
-use crate::writing::{StandardWriter, Tally, put_to};
+use crate::buffers::OutBuffer;
+use crate::writing::{StandardWriter, Tally};
 use crate::{Sink, SinkFault};
 use std::alloc::Global;
 use std::io;
 use std::marker::Model;
 
-/// The sink over standard output, which is not buffered.
+/// The sink over standard output, which writes up to 64 KiB at a time: what it took last is written
+/// only once `flush` is called.
 ///
-/// A write that fails or takes nothing is a failure. It tells no bytes, since no contract knows
-/// what standard output holds; that a piece is written whole and in order is the contract of
-/// `put_to`.
+/// A write that fails or takes nothing is a failure of the put or the flush that made it, and what
+/// was not written then never is. It tells no bytes, since no contract knows what standard output
+/// holds; that the pieces are written whole and in order is the contract of `OutBuffer`.
 #[derive(Drop)]
 pub struct OutSink<R> {
     rt: R,
+    waiting: OutBuffer,
     tally: Tally,
 }
 
@@ -28,16 +32,17 @@ impl<R> Model for OutSink<R> {
 
 impl<R> OutSink<R> {
     /// The sink over the runtime's standard output.
-    pub fn new(rt: R) -> OutSink<R>
+    pub fn new(alloc: Global, rt: R) -> OutSink<R>
         ensures { result ≡ fresh_stream }
     {
         OutSink {
             rt,
+            waiting: OutBuffer::new(alloc),
             tally: Tally::new(),
         }
     }
 
-    /// The number of puts that failed so far, at most 2^64 - 1.
+    /// The number of failures so far, at most 2^64 - 1.
     pub fn faults(&self) -> u64
         ensures { result ≡ self.now.faults }
     {
@@ -52,6 +57,19 @@ impl<R> OutSink<R> {
     }
 }
 
+impl<R: Print> OutSink<R> {
+    /// Writes what waits.
+    pub fn flush(&mut self) -> Result<(), SinkFault>
+        ensures faults_grow { self.old.faults ≤ self.new.faults }
+        ensures count { PutCount self.old.faults self.new.faults result }
+        ensures puts { self.new.puts ≡ self.old.puts }
+    {
+        let inner = io::writer(&self.rt);
+        let result = self.waiting.flush(&mut StandardWriter { inner });
+        self.tally.answer(result)
+    }
+}
+
 impl<R: Print> Sink for OutSink<R> {
     ghost taken = { λ _. None };
 
@@ -60,8 +78,10 @@ impl<R: Print> Sink for OutSink<R> {
     ghost puts = { λ s. s.puts };
 
     fn put(&mut self, _alloc: Global, piece: &[u8]) -> Result<(), SinkFault> {
+        self.tally.begin_put();
         let inner = io::writer(&self.rt);
-        put_to(&mut StandardWriter { inner }, &mut self.tally, piece)
+        let result = self.waiting.put(&mut StandardWriter { inner }, piece);
+        self.tally.answer(result)
     }
 }
 
@@ -72,8 +92,9 @@ mod tests {
 
     #[test]
     fn standard_output_takes_a_piece(rt: HostRuntime) {
-        let mut sink = OutSink::new(&rt);
+        let mut sink = OutSink::new(rt.alloc(), &rt);
         assert_eq!(rt; puts(&mut sink, rt.alloc(), b"a piece\n"), Ok(()));
+        assert_eq!(rt; sink.flush(), Ok(()));
         assert_eq!(rt; (sink.faults(), sink.puts()), (0, 1));
     }
 }

@@ -67,27 +67,26 @@ impl Tally {
     {
         Tally { faults: 0, puts: 0 }
     }
-}
 
-/// Writes a piece and counts the put, and the fault where it failed.
-pub(crate) fn put_to<W: Writer>(
-    to: &mut W,
-    tally: &mut Tally,
-    piece: &[u8],
-) -> Result<(), SinkFault>
-    ensures taken { PutTaken (W.contents to.old) (W.contents to.new) piece.now result }
-    ensures course { IfSome (W.course to.old)
-        (λ course. IsBelowTurns course → WritesSo course (length piece.now) result) }
-    ensures faults_grow { tally.old.faults ≤ tally.new.faults }
-    ensures count { PutCount tally.old.faults tally.new.faults result }
-    ensures puts { tally.new.puts ≡ raised tally.old.puts 1 }
-{
-    tally.puts = tally.puts.saturating_add(1);
-    let result = write_whole(to, piece);
-    if let Err(SinkFault::Failed) = result {
-        tally.faults = tally.faults.saturating_add(1);
+    /// Counts a put that begins.
+    pub(crate) fn begin_put(&mut self)
+        ensures { self.new ≡ record self.old { puts = raised self.old.puts 1 } }
+    {
+        self.puts = self.puts.saturating_add(1);
     }
-    result
+
+    /// Counts the fault where an answer is a failure, and gives the answer back.
+    pub(crate) fn answer(&mut self, answer: Result<(), SinkFault>) -> Result<(), SinkFault>
+        ensures same { result ≡ answer }
+        ensures faults_grow { self.old.faults ≤ self.new.faults }
+        ensures count { PutCount self.old.faults self.new.faults answer }
+        ensures puts { self.new.puts ≡ self.old.puts }
+    {
+        if let Err(SinkFault::Failed) = answer {
+            self.faults = self.faults.saturating_add(1);
+        }
+        answer
+    }
 }
 
 /// Writes a piece; after a failure a front of it may have been written.
@@ -167,7 +166,7 @@ mod tests {
         }
     }
 
-    /// Whether a put of `abc` gives the answer, the bytes taken, the faults and the calls.
+    /// Whether writing `abc` gives the answer, the bytes taken, the faults and the calls.
     fn writes(
         answers: &[Answer],
         want: Result<(), SinkFault>,
@@ -182,7 +181,7 @@ mod tests {
         };
         let mut writer = StandardWriter { inner };
         let mut tally = Tally::new();
-        let answer = put_to(&mut writer, &mut tally, b"abc");
+        let answer = tally.answer(write_whole(&mut writer, b"abc"));
         let length = writer.inner.length.min(8);
         answer == want
             && &writer.inner.taken[..length] == taken

@@ -1,0 +1,8 @@
+use Rattle.axp_io.proofs.BufferLemmas.{failed_before, failed_after}
+use Rattle.axp_io.proofs.buffers.OutBuffer.put.Goals as goal
+
+pub returns-in_err-flush-clause-failed : goal.returns-in_err-flush-clause-failed
+returns-in_err-flush-clause-failed g c = failed_before _ _ _ _ _ c.flush.result _ c.if-keep.ensures.kept c.flush.ensures.taken
+
+pub returns-clause-failed : goal.returns-clause-failed
+returns-clause-failed g c = failed_after _ _ _ _ _ _ _ c.if-keep.ensures.kept c.in_ok-flush.ensures.taken c.write_whole.ensures.taken
