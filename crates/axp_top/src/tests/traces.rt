@@ -279,3 +279,78 @@ fn a_list_has_no_lines_of_a_trace(rt: HostRuntime) -> Result<(), Fail> {
     }
     Ok(())
 }
+
+/// The numbers of the lines of a trace, each with the line that refuses it.
+const REFUSALS: [(u32, &str); 10] = [
+    (1, "axp: bad trace at line 1\n"),
+    (2, "axp: bad trace at line 2\n"),
+    (3, "axp: bad trace at line 3\n"),
+    (4, "axp: bad trace at line 4\n"),
+    (5, "axp: bad trace at line 5\n"),
+    (6, "axp: bad trace at line 6\n"),
+    (7, "axp: bad trace at line 7\n"),
+    (8, "axp: bad trace at line 8\n"),
+    (9, "axp: bad trace at line 9\n"),
+    (10, "axp: bad trace at line 10\n"),
+];
+
+/// Whether a trace of these lines is refused so at the line of this number, where the byte at this
+/// offset in it is an `x`. An `x` stands in no line but in the header's first word.
+fn refuses_at(
+    alloc: Global,
+    lines: &[&'static str],
+    number: u32,
+    at: usize,
+    refusal: &str,
+) -> Result<bool, Fail> {
+    let mut trace = Vec::new(alloc);
+    let mut printed = Vec::new(alloc);
+    let mut altered = 0;
+    let mut current = 1_u32;
+    for line in lines {
+        if current == number {
+            altered = trace.len().wrapping_add(at);
+        }
+        // the header and the lines of the events are printed, where they are ahead of the refusal
+        if current < number && current <= 5 {
+            printed.extend_from_slice(line.as_bytes())?;
+        }
+        trace.extend_from_slice(line.as_bytes())?;
+        current = current.wrapping_add(1);
+    }
+    printed.extend_from_slice(refusal.as_bytes())?;
+    if let Some(byte) = trace.get_mut(altered) {
+        if *byte == b'x' {
+            return Ok(true);
+        }
+        *byte = b'x';
+    }
+    let call = replayed(Status::BadTrace { line: number }, 2);
+    gives(alloc, &call, &ZEROS, trace.as_slice(), printed.as_slice())
+}
+
+#[test]
+fn each_altered_byte_is_answered_by_its_line(rt: HostRuntime) -> Result<(), Fail> {
+    let [first, second, third, fourth] = EVENTS;
+    let [zero, one, register, console, end] = TAIL;
+    let lines = [
+        TEXT_HEADER,
+        first,
+        second,
+        third,
+        fourth,
+        zero,
+        one,
+        register,
+        console,
+        end,
+    ];
+    for (number, refusal) in REFUSALS {
+        if let Some(line) = lines.get(number.wrapping_sub(1) as usize) {
+            for at in 0..line.len() {
+                assert!(rt; refuses_at(rt.alloc(), &lines, number, at, refusal)?);
+            }
+        }
+    }
+    Ok(())
+}
