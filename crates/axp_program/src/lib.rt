@@ -6,11 +6,11 @@ ghost use Rattle.std.specs.IoError.{error_kind};
 ghost use Rattle.std.specs.Process.{exit_status};
 ghost use Rattle.axp_top.specs.Outside.{outside_at};
 ghost use Rattle.axp_top.specs.Words.{order_of};
-ghost use Rattle.axp_program.specs.Numbers.{IsExitNumber, number_without_words};
+ghost use Rattle.axp_program.specs.Numbers.{IsExitNumber, number_without_words, number_once_flushed};
 ghost use Rattle.axp_program.specs.Served.{IsServed};
 
 use axp_base::NoMemory;
-use axp_io::{Desk, FileDesk, OutSink, Sink};
+use axp_io::{Desk, FileDesk, OutSink, Sink, SinkFault};
 use axp_top::{Status, Word, serve_plain};
 use std::alloc::Global;
 use std::env::{self, Env};
@@ -27,9 +27,21 @@ pub fn run<R: Env + Files + Print + AllocGlobal>(rt: &R) -> ExitCode
     ensures { IsExitNumber (exit_status result) }
 {
     let mut desk = FileDesk::new(rt);
-    let mut sink = OutSink::new(rt);
-    let number = serve_words(rt.alloc(), read_words(rt), &mut desk, &mut sink);
-    ExitCode::from(number)
+    let mut sink = OutSink::new(rt.alloc(), rt);
+    let served = serve_words(rt.alloc(), read_words(rt), &mut desk, &mut sink);
+    ExitCode::from(number_after(served, sink.flush()))
+}
+
+/// The number that the process ends with once all that was put is written: that of what was served,
+/// or of WriteFault where the writing failed.
+fn number_after(served: u8, flushed: Result<(), SinkFault>) -> u8
+    ensures by_flush { result ≡ number_once_flushed served flushed }
+    ensures number { IsExitNumber served → IsExitNumber result }
+{
+    match flushed {
+        Ok(()) => served,
+        Err(_) => Status::WriteFault.number(),
+    }
 }
 
 /// Serves the words where the system gave them, and answers the number that the process ends with.
