@@ -91,13 +91,13 @@ wanted_in_some p e i can w is = record {
 }
 
 -- what was asked for is legal
-asked_parts : (o : Option Ask2) (q : Ask2) → asked_or_refused o ≡ Ok q → o ≡ Some q
-asked_parts None q e = cc
-asked_parts (Some x) q e = let same : x ≡ q = cc in ap (λ y. Some y) same
+pub asked_ok : (o : Option Ask2) (q : Ask2) → asked_or_refused o ≡ Ok q → o ≡ Some q
+asked_ok None q e = cc
+asked_ok (Some x) q e = let same : x ≡ q = cc in ap (λ y. Some y) same
 
 pub was_asked : (a : Actor) (e : Act) (q : Ask2) → request_of a e ≡ Ok q → ask_of e (actor_intent a) a.kept ≡ Some q
 unfolding request_of
-was_asked a e q asked = asked_parts (ask_of e (actor_intent a) a.kept) q asked
+was_asked a e q asked = asked_ok (ask_of e (actor_intent a) a.kept) q asked
 
 -- and what a legal act asks lies in memory
 pub asked_within : (size : ℕ) (o : Option Ask2) (e : NotLegal) (r : Result Ask2 NotLegal) → r ≡ ok_or o e → IfSome o (IsAskWithin size) → IfOk r (IsAskWithin size)

@@ -442,11 +442,12 @@ complete_stops b n h m ls (Err x) s has err stops =
     rw has.is (subst (λ (y : Stop). Stopped b n (refused_or_whole m (tail_refusal h (next_line m) (tail_items m) (has.line ∷ has.more))).lines y) (sym err)
     (whole_or_stops b n m (tail_refusal h (next_line m) (tail_items m) (has.line ∷ has.more)) s here))
 
+some_same : (s t : Status) → Some s ≡ Some t → s ≡ t
+some_same s t is = cc
+
 refused_prints : (b n : SinkState) (m : Seen) (o : Option Answer) (s : Status) → PrintsRefusal b n o (Ok (Some s)) → PrintsAnswer b n (refused_or_whole m o) (Ok s)
 refused_prints b n m None s prints = let never : Some s ≡ None = prints.1 in cc
-refused_prints b n m (Some a) s prints = let is : Some s ≡ Some a.status = prints.1 in (prints.0, some_same s a.status is) where
-  some_same : (s t : Status) → Some s ≡ Some t → s ≡ t
-  some_same s t is = cc
+refused_prints b n m (Some a) s prints = let is : Some s ≡ Some a.status = prints.1 in (prints.0, some_same s a.status is)
 
 pub complete_refused : (b n : SinkState) (h : Header) (m : Seen) (ls : List FileLine) (told : Option Status) (s : Status) → HasLine ls → told ≡ Some s → PrintsRefusal b n (tail_refusal h (next_line m) (tail_items m) ls) (Ok told) → PrintsAnswer b n (complete_ending h m ls) (Ok s)
 complete_refused b n h m ls told s has is prints =
@@ -512,9 +513,7 @@ run_stops_front b k n h m ls items (Err x) s none is err first stops =
 
 refused_front : (k l : SinkState) (h : Header) (m : Seen) (rest : List FileLine) (o : Option Answer) (fl : Lines) (s : Status) → Some s ≡ refusal_status o → Printed k l fl → Printed k l (fl ++ behind_by h m rest o) × (s ≡ (ending_by h m rest o).status)
 refused_front k l h m rest None fl s is prints = let never : Some s ≡ None = is in cc
-refused_front k l h m rest (Some a) fl s is prints = (subst (Printed k l) (sym (append-nil fl)) prints, some_same s a.status is) where
-  some_same : (s t : Status) → Some s ≡ Some t → s ≡ t
-  some_same s t is = cc
+refused_front k l h m rest (Some a) fl s is prints = (subst (Printed k l) (sym (append-nil fl)) prints, some_same s a.status is)
 
 pub run_refused : (b k l : SinkState) (h : Header) (m m' : Seen) (ls : List FileLine) (items rest : List ℕ) (told : Option Status) (s : Status) → m.records ≡ [] → items ≡ right_header m → told ≡ Some s → Printed b k (with_feed items ∷ []) → PrintsEvents k l h m m' ls (Ok (told, rest)) → PrintsAnswer b l (answer_of_run h m ls) (Ok s)
 run_refused b k l h m m' ls items rest told s none is some first events =

@@ -11,14 +11,9 @@ use Rattle.axp_lsu.specs.Keeping.{has_dropped}
 use Rattle.axp_lsu.specs.declared.asks.Ask2.{Ask2}
 use Rattle.axp_lsu.specs.declared.asks.Ask2.TheVariants as ask
 use Rattle.axp_lsu.specs.declared.since.Since.{Since}
-use Rattle.axp_cpu.proofs.ActorLemmas.{steps_left}
-use Rattle.axp_cpu.specs.Actors.{Actor, actor_intent, asked_or_refused, request_of}
+use Rattle.axp_cpu.proofs.ActorLemmas.{asked_ok, steps_left}
+use Rattle.axp_cpu.specs.Actors.{Actor, actor_intent, request_of}
 use Rattle.axp_cpu.specs.Seats.{Seat, is_finished}
-
--- what is asked is what the act asks
-pub asked_ok : (o : Option Ask2) (q : Ask2) → asked_or_refused o ≡ Ok q → o ≡ Some q
-asked_ok None q is = cc
-asked_ok (Some m) q is = cc
 
 pub some_if : (b : Bool) (x : Option Ask2) (q : Ask2) → cond b x None ≡ Some q → (b ≡ true) × (x ≡ Some q)
 some_if true x q h = (refl, h)

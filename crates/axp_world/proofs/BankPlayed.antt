@@ -14,7 +14,7 @@ use Rattle.axp_bank.proofs.BankLemmas.{whole_empty}
 use Rattle.axp_base.specs.Cpus.{cpu_number}
 use Rattle.axp_base.specs.Lines.{data_bank, in_bank}
 use Rattle.axp_base.specs.declared.lines.Bank.TheVariants.{Even, Odd}
-use Rattle.axp_world.proofs.AskedActs.{asked_ok}
+use Rattle.axp_cpu.proofs.ActorLemmas.{asked_ok}
 use Rattle.axp_cpu.specs.Actors.{Actor, actor_intent, advanced, outcome_of, request_of}
 use Rattle.axp_image.specs.Contents.{Contents}
 use Rattle.axp_line.specs.declared.contents.LineData.{LineData}

@@ -17,9 +17,9 @@ use Rattle.axp_access.specs.declared.Intent.{Intent}
 use Rattle.axp_access.specs.declared.Outcome.{Outcome}
 use Rattle.axp_access.specs.declared.Record.{Record}
 use Rattle.axp_access.specs.declared.Wanted.{Wanted}
-use Rattle.axp_world.proofs.AskedActs.{asked_ok}
+use Rattle.axp_cpu.proofs.ActorLemmas.{asked_ok}
 use Rattle.axp_cpu.specs.Actors as actors
-use Rattle.axp_world.proofs.AskedActs.{asked_ok}
+use Rattle.axp_cpu.proofs.ActorLemmas.{asked_ok}
 use Rattle.axp_cpu.specs.Actors.{Actor, actor_intent, request_of}
 use Rattle.axp_lsu.specs.Asking.{act_ask, access_ask, ask_of, drain_ask, is_ready, step_ask}
 use Rattle.axp_lsu.specs.Going as going

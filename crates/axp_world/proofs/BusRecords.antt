@@ -20,7 +20,7 @@ use Rattle.axp_access.specs.declared.Outcome.TheVariants as outcome
 use Rattle.axp_access.specs.declared.Place.TheVariants.{At}
 use Rattle.axp_access.specs.declared.Record.{Record}
 use Rattle.axp_access.specs.declared.Wanted.{Wanted}
-use Rattle.axp_world.proofs.AskedActs.{asked_ok}
+use Rattle.axp_cpu.proofs.ActorLemmas.{asked_ok}
 use Rattle.axp_cpu.specs.Actors.{Actor, actor_intent, outcome_of, request_of}
 use Rattle.axp_image.specs.Contents.{Contents}
 use Rattle.axp_base.specs.LatePairs.{others}

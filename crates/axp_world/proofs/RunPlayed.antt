@@ -41,7 +41,7 @@ use Rattle.axp_model.specs.Outcomes.{IsRun}
 use Rattle.axp_laws.proofs.RunFacts.{Fitting}
 use Rattle.axp_world.specs.Worlds.{World, answer_of, cpu_or_first, image_bytes, reply_at, world}
 use Rattle.axp_world.proofs.BusRecords.{asked_act}
-use Rattle.axp_world.proofs.AskedActs.{asked_ok}
+use Rattle.axp_cpu.proofs.ActorLemmas.{asked_ok}
 use Rattle.axp_world.specs.Deeds.{has_late}
 use Rattle.axp_world.proofs.RunLegality.{legal_agrees}
 use Rattle.axp_world.proofs.PlayedRecords.{actor_other, actor_own, shown}
