@@ -1,5 +1,5 @@
 -- Readers and writers that are known by their course: what their calls will answer, in order.
-use Rattle.std.specs.Prelude.{◌≡◌, ℕ, zero, suc, ◌+◌, ◌-◌, ◌^◌, ◌≤◌, ◌<◌, Bool, true, false, List, [], ◌∷◌, ◌++◌, map, length, replicate, take, Option, None, Some, Result, Ok, Err}
+use Rattle.std.specs.Prelude.{◌≡◌, ℕ, zero, suc, ◌+◌, ◌-◌, ◌^◌, ◌≤◌, ◌<◌, Bool, true, false, List, [], ◌∷◌, ◌++◌, map, length, replicate, take, Option, None, Some, Result, Ok, Err, IsOk}
 use Rattle.std.specs.Io.KnownBytes.{Consumes}
 use Rattle.axp_io.specs.Causes.{raised}
 use Rattle.axp_io.specs.declared.FetchFault.{FetchFault}
@@ -102,3 +102,17 @@ abbrev pub WritesSo : {T : Type 0} → WriteCourse → ℕ → Result T SinkFaul
 WritesSo course n (Ok _) = takes_all course n ≡ true
 WritesSo course n (Err sink.Failed) = takes_all course n ≡ false
 WritesSo course n (Err sink.Memory) = ⊥
+
+-- the first course takes whole and more bytes exactly where the second takes rest and more
+abbrev pub CourseOn : WriteCourse → WriteCourse → ℕ → ℕ → Type 0
+CourseOn old new whole rest = (more : ℕ) → takes_all old (whole + more) ≡ takes_all new (rest + more)
+
+-- a course once it took so many bytes: what it takes then is what it took after them, and it is no longer
+abbrev pub CourseAfter : Option WriteCourse → Option WriteCourse → ℕ → Type 0
+CourseAfter None now n = Unit {0}
+CourseAfter (Some old) None n = ⊥
+CourseAfter (Some old) (Some new) n = ((more : ℕ) → takes_all old (n + more) ≡ takes_all new more) × (length new ≤ length old)
+
+-- what needs so many bytes of a course fails only where the course does not take them
+abbrev pub FailsOnlySo : {T : Type 0} → WriteCourse → ℕ → Result T SinkFault → Type 0
+FailsOnlySo course n result = IsBelowTurns course → takes_all course n ≡ true → IsOk result

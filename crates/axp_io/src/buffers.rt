@@ -1,7 +1,7 @@
-ghost use Rattle.std.specs.Prelude.{◌≡◌, ◌≤◌, ◌++◌, [], length, IfSome, OnOk, OnErr};
+ghost use Rattle.std.specs.Prelude.{◌≡◌, ◌≤◌, ◌++◌, ◌+◌, [], length, IfSome, OnOk, OnErr};
 ghost use Rattle.std.specs.Io.KnownBytes.{Appends, append_known};
 ghost use Rattle.axp_io.specs.Causes.{AppendsFront, PutTaken};
-ghost use Rattle.axp_io.specs.Courses.{WritesSo, IsBelowTurns};
+ghost use Rattle.axp_io.specs.Courses.{WritesSo, IsBelowTurns, CourseAfter, FailsOnlySo};
 ghost use Rattle.axp_io.specs.Streams.{Kept};
 ghost use Rattle.axp_io.specs.declared.buffers.TheConstants.{OUT_BUFFER_BYTES};
 
@@ -48,6 +48,8 @@ impl OutBuffer {
         ensures failed { OnErr result
             (AppendsFront (W.contents to.old) (W.contents to.new) (self.old ++ piece.now)) }
         ensures none_waits { OnErr result (self.new ≡ []) }
+        ensures course { IfSome (W.course to.old)
+            (λ course. FailsOnlySo course (length self.old + length piece.now) result) }
         ensures bound { length self.new ≤ OUT_BUFFER_BYTES }
     {
         if self.keep(piece) {
@@ -65,6 +67,7 @@ impl OutBuffer {
         ensures taken { PutTaken (W.contents to.old) (W.contents to.new) self.old result }
         ensures course { IfSome (W.course to.old)
             (λ course. IsBelowTurns course → WritesSo course (length self.old) result) }
+        ensures left { OnOk result (CourseAfter (W.course to.old) (W.course to.new) (length self.old)) }
         ensures none_waits { self.new ≡ [] }
     {
         let result = write_whole(to, self.waiting.as_slice());

@@ -1,8 +1,8 @@
-ghost use Rattle.std.specs.Prelude.{◌≡◌, ◌≤◌, ℕ, List, length, Option, None, IfSome};
+ghost use Rattle.std.specs.Prelude.{◌≡◌, ◌≤◌, ℕ, List, length, Option, None, IfSome, OnOk};
 ghost use Rattle.std.specs.Io.{WritesAtMost};
 ghost use Rattle.std.specs.Io.KnownBytes.{WriteAppends};
 ghost use Rattle.axp_io.specs.Causes.{raised, PutCount, PutTaken};
-ghost use Rattle.axp_io.specs.Courses.{WriteCourse, WriteRuns, WritesSo, IsBelowTurns};
+ghost use Rattle.axp_io.specs.Courses.{WriteCourse, WriteRuns, WritesSo, IsBelowTurns, CourseAfter};
 ghost use Rattle.axp_io.specs.Streams.{fresh_stream};
 
 use crate::SinkFault;
@@ -97,6 +97,7 @@ pub(crate) fn write_whole<W: Writer>(to: &mut W, piece: &[u8]) -> Result<(), Sin
     ensures taken { PutTaken (W.contents to.old) (W.contents to.new) piece.now result }
     ensures course { IfSome (W.course to.old)
         (λ course. IsBelowTurns course → WritesSo course (length piece.now) result) }
+    ensures left { OnOk result (CourseAfter (W.course to.old) (W.course to.new) (length piece.now)) }
 {
     let mut rest = piece;
     // The end of the range is met only by a writer that is interrupted for ever: each other turn
@@ -108,7 +109,8 @@ pub(crate) fn write_whole<W: Writer>(to: &mut W, piece: &[u8]) -> Result<(), Sin
         let count = match to.write(rest) {
             Ok(count) => count,
             Err(Trouble::Interrupted) => continue,
-            Err(Trouble::Memory | Trouble::Fault) => return Err(SinkFault::Failed),
+            Err(Trouble::Memory) => return Err(SinkFault::Failed),
+            Err(Trouble::Fault) => return Err(SinkFault::Failed),
         };
         if count == 0 {
             return Err(SinkFault::Failed);
