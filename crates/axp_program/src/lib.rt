@@ -21,15 +21,54 @@ use std::rt::Files;
 /// The number that the process ends with where the system does not give the words.
 const REFUSED_WORDS: u8 = 17;
 
+/// What the program says of itself to a person.
+const VERSION: &str = "axp 0.1.0\n";
+
+/// What the program tells a person that it can do.
+const HELP: &str = "\
+axp: an emulator of Alpha AXP processors that share memory
+
+usage: axp replay IMAGE EVENTS-OR-TRACE
+           prints the trace of an event list, or runs a trace again and compares
+       axp --help
+           prints this on standard error
+       axp --version
+           prints the name and the version on standard error
+
+example: axp replay examples/spin_lock/image.bin examples/spin_lock/events.txt
+
+IMAGE is what the memory of the machine holds at first. Standard output has the
+trace, or a line that says why there is none, and the exit number says how the
+run ended.
+";
+
 /// Does what the words of the command line say, with the runtime's files and standard output, and
 /// answers what the process ends with: `docs/FORMATS.md` has the numbers.
-pub fn run<R: Env + Files + Print + AllocGlobal>(rt: &R) -> ExitCode
+pub fn run<R: Env + Files + Print + Eprint + AllocGlobal>(rt: &R) -> ExitCode
     ensures { IsExitNumber (exit_status result) }
 {
     let mut desk = FileDesk::new(rt);
     let mut sink = OutSink::new(rt.alloc(), rt);
-    let served = serve_words(rt.alloc(), read_words(rt), &mut desk, &mut sink);
+    let words = read_words(rt);
+    if let Ok(words) = &words {
+        tell_person(rt, words.as_slice());
+    }
+    let served = serve_words(rt.alloc(), words, &mut desk, &mut sink);
     ExitCode::from(number_after(served, sink.flush()))
+}
+
+/// Tells a person on standard error what the words ask for: the help where there are none or
+/// `--help` alone, and the version for `--version` alone.
+///
+/// A failure is ignored: what scripts read is standard output and the number.
+fn tell_person<R: Eprint>(rt: &R, words: &[Word]) {
+    let text = match words {
+        [] => HELP,
+        [word] if word.as_str() == "--help" => HELP,
+        [word] if word.as_str() == "--version" => VERSION,
+        _ => return,
+    };
+    let _ = rt.eprint(text);
 }
 
 /// The number that the process ends with once all that was put is written: that of what was served,
