@@ -1,6 +1,6 @@
-ghost use Rattle.std.specs.Prelude.{◌≡◌, ◌≤◌, None};
+ghost use Rattle.std.specs.Prelude.{◌≡◌, ◌≤◌, [], None};
 ghost use Rattle.axp_io.specs.Causes.{PutCount};
-ghost use Rattle.axp_io.specs.Streams.{fresh_stream};
+ghost use Rattle.axp_io.specs.Streams.{fresh_out};
 
 use crate::buffers::OutBuffer;
 use crate::writing::{StandardWriter, Tally};
@@ -23,17 +23,21 @@ pub struct OutSink<R> {
 }
 
 impl<R> Model for OutSink<R> {
-    ghost use Rattle.axp_io.specs.Streams.{StreamView};
+    ghost use Rattle.axp_io.specs.Streams.{OutView};
 
-    ghost Value = { StreamView };
+    ghost Value = { OutView };
 
-    ghost view = { λ s. s.tally };
+    ghost view = { λ s. record {
+      faults = s.tally.faults;
+      puts = s.tally.puts;
+      waiting = s.waiting;
+    } };
 }
 
 impl<R> OutSink<R> {
     /// The sink over the runtime's standard output.
     pub fn new(alloc: Global, rt: R) -> OutSink<R>
-        ensures { result ≡ fresh_stream }
+        ensures { result ≡ fresh_out }
     {
         OutSink {
             rt,
@@ -58,11 +62,12 @@ impl<R> OutSink<R> {
 }
 
 impl<R: Print> OutSink<R> {
-    /// Writes what waits.
+    /// Writes what waits; where that fails, what was not written never is.
     pub fn flush(&mut self) -> Result<(), SinkFault>
         ensures faults_grow { self.old.faults ≤ self.new.faults }
         ensures count { PutCount self.old.faults self.new.faults result }
         ensures puts { self.new.puts ≡ self.old.puts }
+        ensures none_waits { self.new.waiting ≡ [] }
     {
         let inner = io::writer(&self.rt);
         let result = self.waiting.flush(&mut StandardWriter { inner });
