@@ -19,7 +19,7 @@ mod translation;
 mod values;
 mod walks;
 
-pub use axp_lsu::Ask2;
+pub use axp_lsu::{Ask2, Facts, Reason, reason_of};
 pub use laws::{
     accesses_need_their_right, groups_change_registers_at_their_end, halts_leave_the_state,
     kept_translations_lead_where_walks_led, registers_get_what_is_shown, walks_go_by_three_entries,

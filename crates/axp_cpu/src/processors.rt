@@ -8,6 +8,7 @@ ghost use Rattle.axp_lsu.specs.EntryStates.{entry_in};
 ghost use Rattle.axp_lsu.specs.Fitting.{ShowsFitting};
 ghost use Rattle.axp_lsu.specs.Going.{is_entered};
 ghost use Rattle.axp_lsu.specs.Offering.{full_bank, is_open};
+ghost use Rattle.axp_lsu.specs.Reasons.{facts_of};
 ghost use Rattle.axp_lsu.specs.Within.{IsAskWithin};
 ghost use Rattle.axp_cpu.specs.Actors.{Actor, actor_intent, advanced, first_actor};
 ghost use Rattle.axp_cpu.specs.Actors.{moved_by, outcome_of, request_of, seat_after};
@@ -23,7 +24,7 @@ use axp_access::{Act, EntryState, Intent, Offer, Outcome};
 use axp_base::Cpu;
 use axp_image::Image;
 use axp_line::Reply;
-use axp_lsu::{Ask2, Lsu};
+use axp_lsu::{Ask2, Facts, Lsu};
 use axp_regs::State;
 use axp_trap::{CLOCK, INTERPROCESSOR};
 
@@ -129,6 +130,17 @@ impl Processor {
         let intent = self.sequencer.intent();
         let next = self.sequencer.next_wanted();
         self.unit.offer(&intent, &next)
+    }
+
+    /// What the conditions of an act ask (docs/MACHINE.md, "Which events are legal"). Whether
+    /// something is late is the bus's to tell.
+    pub fn facts(&self, act: Act, late: bool) -> Facts
+        requires { IsSeated self.now }
+        ensures { (a : Actor) → IsAt self.now a
+            → result ≡ facts_of act (actor_intent a) late a.kept }
+    {
+        let intent = self.sequencer.intent();
+        self.unit.facts(act, &intent, late)
     }
 
     /// Does an act that was asked for, with the bus's answer where it asked, and tells its outcome.

@@ -2,6 +2,7 @@ pub mod Keeping
 pub mod EntryStates
 pub mod Asking
 pub mod Offering
+pub mod Reasons
 pub mod Going
 pub mod Within
 pub mod Fitting

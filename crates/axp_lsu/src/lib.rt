@@ -3,10 +3,12 @@
 #![tactic(auto)]
 
 mod asks;
+mod reasons;
 mod since;
 mod units;
 
 pub use asks::Ask2;
+pub use reasons::{Facts, Reason, reason_of};
 pub use since::Since;
 pub use units::Lsu;
 

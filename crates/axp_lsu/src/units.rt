@@ -7,6 +7,7 @@ ghost use Rattle.axp_lsu.specs.Keeping.{empty_memory, copies_of, data_copies};
 mod asking;
 mod copies;
 mod entries;
+mod facts;
 mod going;
 mod offering;
 mod values;

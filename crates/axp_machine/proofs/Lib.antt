@@ -12,6 +12,7 @@ pub mod VainTakeLemmas
 pub mod LateLineLemmas
 -- what is legal
 pub mod OfferLemmas
+pub mod ReasonLemmas
 -- how far entries have come
 pub mod EntryLemmas
 -- what a granted event leaves and gives

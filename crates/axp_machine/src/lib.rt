@@ -8,7 +8,7 @@
 mod laws;
 mod machine;
 
-pub use axp_cpu::NotLegal;
+pub use axp_cpu::{NotLegal, Reason};
 pub use axp_regs::{REGISTERS, ZERO_REGISTER};
 pub use laws::{records_are_a_run, runs_keep_the_constraints, tails_tell_what_is_left};
 pub use machine::{Machine, TailAt};

@@ -23,6 +23,7 @@ use std::marker::Model;
 
 mod entries;
 mod offering;
+mod reasons;
 mod tails;
 
 pub use tails::TailAt;

@@ -44,6 +44,8 @@ pub mod RunPlayed
 pub mod RunRefusals
 pub mod RunJoined
 pub mod RunDeeds
+-- why an event is not legal
+pub mod RunReasons
 -- what went to the console
 pub mod BusConsole
 -- no processor is stuck

@@ -67,10 +67,10 @@ data_is_data l = by_test (eqb (l % 2) 0) where
   by_test true = refl
   by_test false = refl
 
-code_length : (image : ℕ → ℕ) (p : ℕ) (h : List Record) (u : LocalMemory) → BanksAgree image p h u → length u.code ≡ length (model.code_copies p h)
+pub code_length : (image : ℕ → ℕ) (p : ℕ) (h : List Record) (u : LocalMemory) → BanksAgree image p h u → length u.code ≡ length (model.code_copies p h)
 code_length image p h u banks = sym (map_length u.code) ∙ ap (λ ls. length ls) banks.code_lines
 
-room_agrees : (image : ℕ → ℕ) (p l : ℕ) (h : List Record) (u : LocalMemory) → BanksAgree image p h u → ltb (length (data_copies l u)) BANK_COPIES ≡ has_room l p h
+pub room_agrees : (image : ℕ → ℕ) (p l : ℕ) (h : List Record) (u : LocalMemory) → BanksAgree image p h u → ltb (length (data_copies l u)) BANK_COPIES ≡ has_room l p h
 room_agrees image p l h u banks = ap (λ n. ltb n BANK_COPIES) (bank_length image p h u banks (data_bank l) (data_is_data l))
 
 -- the condition of a Step, by the kind of its access
@@ -92,7 +92,7 @@ step_agrees None boundary armed image p h u buffers banks = asked_if boundary as
 step_agrees (Some w) boundary armed image p h u buffers banks = asked_if (asking.is_ready w.kind (line_of w.address) u) (access_ask w.kind w armed u) ∙ ready_agrees w.kind image p (line_of w.address) h u buffers banks
 
 -- a Fill
-not_or : (a b : Bool) → (not a && (a || b)) ≡ (not a && b)
+pub not_or : (a b : Bool) → (not a && (a || b)) ≡ (not a && b)
 not_or true b = refl
 not_or false b = refl
 
@@ -129,12 +129,12 @@ entries_listed (e ∷ es) (w ∷ ws) (suc k) are =
     (cases_lt k (length ws))
 
 -- a Drop
-drop_held : (b : Bank) (image : ℕ → ℕ) (p l : ℕ) (h : List Record) (u : LocalMemory) → BanksAgree image p h u → is_held l (copies_of b u) ≡ holds_in b l p h
+pub drop_held : (b : Bank) (image : ℕ → ℕ) (p l : ℕ) (h : List Record) (u : LocalMemory) → BanksAgree image p h u → is_held l (copies_of b u) ≡ holds_in b l p h
 drop_held Even image p l h u banks = held_among l u.even ∙ ap (is_among l) banks.even_lines ∙ (copies_exactly p Even h).members l
 drop_held Odd image p l h u banks = held_among l u.odd ∙ ap (is_among l) banks.odd_lines ∙ (copies_exactly p Odd h).members l
 drop_held Code image p l h u banks = banks.code_lines_held l
 
-drop_since : (b : Bank) (p : ℕ) (h : List Record) (u : LocalMemory) → SinceAgrees p h u → has_dropped b u.since ≡ since_step (is_drop_of b) p h
+pub drop_since : (b : Bank) (p : ℕ) (h : List Record) (u : LocalMemory) → SinceAgrees p h u → has_dropped b u.since ≡ since_step (is_drop_of b) p h
 drop_since Even p h u since = since.even
 drop_since Odd p h u since = since.odd
 drop_since Code p h u since = since.code
