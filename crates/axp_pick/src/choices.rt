@@ -1,8 +1,8 @@
 ghost use Rattle.std.specs.Prelude.{◌≡◌, true, Some};
 ghost use Rattle.axp_access.specs.Offers.{is_offered};
 ghost use Rattle.axp_pick.specs.Choices as spec;
-ghost use Rattle.axp_pick.specs.Choices.{choice, drain_of, drop_at, first_in_bank, named, progress, room_made};
-ghost use Rattle.axp_pick.specs.Choices.{index_field, kind_field, rarity_field};
+ghost use Rattle.axp_pick.specs.Choices.{choice, drain_of, drop_at, first_in_bank, named, progress};
+ghost use Rattle.axp_pick.specs.Choices.{index_field, kind_field, rarity_field, room_made};
 
 use axp_access::{Act, Offer};
 use axp_base::{Bank, Line};

@@ -1,9 +1,12 @@
 //! Laws of the choices, each proved as the contract of a function that does nothing.
-ghost use Rattle.std.specs.Prelude.{ℕ, ◌≡◌, ◌+◌, ◌-◌, ◌*◌, ◌%◌, ◌^◌, ◌<◌, ◌↔◌, true, Some, is_some};
+ghost use Rattle.std.specs.Prelude.{ℕ, ◌≡◌, ◌+◌, ◌-◌, ◌*◌, ◌%◌, ◌^◌, ◌<◌, ◌≤◌, ◌↔◌, ◌&&◌};
+ghost use Rattle.std.specs.Prelude.{true, false, Some, is_some, length};
 ghost use Rattle.axp_access.specs.Offers.{is_offered};
 ghost use Rattle.axp_access.specs.declared.Act.{Act};
 ghost use Rattle.axp_access.specs.declared.Act.TheVariants.{Drain};
 ghost use Rattle.axp_access.specs.declared.offers.Offer.{Offer};
+ghost use Rattle.axp_access.specs.declared.TheConstants.{MAX_DRAINS};
+ghost use Rattle.axp_access.specs.declared.offers.TheConstants.{MAX_DROPS};
 ghost use Rattle.axp_pick.specs.Choices.{choice, index_field, is_able, kind_field};
 ghost use Rattle.axp_pick.specs.Words.{first_words, word_of_seed, words_after};
 
@@ -17,9 +20,19 @@ pub fn chosen_acts_are_offered()
         → a ≡ Drain (index_field word % o.drains) }
 {}
 
-/// The words of each stream of a seed, and the states behind them, have 64 and 128 bits. The
-/// increment is odd, and a stream's own. The words of the seed 42 and the stream 54 are those that
-/// the authors of the generator give; the others were worked by hand.
+/// No act that is offered is shut out: some word chooses it. A fill would be, where a step is
+/// offered too; no access is both ready and to be filled for.
+pub fn offered_acts_can_be_chosen()
+    ensures going { (o : Offer) (a : Act) → o.spent ≡ false → (o.step && o.fill) ≡ false
+        → o.drains ≤ MAX_DRAINS → length o.drops.items ≤ MAX_DROPS → is_offered o a ≡ true
+        → (word : ℕ) × (word < 2 ^ 64) × (choice o word ≡ Some a) }
+    ensures finished { (o : Offer) (k : ℕ) → o.spent ≡ true → o.drains ≤ MAX_DRAINS → k < o.drains
+        → (word : ℕ) × (word < 2 ^ 64) × (choice o word ≡ Some (Drain k)) }
+{}
+
+/// The words of each stream of a seed have 64 bits, and the generator's states 128. Its increment is
+/// odd, and a stream's own. The words of the seed 42 and the stream 54 are those that the authors of
+/// the generator give; the others were worked apart from the program.
 pub fn words_of_a_seed()
     ensures words { (seed stream n : ℕ) → word_of_seed seed stream n < 2 ^ 64 }
     ensures states { (seed stream n : ℕ) → (words_after n (first_words seed stream)).state < 2 ^ 128 }
