@@ -13,9 +13,12 @@ ghost use Rattle.axp_pick.specs.Words.{first_words, word_of_seed, words_after};
 /// What a word chooses is in the offer. Where a processor is able each word chooses an act, and
 /// elsewhere no word that names none does. A finished processor is given drains alone.
 pub fn chosen_acts_are_offered()
-    ensures offered { (o : Offer) (word : ℕ) (a : Act) → choice o word ≡ Some a → is_offered o a ≡ true }
-    ensures able { (o : Offer) → (is_able o ≡ true) ↔ ((word : ℕ) → is_some (choice o word) ≡ true) }
-    ensures idle { (o : Offer) (word : ℕ) → kind_field word < 8 → is_some (choice o word) ≡ is_able o }
+    ensures offered { (o : Offer) (word : ℕ) (a : Act) → choice o word ≡ Some a
+        → is_offered o a ≡ true }
+    ensures able { (o : Offer) → (is_able o ≡ true)
+        ↔ ((word : ℕ) → is_some (choice o word) ≡ true) }
+    ensures idle { (o : Offer) (word : ℕ) → kind_field word < 8
+        → is_some (choice o word) ≡ is_able o }
     ensures finished { (o : Offer) (word : ℕ) (a : Act) → o.spent ≡ true → choice o word ≡ Some a
         → a ≡ Drain (index_field word % o.drains) }
 {}
@@ -26,16 +29,18 @@ pub fn offered_acts_can_be_chosen()
     ensures going { (o : Offer) (a : Act) → o.spent ≡ false → (o.step && o.fill) ≡ false
         → o.drains ≤ MAX_DRAINS → length o.drops.items ≤ MAX_DROPS → is_offered o a ≡ true
         → (word : ℕ) × (word < 2 ^ 64) × (choice o word ≡ Some a) }
-    ensures finished { (o : Offer) (k : ℕ) → o.spent ≡ true → o.drains ≤ MAX_DRAINS → k < o.drains
+    ensures finished { (o : Offer) (k : ℕ) → o.spent ≡ true → o.drains ≤ MAX_DRAINS
+        → k < o.drains
         → (word : ℕ) × (word < 2 ^ 64) × (choice o word ≡ Some (Drain k)) }
 {}
 
-/// The words of each stream of a seed have 64 bits, and the generator's states 128. Its increment is
-/// odd, and a stream's own. The words of the seed 42 and the stream 54 are those that the authors of
-/// the generator give; the others were worked apart from the program.
+/// The words of each stream of a seed have 64 bits, and the generator's states 128. The increment
+/// is odd, and a stream's own. The words of the seed 42 and the stream 54 are those that the
+/// authors of the generator give; the others were worked apart from the program.
 pub fn words_of_a_seed()
     ensures words { (seed stream n : ℕ) → word_of_seed seed stream n < 2 ^ 64 }
-    ensures states { (seed stream n : ℕ) → (words_after n (first_words seed stream)).state < 2 ^ 128 }
+    ensures states { (seed stream n : ℕ)
+        → (words_after n (first_words seed stream)).state < 2 ^ 128 }
     ensures increments { (seed stream n : ℕ) → stream < 2 ^ 64
         → (words_after n (first_words seed stream)).increment ≡ stream * 2 + 1 }
     ensures reference { (word_of_seed 42 54 0 ≡ 0x86b1da1d72062b68)
