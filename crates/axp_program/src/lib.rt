@@ -5,11 +5,13 @@ ghost use Rattle.std.specs.Prelude.{◌≡◌, IfOk, IfErr, OnErr, IfSome};
 ghost use Rattle.std.specs.IoError.{error_kind};
 ghost use Rattle.std.specs.Process.{exit_status};
 ghost use Rattle.axp_top.specs.Outside.{outside_at};
+ghost use Rattle.axp_top.specs.Statuses.{number_of_status};
 ghost use Rattle.axp_top.specs.Words.{order_of};
 ghost use Rattle.axp_program.specs.Numbers.{IsExitNumber, number_without_words, number_once_flushed};
 ghost use Rattle.axp_program.specs.Served.{IsServed};
 
 use axp_base::NoMemory;
+use axp_explain::explain;
 use axp_io::{Desk, FileDesk, OutSink, Sink, SinkFault};
 use axp_top::{Status, Word, serve_plain};
 use std::alloc::Global;
@@ -53,8 +55,21 @@ pub fn run<R: Env + Files + Print + Eprint + AllocGlobal>(rt: &R) -> ExitCode
     if let Ok(words) = &words {
         tell_person(rt, words.as_slice());
     }
-    let served = serve_words(rt.alloc(), words, &mut desk, &mut sink);
-    ExitCode::from(number_after(served, sink.flush()))
+    let served = serve_words(rt.alloc(), &words, &mut desk, &mut sink);
+    let number = number_after(served.number, sink.flush());
+    if let (Ok(words), Some(status)) = (&words, served.status) {
+        tell_refusal(rt, words.as_slice(), &mut desk, status);
+    }
+    ExitCode::from(number)
+}
+
+/// What was served.
+#[derive(Clone, Copy, Debug, PartialEq, Eq)]
+struct Served {
+    /// The number that the process ends with.
+    number: u8,
+    /// The status, where the system gave the words.
+    status: Option<Status>,
 }
 
 /// Tells a person on standard error what the words ask for: the help where there are none or
@@ -69,6 +84,23 @@ fn tell_person<R: Eprint>(rt: &R, words: &[Word]) {
         _ => return,
     };
     let _ = rt.eprint(text);
+}
+
+/// Tells a person on standard error where and why the work of these words was refused, which ended
+/// with this status.
+///
+/// A failure is ignored, as above.
+fn tell_refusal<R: Eprint + AllocGlobal, D: Desk>(
+    rt: &R,
+    words: &[Word],
+    desk: &mut D,
+    status: Status,
+) {
+    if let Ok(Some(line)) = explain(rt.alloc(), words, desk, status) {
+        if let Ok(line) = str::from_utf8(line.as_slice()) {
+            let _ = rt.eprint(line);
+        }
+    }
 }
 
 /// The number that the process ends with once all that was put is written: that of what was served,
@@ -86,23 +118,43 @@ fn number_after(served: u8, flushed: Result<(), SinkFault>) -> u8
 /// Serves the words where the system gave them, and answers the number that the process ends with.
 fn serve_words<D: Desk, K: Sink>(
     alloc: Global,
-    words: io::Result<Vec<Word>>,
+    words: &io::Result<Vec<Word>>,
     desk: &mut D,
     sink: &mut K,
-) -> u8
+) -> Served
     // The number is that of a status, and the top call's promises hold with this status.
     ensures served { let at = outside_at D.faults D.asks K.taken K.faults K.puts in
-        IfOk words (λ words. IsServed (D.told desk.old) (at desk.old sink.old)
-        (at desk.new sink.new) (order_of words.items) result) }
-    ensures no_words { IfErr words (λ error. result ≡ number_without_words (error_kind error)) }
-    ensures nothing_asked { OnErr words (D.asks desk.new ≡ D.asks desk.old) }
-    ensures nothing_put { OnErr words (K.puts sink.new ≡ K.puts sink.old) }
-    ensures number { IsExitNumber result }
+        IfOk words.now (λ words. IsServed (D.told desk.old) (at desk.old sink.old)
+        (at desk.new sink.new) (order_of words.items) result.number) }
+    ensures status { IfSome result.status (λ s. result.number ≡ number_of_status s) }
+    ensures no_words { IfErr words.now (λ error. result.number ≡ number_without_words (error_kind error)) }
+    ensures nothing_asked { OnErr words.now (D.asks desk.new ≡ D.asks desk.old) }
+    ensures nothing_put { OnErr words.now (K.puts sink.new ≡ K.puts sink.old) }
+    ensures number { IsExitNumber result.number }
 {
     match words {
-        Ok(words) => serve_plain(alloc, words.as_slice(), desk, sink).number(),
-        Err(error) if error.kind() == ErrorKind::OutOfMemory => Status::Memory.number(),
-        Err(_) => REFUSED_WORDS,
+        Ok(words) => {
+            let status = serve_plain(alloc, words.as_slice(), desk, sink);
+            Served {
+                number: status.number(),
+                status: Some(status),
+            }
+        }
+        Err(error) => Served {
+            number: number_without_words(error.kind()),
+            status: None,
+        },
+    }
+}
+
+/// The number that the process ends with where the system did not give the words.
+fn number_without_words(kind: ErrorKind) -> u8
+    ensures number { result ≡ number_without_words kind }
+    ensures exit { IsExitNumber result }
+{
+    match kind {
+        ErrorKind::OutOfMemory => Status::Memory.number(),
+        _ => REFUSED_WORDS,
     }
 }
 

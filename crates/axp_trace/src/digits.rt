@@ -83,6 +83,15 @@ pub(crate) fn push_hex(out: &mut LineText, digits: u8, n: u64)
     }
 }
 
+/// The 16 digits of a number of 64 bits in hexadecimal, as the lines of a trace have them.
+pub fn write_value(n: u64) -> LineText
+    ensures { result.items ≡ hex VALUE_DIGITS n }
+{
+    let mut out = LineText::new();
+    push_hex(&mut out, VALUE_DIGITS as u8, n);
+    out
+}
+
 /// The number that a word stands for if its bytes are decimal digits; `None` where it has more than
 /// [`MOST_DIGITS`].
 pub(crate) fn read_number(word: &[u8]) -> Option<u64>

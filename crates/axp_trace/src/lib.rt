@@ -14,7 +14,7 @@ mod records;
 mod refusals;
 mod tails;
 
-pub use digits::{decimal_gives_back, hex_gives_back};
+pub use digits::{decimal_gives_back, hex_gives_back, write_value};
 pub use events::{events_are_their_texts, read_event};
 pub use files::{LINE_FEED, first_line, line_feed_is_10, lines_are_whole, lines_begin};
 pub use headers::{Header, headers_are_their_texts, read_header, write_header};

@@ -1,0 +1,3 @@
+pub mod PlaceLemmas
+pub mod FieldLemmas
+pub mod RefusalLemmas

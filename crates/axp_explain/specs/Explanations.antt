@@ -1,0 +1,100 @@
+-- What a person is told of a status that refuses, by the two files.
+use Rattle.std.specs.Prelude.{◌≡◌, ℕ, ◌+◌, ◌-◌, Bool, true, false, List, ◌∷◌, ◌++◌, codes, decimal, slice_get, Option, Some, None, IfSome, Result, Ok, Err}
+use Rattle.axp_explain.specs.ImageWords.{image_words}
+use Rattle.axp_explain.specs.LineWords.{fault_words, line_fault}
+use Rattle.axp_explain.specs.ReasonWords.{reason_words}
+use Rattle.axp_explain.specs.Reasons.{reason_of_files}
+use Rattle.axp_explain.specs.Texts.{of_file, of_line}
+use Rattle.axp_io.specs.Causes.{FetchCount, FetchTold}
+use Rattle.axp_io.specs.declared.FetchFault.{FetchFault}
+use Rattle.axp_io.specs.declared.FetchFault.TheVariants as fetch
+use Rattle.axp_image.specs.Grammar.{image_of}
+use Rattle.axp_lsu.specs.declared.reasons.Reason.{Reason}
+use Rattle.axp_top.specs.Replays.{FileLine}
+use Rattle.axp_top.specs.Words.{Order, Replay}
+use Rattle.axp_top.specs.declared.limits.TheConstants.{MAX_IMAGE_BYTES, MAX_TRACE_BYTES}
+use Rattle.axp_top.specs.declared.status.Status.{Status}
+use Rattle.axp_top.specs.declared.status.Status.TheVariants as status
+use Rattle.axp_trace.specs.Files.{lines_of}
+use Rattle.axp_trace.specs.Reading.{header_of}
+use Rattle.axp_trace.specs.declared.headers.Header.{Header}
+
+abbrev pub read_fault_words : List ℕ
+read_fault_words = codes "the file could not be opened or read"
+
+abbrev pub too_long_words : ℕ → List ℕ
+too_long_words most = codes "the file is longer than " ++ decimal most ++ codes " bytes"
+
+abbrev pub differs_words : List ℕ
+differs_words = codes "the trace has another line here than the right one"
+
+abbrev pub incomplete_words : List ℕ
+incomplete_words = codes "the events end here, and a processor is not finished or a write waits in its buffer"
+
+-- how many processors the first line names; None for the first line itself, and where it is no header
+abbrev pub cpus_of : Option Header → Option ℕ
+cpus_of None = None
+cpus_of (Some h) = Some h.cpus
+
+abbrev pub cpus_in : List FileLine → Option ℕ
+cpus_in (Some first ∷ ls) = cpus_of (header_of first)
+cpus_in _ = None
+
+-- why an event is refused, where there is a reason
+abbrev pub told_reason : List ℕ → ℕ → Option Reason → Option (List ℕ)
+told_reason path line None = None
+told_reason path line (Some r) = Some (of_line path line (reason_words r))
+
+-- of a status that a list or a trace of these lines has over an image file
+abbrev pub trace_explained : List ℕ → List ℕ → List FileLine → Status → Option (List ℕ)
+trace_explained image path ls (status.BadTrace n) = Some (of_line path n (fault_words (line_fault (cpus_in ls) (slice_get ls (n - 1)))))
+trace_explained image path ls (status.NotLegal n) = told_reason path (n + 1) (reason_of_files (image_of image) ls)
+trace_explained image path ls (status.Differs n) = Some (of_line path n differs_words)
+trace_explained image path ls (status.Incomplete n) = Some (of_line path (n + 1) incomplete_words)
+trace_explained image path ls _ = None
+
+-- where a file could not be fetched
+abbrev pub fetch_explained : List ℕ → ℕ → FetchFault → Option (List ℕ)
+fetch_explained path most fetch.Failed = Some (of_file path read_fault_words)
+fetch_explained path most fetch.TooLong = Some (of_file path (too_long_words most))
+fetch_explained path most fetch.Memory = None
+
+abbrev pub trace_file_explained : List ℕ → List ℕ → Result (List ℕ) FetchFault → Status → Option (List ℕ)
+trace_file_explained image path (Ok trace) s = trace_explained image path (lines_of trace) s
+trace_file_explained image path (Err fault) s = fetch_explained path MAX_TRACE_BYTES fault
+
+-- of an image file with a fault, and else of the second file
+abbrev pub image_explained : List ℕ → List ℕ → Status → Option (List ℕ) → Option (List ℕ)
+image_explained path image (status.BadImage k offset) other = Some (of_file path (image_words image k offset))
+image_explained path image _ other = other
+
+-- of a status that a replay has of a list or a trace over an image, by what the desk handed over of both
+unfoldable pub explanation : List ℕ → Result (List ℕ) FetchFault → List ℕ → Result (List ℕ) FetchFault → Status → Option (List ℕ)
+explanation image_path (Err fault) trace_path trace s = fetch_explained image_path MAX_IMAGE_BYTES fault
+explanation image_path (Ok image) trace_path trace s = image_explained image_path image s (trace_file_explained image trace_path trace s)
+
+-- a status that refuses
+abbrev pub is_refusal : Status → Bool
+is_refusal status.Done = false
+is_refusal status.Usage = false
+is_refusal status.WriteFault = false
+is_refusal status.Memory = false
+is_refusal _ = true
+
+-- what the desk handed over of a file, where it tells it, and its count of faults before and now
+abbrev pub IsFetched : Option (List ℕ) → ℕ → ℕ → ℕ → Result (List ℕ) FetchFault → Type 0
+IsFetched told most before now fetched = IfSome told (λ list. FetchTold list most fetched) × FetchCount before now fetched
+
+-- the text is the explanation of the two files as the desk handed them over
+abbrev pub ExplainsReplay : (List ℕ → Option (List ℕ)) → ℕ → ℕ → List ℕ → List ℕ → Status → Option (List ℕ) → Type 0
+ExplainsReplay told before now image trace s text =
+    (first second : Result (List ℕ) FetchFault) × (between : ℕ) × IsFetched (told image) MAX_IMAGE_BYTES before between first × IsFetched (told trace) MAX_TRACE_BYTES between now second × (text ≡ explanation image first trace second s)
+
+-- so it is where a replay was refused, and else there is none
+abbrev pub ExplainsIf : Bool → Type 0 → Option (List ℕ) → Type 0
+ExplainsIf true explained text = explained
+ExplainsIf false explained text = text ≡ None
+
+abbrev pub Explains : (List ℕ → Option (List ℕ)) → ℕ → ℕ → Option Order → Status → Option (List ℕ) → Type 0
+Explains told before now None s text = text ≡ None
+Explains told before now (Some (Replay image trace)) s text = ExplainsIf (is_refusal s) (ExplainsReplay told before now image trace s text) text

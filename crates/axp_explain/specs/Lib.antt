@@ -1,0 +1,7 @@
+pub mod Texts
+pub mod ImageWords
+pub mod LineWords
+pub mod LinePlaces
+pub mod ReasonWords
+pub mod Reasons
+pub mod Explanations

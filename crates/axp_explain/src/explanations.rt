@@ -1,0 +1,247 @@
+//! What a person is told of a refusal.
+ghost use Rattle.std.specs.Prelude.{◌≡◌, [], IfOk};
+ghost use Rattle.axp_trace.specs.Files.{lines_of};
+ghost use Rattle.axp_top.specs.Words.{order_of};
+ghost use Rattle.axp_top.specs.declared.status.Status.TheVariants.{BadTrace, NotLegal};
+ghost use Rattle.axp_explain.specs.Explanations.{Explains, ExplainsReplay, cpus_in, explanation};
+ghost use Rattle.axp_explain.specs.Explanations.{fetch_explained, image_explained, is_refusal};
+ghost use Rattle.axp_explain.specs.Explanations.{too_long_words, trace_explained};
+ghost use Rattle.axp_explain.specs.Explanations.{trace_file_explained};
+ghost use Rattle.axp_explain.specs.ImageWords.{image_words};
+ghost use Rattle.axp_explain.specs.Texts.{of_file, of_line};
+
+use crate::image_faults::image_words;
+use crate::line_faults::{fault_words, line_at, line_fault};
+use crate::reasons::reason_words;
+use crate::refusals::reason_of_files;
+use crate::texts::{decimal, joined, of_file, of_line};
+use axp_base::{Bytes, NoMemory};
+use axp_io::{Desk, FetchFault};
+use axp_top::{MAX_IMAGE_BYTES, MAX_TRACE_BYTES, Status};
+use axp_trace::{first_line, read_header};
+use axp_words::{Command, Word, read_words};
+use std::alloc::Global;
+
+/// The line for a person that says where and why the work of these words was refused, which ended
+/// with this status: the file, the line of the file, and what is wrong there. `None` where nothing
+/// was refused.
+///
+/// The files are fetched once more, so it is of the files as they are now.
+pub fn explain<D: Desk>(
+    alloc: Global,
+    words: &[Word],
+    desk: &mut D,
+    status: Status,
+) -> Result<Option<Bytes>, NoMemory>
+    ensures { IfOk result (λ text. Explains (D.told desk.old) (D.faults desk.old)
+        (D.faults desk.new) (order_of words.now) status text) }
+{
+    match read_words(words) {
+        Ok(Command::Replay { image, trace }) if is_refusal(status) => {
+            explain_replay(alloc, desk, image, trace, status)
+        }
+        _ => Ok(None),
+    }
+}
+
+/// Whether a status refuses.
+fn is_refusal(status: Status) -> bool
+    ensures { result ≡ is_refusal status }
+{
+    match status {
+        Status::Done | Status::Usage | Status::WriteFault | Status::Memory => false,
+        Status::ReadFault
+        | Status::BadImage { .. }
+        | Status::BadTrace { .. }
+        | Status::NotLegal { .. }
+        | Status::Differs { .. }
+        | Status::Incomplete { .. }
+        | Status::TooLong => true,
+    }
+}
+
+fn explain_replay<D: Desk>(
+    alloc: Global,
+    desk: &mut D,
+    image_path: &str,
+    trace_path: &str,
+    status: Status,
+) -> Result<Option<Bytes>, NoMemory>
+    ensures { IfOk result (λ text. ExplainsReplay (D.told desk.old) (D.faults desk.old)
+        (D.faults desk.new) image_path.now trace_path.now status text) }
+{
+    let image = desk.fetch(alloc, image_path, MAX_IMAGE_BYTES);
+    let trace = desk.fetch(alloc, trace_path, MAX_TRACE_BYTES);
+    explanation(alloc, image_path, image, trace_path, trace, status)
+}
+
+/// What is told of a status of a replay, by what was handed over of both files.
+#[tactic(auto, unfolding(crate::specs::Explanations::explanation))]
+pub fn explanation(
+    alloc: Global,
+    image_path: &str,
+    image: Result<Bytes, FetchFault>,
+    trace_path: &str,
+    trace: Result<Bytes, FetchFault>,
+    status: Status,
+) -> Result<Option<Bytes>, NoMemory>
+    ensures { IfOk result (λ text. text
+        ≡ explanation image_path.now image trace_path.now trace status) }
+{
+    match image {
+        Ok(image) => explain_image(
+            alloc,
+            image_path,
+            image.as_slice(),
+            trace_path,
+            trace,
+            status,
+        ),
+        Err(fault) => explain_fetch(alloc, image_path, MAX_IMAGE_BYTES, fault),
+    }
+}
+
+/// Where the image file was fetched.
+fn explain_image(
+    alloc: Global,
+    image_path: &str,
+    image: &[u8],
+    trace_path: &str,
+    trace: Result<Bytes, FetchFault>,
+    status: Status,
+) -> Result<Option<Bytes>, NoMemory>
+    ensures { IfOk result (λ text. text ≡ image_explained image_path.now image.now status
+        (trace_file_explained image.now trace_path.now trace status)) }
+{
+    match status {
+        Status::BadImage { kind, offset } => {
+            let words = image_words(alloc, image, kind, offset)?;
+            Ok(Some(of_file(alloc, image_path, words.as_slice())?))
+        }
+        _ => explain_trace_file(alloc, image, trace_path, trace, status),
+    }
+}
+
+/// Where it may be the second file that was refused.
+fn explain_trace_file(
+    alloc: Global,
+    image: &[u8],
+    path: &str,
+    trace: Result<Bytes, FetchFault>,
+    status: Status,
+) -> Result<Option<Bytes>, NoMemory>
+    ensures { IfOk result (λ text. text
+        ≡ trace_file_explained image.now path.now trace status) }
+{
+    match trace {
+        Ok(trace) => explain_trace(alloc, image, path, trace.as_slice(), status),
+        Err(fault) => explain_fetch(alloc, path, MAX_TRACE_BYTES, fault),
+    }
+}
+
+/// Of a file that could not be fetched.
+fn explain_fetch(
+    alloc: Global,
+    path: &str,
+    most: u64,
+    fault: FetchFault,
+) -> Result<Option<Bytes>, NoMemory>
+    ensures { IfOk result (λ text. text ≡ fetch_explained path.now most fault) }
+{
+    match fault {
+        FetchFault::Failed => Ok(Some(of_file(
+            alloc,
+            path,
+            b"the file could not be opened or read",
+        )?)),
+        FetchFault::TooLong => {
+            let words = too_long_words(alloc, most)?;
+            Ok(Some(of_file(alloc, path, words.as_slice())?))
+        }
+        FetchFault::Memory => Err(NoMemory),
+    }
+}
+
+fn too_long_words(alloc: Global, most: u64) -> Result<Bytes, NoMemory>
+    ensures { IfOk result (λ text. text ≡ too_long_words most) }
+{
+    let most = decimal(alloc, most)?;
+    joined(
+        alloc,
+        &[b"the file is longer than ", most.as_slice(), b" bytes"],
+    )
+}
+
+/// Of a list or a trace over an image file.
+fn explain_trace(
+    alloc: Global,
+    image: &[u8],
+    path: &str,
+    trace: &[u8],
+    status: Status,
+) -> Result<Option<Bytes>, NoMemory>
+    ensures { IfOk result (λ text. text
+        ≡ trace_explained image.now path.now (lines_of trace.now) status) }
+{
+    match status {
+        Status::BadTrace { line } => explain_line(alloc, path, trace, line),
+        Status::NotLegal { event } => explain_event(alloc, image, path, trace, event),
+        Status::Differs { line } => Ok(Some(of_line(
+            alloc,
+            path,
+            u64::from(line),
+            b"the trace has another line here than the right one",
+        )?)),
+        Status::Incomplete { event } => Ok(Some(of_line(
+            alloc,
+            path,
+            u64::from(event) + 1,
+            b"the events end here, and a processor is not finished or a write waits in its buffer",
+        )?)),
+        _ => Ok(None),
+    }
+}
+
+/// Of a line that is outside the grammar.
+fn explain_line(
+    alloc: Global,
+    path: &str,
+    trace: &[u8],
+    line: u32,
+) -> Result<Option<Bytes>, NoMemory>
+    ensures { IfOk result (λ text. text
+        ≡ trace_explained [] path.now (lines_of trace.now) (BadTrace line)) }
+{
+    let fault = line_fault(cpus_in(trace), line_at(trace, line));
+    Ok(Some(of_line(alloc, path, u64::from(line), fault_words(fault).as_bytes())?))
+}
+
+/// Of an event that is not legal.
+fn explain_event(
+    alloc: Global,
+    image: &[u8],
+    path: &str,
+    trace: &[u8],
+    event: u32,
+) -> Result<Option<Bytes>, NoMemory>
+    ensures { IfOk result (λ text. text
+        ≡ trace_explained image.now path.now (lines_of trace.now) (NotLegal event)) }
+{
+    match reason_of_files(alloc, image, trace)? {
+        Some(reason) => Ok(Some(of_line(
+            alloc,
+            path,
+            u64::from(event) + 1,
+            reason_words(reason).as_bytes(),
+        )?)),
+        None => Ok(None),
+    }
+}
+
+/// How many processors the first line of a file names, where it is a header.
+fn cpus_in(trace: &[u8]) -> Option<u8>
+    ensures { result ≡ cpus_in (lines_of trace.now) }
+{
+    let (first, _) = first_line(trace)?;
+    Some(read_header(first)?.cpus)
+}

@@ -1,0 +1,15 @@
+//! What a person is told of a refusal: the file, the line of the file, and what is wrong there.
+#![tactic(auto)]
+
+mod explanations;
+mod image_faults;
+mod line_faults;
+mod reasons;
+mod refusals;
+mod texts;
+
+pub use explanations::explain;
+pub use line_faults::{LineAt, LineFault};
+
+#[cfg(test)]
+mod tests;
