@@ -10,3 +10,6 @@ mod shapes;
 pub use images::litmus;
 pub use laws::{litmus_images_are_valid, programs_are_decoded, shapes_by_number};
 pub use shapes::{Shape, shape_of};
+
+#[cfg(test)]
+mod tests;
