@@ -5,10 +5,12 @@ use Rattle.std.proofs.lemmas.List.{length-append, take_all}
 use Rattle.axp_image.specs.Contents.{Segment, last_end, segment_of}
 use Rattle.axp_gen.specs.Litmus.{bytes_of}
 
+-- a word has four bytes
 pub bytes_length : (words : List ℕ) → length (bytes_of words) ≡ 4 * length words
 bytes_length [] = refl
 bytes_length (w ∷ ws) = omega (arith, length-append (to_le_bytes w32 w) (bytes_of ws), bytes_length ws)
 
+-- the bytes that are put are all once each word is
 pub all_length : (words bytes : List ℕ) (i : ℕ) → bytes ≡ bytes_of (take i words) → length words ≤ i → length bytes ≡ 4 * length words
 all_length words bytes i so_far all = ap length so_far ∙ ap (λ (ws : List ℕ). length (bytes_of ws)) (take_all i words all) ∙ bytes_length words
 

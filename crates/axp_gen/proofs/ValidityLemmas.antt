@@ -8,6 +8,7 @@ use Rattle.axp_gen.proofs.ImageLemmas.{bytes_length}
 
 -- ---- bytes
 
+-- a byte of a number is below 256
 byte_small : (i n : ℕ) → byte_at i n < 256
 byte_small zero n = omega arith
 byte_small (suc i) n = omega arith

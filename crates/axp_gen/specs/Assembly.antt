@@ -10,11 +10,11 @@ use Rattle.axp_decode.specs.declared.names.Op.TheVariants.{BIS}
 use Rattle.axp_decode.specs.declared.names.MiscOp.TheVariants.{MB}
 use Rattle.axp_decode.specs.declared.names.PalOp.TheVariants.{HALT, CSERVE, WRIPIR, WRENT, SWPIPL, RTI}
 
--- the displacement that goes back by so many
+-- the displacement that goes so many back, in two's complement
 abbrev pub back : ℕ → ℕ
 back n = 2 ^ 64 - n
 
--- Ra becomes Rb + displacement
+-- Ra becomes Rb + displacement, where R31 is always 0
 abbrev pub lda : ℕ → ℕ → ℕ → Instr
 lda a displacement b = Memory LDA a b (displacement % 2 ^ 16)
 
@@ -46,7 +46,7 @@ beq a distance = Branch BEQ a (distance % 2 ^ 21)
 abbrev pub bne : ℕ → ℕ → Instr
 bne a distance = Branch BNE a (distance % 2 ^ 21)
 
--- Rc becomes the bits of Ra and Rb
+-- Rc becomes the bits that Ra or Rb has
 abbrev pub bis : ℕ → ℕ → ℕ → Instr
 bis a b c = Operate BIS a (Reg b 0) c
 

@@ -75,7 +75,7 @@ const SPIN_LOCK: [u32; 47] = [
     0x0000_000D, // 204C wripir
     0x0000_0000, // 2050 halt
     0x0000_0000, // 2054 halt
-    0x221E_A0A4, // 2058 LDA R16,-5F5C(R30): the handler
+    0x221E_A0A4, // 2058 LDA R16,-5F5C(R30): the handler's address, 20A4
     0x47FF_0411, // 205C BIS R31,R31,R17
     0x0000_0034, // 2060 wrent
     0x47FF_0410, // 2064 BIS R31,R31,R16
@@ -94,7 +94,7 @@ const SPIN_LOCK: [u32; 47] = [
     0x221F_0001, // 2098 LDA R16,1(R31)
     0x0000_0009, // 209C cserve
     0x0000_0000, // 20A0 halt
-    0xF600_0004, // 20A4 BNE R16,20B8: the handler
+    0xF600_0004, // 20A4 BNE R16,20B8: here the handler begins
     0x213F_0001, // 20A8 LDA R9,1(R31)
     0x221F_0001, // 20AC LDA R16,1(R31)
     0x223F_004B, // 20B0 LDA R17,4B(R31)
