@@ -1,0 +1,4 @@
+pub mod Shapes
+pub mod Assembly
+pub mod Programs
+pub mod Litmus
