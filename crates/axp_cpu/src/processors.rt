@@ -1,4 +1,4 @@
-ghost use Rattle.std.specs.Prelude.{◌≡◌, ◌==◌, ◌<◌, ◌≤◌, true, IfOk, is_ok, length};
+ghost use Rattle.std.specs.Prelude.{◌≡◌, ◌==◌, ◌<◌, ◌≤◌, [], true, if◌then◌else◌, IfOk, is_ok, length};
 ghost use Rattle.axp_access.specs.Offers.{are_ascending, is_offered};
 ghost use Rattle.axp_access.specs.declared.Act.{Act};
 ghost use Rattle.axp_access.specs.declared.Act.TheVariants.{Step};
@@ -7,7 +7,7 @@ ghost use Rattle.axp_base.specs.Cpus.{cpu_number};
 ghost use Rattle.axp_lsu.specs.EntryStates.{entry_in};
 ghost use Rattle.axp_lsu.specs.Fitting.{ShowsFitting};
 ghost use Rattle.axp_lsu.specs.Going.{is_entered};
-ghost use Rattle.axp_lsu.specs.Offering.{full_bank, is_open};
+ghost use Rattle.axp_lsu.specs.Offering.{drops_of, full_bank, is_open};
 ghost use Rattle.axp_lsu.specs.Reasons.{facts_of};
 ghost use Rattle.axp_lsu.specs.Within.{IsAskWithin};
 ghost use Rattle.axp_cpu.specs.Actors.{Actor, actor_intent, advanced, first_actor};
@@ -123,6 +123,8 @@ impl Processor {
         ensures late { (a : Actor) → IsAt self.now a → result.late
             ≡ (is_open (is_finished a.seat) a.kept, is_open (is_finished a.seat) a.kept) }
         ensures spent { (a : Actor) → IsAt self.now a → result.spent ≡ is_finished a.seat }
+        ensures drops { (a : Actor) → IsAt self.now a → result.drops.items
+            ≡ (if is_open (is_finished a.seat) a.kept then drops_of a.kept else []) }
         ensures ascending { are_ascending result.drops.items ≡ true }
         ensures needs { (a : Actor) → IsAt self.now a
             → result.needs ≡ full_bank (next_wanted a.seat) a.kept }

@@ -139,6 +139,8 @@ impl Machine {
         ensures at { IsAt result.now (actor_of self.now (cpu_number cpu)) }
         ensures seat { seat_of self.now (cpu_number cpu)
             ≡ (actor_of self.now (cpu_number cpu)).seat }
+        ensures run { IsRun self.now }
+        ensures valid { IsValid self.now.image }
     {
         &self.processors[usize::from(cpu.number())]
     }

@@ -23,14 +23,17 @@ use Rattle.axp_line.specs.BusCalls.{BusCall}
 use Rattle.axp_model.specs.Entries.{buffer}
 use Rattle.axp_base.specs.Lists.{is_empty}
 use Rattle.axp_model.specs.Records.{is_of}
-use Rattle.axp_world.specs.RunLaws.{is_progress}
+use Rattle.axp_base.specs.declared.lines.Bank.{Bank}
+use Rattle.axp_lsu.specs.Offering as offering
+use Rattle.axp_model.specs.Waits.{full_bank}
+use Rattle.axp_world.specs.RunLaws.{MakesRoom, is_progress}
 use Rattle.axp_world.specs.Worlds.{IsPlayed, World, image_bytes, reply_at, world}
 use Rattle.axp_world.proofs.AskedActs.{IsAsked, is_asked}
 use Rattle.axp_world.proofs.BankRooms.{AreFew, HasRooms, act_rooms, rooms_start}
 use Rattle.axp_world.proofs.ProgressFilled.{IsReady, act_ready}
 use Rattle.axp_world.proofs.RunJoined.{Joined, agrees, joined}
 use Rattle.axp_world.specs.Deeds.{has_late}
-use Rattle.axp_world.proofs.RunLegality.{legal_agrees}
+use Rattle.axp_world.proofs.RunLegality.{full_agrees, legal_agrees}
 use Rattle.axp_world.proofs.ProgressMidway.{WantsWithin, act_wants}
 use Rattle.axp_world.proofs.ProgressOffered.{Offer, first_leaves, offered}
 use Rattle.axp_world.proofs.PlayedRecords.{Shown, actor_other, actor_own, shown}
@@ -128,7 +131,7 @@ at_boundary s on within none =
 
 -- one that is not finished has an act of progress
 pub progress : (image : Contents) (cpus budget : ℕ) (h : List Record) (c : Cpu) → IsValid image → IsPlayed image cpus budget h → cpu_number c < cpus → ((processors image cpus budget).intent (cpu_number c) h).finished ≡ false
-    → (a : Act) × (is_progress a ≡ true) × (legal (processors image cpus budget) h (record { cpu = c; act = a }) ≡ true)
+    → (a : Act) × (is_progress a ≡ true) × (legal (processors image cpus budget) h (record { cpu = c; act = a }) ≡ true) × MakesRoom (full_bank ((processors image cpus budget).intent (cpu_number c) h).wanted (cpu_number c) h) a
 progress image cpus budget h c valid played below goes =
     let p : ℕ = cpu_number c in
     let a : Actor = (world image cpus budget h).actors p in
@@ -136,4 +139,6 @@ progress image cpus budget h c valid played below goes =
     let on : is_finished a.seat ≡ false = sym (ap is_finished (agrees image cpus budget h is p (cpu_small c)).seat) ∙ goes in
     let can : GoesOn a = goes_on image cpus budget h valid played p in
     let o : Offer (actor_intent a) a.kept = offered (actor_intent a) a.kept on can.ready can.rooms (intents_want_no_poll image cpus budget valid p h) (at_boundary a.seat on can.wants) in
-    (o.chosen, o.goes, asked_is_legal image cpus budget h c o.chosen below is o.goes o.now o.asks)
+    let wants : full_bank (actor_intent a).wanted p h ≡ full_bank ((processors image cpus budget).intent p h).wanted p h = ap (λ (s : Seat). full_bank (intent_of s).wanted p h) (sym (agrees image cpus budget h is p (cpu_small c)).seat) in
+    let needs : offering.full_bank (actor_intent a).wanted a.kept ≡ full_bank ((processors image cpus budget).intent p h).wanted p h = full_agrees (actor_intent a).wanted (image_bytes image) p h a.kept (agrees image cpus budget h is p (cpu_small c)).banks ∙ wants in
+    (o.chosen, o.goes, asked_is_legal image cpus budget h c o.chosen below is o.goes o.now o.asks, subst (λ (n : Option Bank). MakesRoom n o.chosen) needs o.room)

@@ -140,7 +140,7 @@ line_by-addressed n true tested h = ap (λ (p : ltb (n * LINE_BYTES) (2 ^ 64) �
 line_by-addressed n false tested h = absurd (false≢true (sym tested ∙ h))
 
 -- the line of a line's number is the line
-numbered_line : (l : Line) → line_numbered (line_number l) ≡ l
+pub numbered_line : (l : Line) → line_numbered (line_number l) ≡ l
 numbered_line l = line_by-addressed l.number (ltb (l.number * LINE_BYTES) (2 ^ 64)) refl l.addressed
 
 drained_same : (e : Pending) (w : Waiting) (m n : ℕ) → IsEntryOf e w → m ≡ n → outcome.Drained e.number (line_numbered e.line) m ≡ outcome.Drained w.number w.line n

@@ -1,17 +1,14 @@
 -- What a processor and the bus tell of an event's conditions is so by the records; and an event has a reason exactly where it is not legal.
-use Rattle.std.proofs.Common.{true, false, ℕ, zero, suc, ◌≡◌, eqb, ltb, cond, Bool, not, ◌&&◌, ◌||◌, List, [], ◌∷◌, length, Option, Some, None, is_some, refl, sym, ap, ◌∙◌}
-use Rattle.std.proofs.lemmas.Bool.{cases_Bool}
+use Rattle.std.proofs.Common.{true, false, ℕ, suc, ◌≡◌, ltb, cond, Bool, not, ◌&&◌, ◌||◌, List, [], ◌∷◌, length, Option, Some, None, is_some, refl, ap, ◌∙◌}
 use Rattle.axp_access.specs.declared.Act.{Act}
 use Rattle.axp_access.specs.declared.Act.TheVariants as act
 use Rattle.axp_access.specs.declared.Event.{Event}
 use Rattle.axp_access.specs.declared.Intent.{Intent}
 use Rattle.axp_access.specs.declared.Record.{Record}
 use Rattle.axp_access.specs.declared.Wanted.{Wanted}
-use Rattle.axp_bank.specs.Copies as copies
 use Rattle.axp_base.specs.Cpus.{cpu_number}
 use Rattle.axp_base.specs.Lines.{line_number, line_of}
-use Rattle.axp_base.specs.declared.limits.TheConstants.{BANK_COPIES}
-use Rattle.axp_lsu.specs.Keeping.{LocalMemory, data_copies}
+use Rattle.axp_lsu.specs.Keeping.{LocalMemory}
 use Rattle.axp_lsu.specs.Reasons as unit
 use Rattle.axp_lsu.specs.Reasons.{access_reason, act_reason, copy_reason, facts_of, fill_reason, or_else, reason_of, step_reason, timely_reason, wanted_kind, wanted_line, where_fails}
 use Rattle.axp_lsu.specs.declared.reasons.Facts.{Facts}

@@ -1,5 +1,5 @@
 -- Why an event is not legal, by the records: the first of its conditions that fails.
-use Rattle.std.specs.Prelude.{ℕ, nat_lt, Bool, false, not, ◌||◌, if◌then◌else◌, List, length, Option, Some, None}
+use Rattle.std.specs.Prelude.{ℕ, nat_lt, Bool, false, not, ◌||◌, if◌then◌else◌, List, length, Option, Some}
 use Rattle.axp_access.specs.Acts.{is_drop_of, is_fill, is_poll_act, is_tick}
 use Rattle.axp_access.specs.declared.Act.{Act}
 use Rattle.axp_access.specs.declared.Act.TheVariants as act

@@ -1,5 +1,5 @@
 -- What the laws of played histories speak of.
-use Rattle.std.specs.Prelude.{ℕ, Bool, true, false, List, Result, Ok, Err}
+use Rattle.std.specs.Prelude.{◌≡◌, ℕ, Bool, true, false, List, Option, Some, Result, Ok, Err}
 use Rattle.axp_access.specs.declared.Act.{Act}
 use Rattle.axp_access.specs.declared.Act.TheVariants as act
 use Rattle.axp_access.specs.declared.Outcome.{Outcome}
@@ -8,6 +8,7 @@ use Rattle.axp_base.specs.Cpus.{cpu_number}
 use Rattle.axp_cpu.specs.declared.refusals.NotLegal.{NotLegal}
 use Rattle.axp_access.specs.declared.Event.{Event}
 use Rattle.axp_access.specs.declared.Intent.{Intent}
+use Rattle.axp_base.specs.declared.lines.Bank.{Bank}
 use Rattle.axp_base.specs.declared.processors.Cpu.{Cpu}
 use Rattle.axp_cpu.specs.Following.{processors}
 use Rattle.axp_image.specs.Contents.{Contents, IsValid}
@@ -27,6 +28,11 @@ is_progress act.Fill = true
 is_progress (act.Drain k) = true
 is_progress (act.Drop b line) = true
 is_progress _ = false
+
+-- a drop of progress gives up a copy of the full bank that the wanted access waits for
+abbrev pub MakesRoom : Option Bank → Act → Type 0
+MakesRoom needs (act.Drop b line) = needs ≡ Some b
+MakesRoom needs _ = Unit {0}
 
 -- a history that so many processors played over a valid image, each with a budget of steps
 pub record Played : Type 0 where

@@ -22,7 +22,8 @@ ghost use Rattle.axp_model.specs.Outcomes.{IsRun};
 ghost use Rattle.axp_model.specs.Processors.{AreInLine};
 ghost use Rattle.axp_model.specs.Turns.{turns};
 ghost use Rattle.axp_world.specs.RunLaws.{Played, bytes_in, intent_in, is_legal_in};
-ghost use Rattle.axp_world.specs.RunLaws.{is_not_legal, is_progress, processors_in, world_in};
+ghost use Rattle.axp_model.specs.Waits.{full_bank};
+ghost use Rattle.axp_world.specs.RunLaws.{MakesRoom, is_not_legal, is_progress, processors_in, world_in};
 ghost use Rattle.axp_world.specs.Deeds.{alone, answer_alone, has_late};
 ghost use Rattle.axp_world.specs.Worlds.{IsPlayed, answer_of, image_bytes, reply_at};
 
@@ -63,12 +64,14 @@ pub fn runs_are_played()
 {}
 
 /// No processor is stuck after a played history: one that is not finished has a legal Step, Fill,
-/// Drain or Drop, and one that is finished with a write that waits may drain. What is legal is not
-/// refused ([`refused_where_not_legal`]).
+/// Drain or Drop, and one that is finished with a write that waits may drain. Such a Drop makes room
+/// in the full bank that the wanted access waits for. What is legal is not refused
+/// ([`refused_where_not_legal`]).
 pub fn processors_are_never_stuck()
     ensures acts { (g : Played) (c : Cpu) → cpu_number c < g.cpus → (intent_in g c).finished ≡ false
         → (a : Act) × (is_progress a ≡ true)
-        × (is_legal_in g (record { cpu = c; act = a }) ≡ true) }
+        × (is_legal_in g (record { cpu = c; act = a }) ≡ true)
+        × MakesRoom (full_bank (intent_in g c).wanted (cpu_number c) g.history) a }
     ensures drains { (g : Played) (c : Cpu) → cpu_number c < g.cpus
         → (intent_in g c).finished ≡ true
         → is_empty (buffer (cpu_number c) g.history).waiting ≡ false

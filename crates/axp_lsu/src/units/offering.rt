@@ -34,6 +34,8 @@ impl Lsu {
         ensures late { result.late
             ≡ (is_open intent.now.finished self.now, is_open intent.now.finished self.now) }
         ensures spent { result.spent ≡ intent.now.finished }
+        ensures drops { result.drops.items
+            ≡ (if is_open intent.now.finished self.now then drops_of self.now else []) }
         ensures ascending { are_ascending result.drops.items ≡ true }
         ensures needs { result.needs ≡ full_bank next.now self.now }
     {

@@ -2,11 +2,13 @@ ghost use Rattle.std.specs.Prelude.{◌≡◌, ◌<◌, ◌&&◌, true};
 ghost use Rattle.axp_access.specs.Offers.{are_ascending, is_offered};
 ghost use Rattle.axp_access.specs.declared.Act.{Act};
 ghost use Rattle.axp_base.specs.Cpus.{cpu_number};
+ghost use Rattle.axp_model.specs.Legal as model;
 ghost use Rattle.axp_model.specs.Legal.{legal};
-ghost use Rattle.axp_machine.specs.Offers.{OffersNothing, is_late};
-ghost use Rattle.axp_machine.specs.Runs.{is_spent, needs_of, processors_of};
+ghost use Rattle.axp_machine.specs.Offers.{OffersNothing, is_late, offer_of};
+ghost use Rattle.axp_image.specs.Contents.{IsValid};
+ghost use Rattle.axp_machine.specs.Runs.{IsRun, is_spent, needs_of, processors_of};
 
-use super::Machine;
+use super::{Machine, is_done};
 use arrayvec::ArrayVec;
 use axp_access::Offer;
 use axp_base::{Bank, Cpu};
@@ -20,6 +22,9 @@ impl Machine {
         ensures spent { result.spent ≡ is_spent self.now cpu }
         ensures ascending { are_ascending result.drops.items ≡ true }
         ensures needs { result.needs ≡ needs_of self.now cpu }
+        ensures value { result ≡ offer_of self.now cpu }
+        ensures run { IsRun self.now }
+        ensures valid { IsValid self.now.image }
     {
         if usize::from(cpu.number()) >= self.processors.len() {
             return nothing();
@@ -30,6 +35,16 @@ impl Machine {
             self.may_take(cpu, Bank::Odd, offer.late.1),
         );
         offer
+    }
+
+    /// Whether a processor is finished and no write of it waits: then it has no legal event, and any
+    /// other has one.
+    pub fn is_done(&self, cpu: Cpu) -> bool
+        requires { cpu_number cpu < self.now.cpus }
+        ensures { result
+            ≡ model.is_done (processors_of self.now) self.now.records (cpu_number cpu) }
+    {
+        is_done(self.processor(cpu))
     }
 
     /// Whether a processor that may take, or may not, takes something from a bank: it is late there.

@@ -1,7 +1,7 @@
 use Rattle.std.proofs.Common.{◌<◌, ◌≤◌, ap, arith, subst, ◌∙◌}
 use Rattle.axp_base.specs.Cpus.{cpu_number}
 use Rattle.axp_image.specs.Contents.{IsValid}
-use Rattle.axp_machine.proofs.OfferLemmas.{needs_shown, nothing_legal, offered_legal}
+use Rattle.axp_machine.proofs.OfferLemmas.{drops_shown, needs_shown, nothing_dropped, nothing_legal, nothing_needed, nothing_spent, offer_whole, offered_legal, spent_shown}
 use Rattle.axp_machine.specs.Playing.{actor_of}
 use Rattle.axp_machine.specs.Runs.{IsRun, Seen}
 use Rattle.axp_machine.proofs.machine.Machine.offer.Goals as goal
@@ -29,3 +29,32 @@ returns-clause-legal c =
 pub returns-clause-needs : goal.returns-clause-needs
 returns-clause-needs c =
     c.offer-offer.ensures.needs (actor_of c.args.self.now (cpu_number c.args.cpu)) c.processor.ensures.at ∙ needs_shown c.args.self.now c.args.cpu (valid c) (run c) (below c)
+
+pub returns-then-from-len-clause-value : goal.returns-then-from-len-clause-value
+returns-then-from-len-clause-value c =
+    offer_whole c.args.self.now c.args.cpu c.nothing.result (nothing_legal c.args.self.now c.args.cpu c.nothing.result c.nothing.ensures (past c))
+    (c.nothing.ensures.spent ∙ nothing_spent c.args.self.now c.args.cpu (past c))
+    (nothing_dropped c.args.self.now c.args.cpu c.nothing.result c.nothing.ensures (past c))
+    (c.nothing.ensures.needs ∙ nothing_needed c.args.self.now c.args.cpu (past c))
+
+pub returns-clause-value : goal.returns-clause-value
+returns-clause-value c =
+    let stands = c.processor.ensures.at in
+    offer_whole c.args.self.now c.args.cpu _
+    (offered_legal c.args.self.now c.args.cpu c.offer-offer.result c.may_take.result c.may_take-2.result (valid c) (run c) (below c)
+    (c.offer-offer.ensures.acts (actor_of c.args.self.now (cpu_number c.args.cpu)) stands) c.may_take.ensures c.may_take-2.ensures)
+    (c.offer-offer.ensures.spent (actor_of c.args.self.now (cpu_number c.args.cpu)) stands ∙ spent_shown c.args.self.now c.args.cpu (valid c) (run c) (below c))
+    (c.offer-offer.ensures.drops (actor_of c.args.self.now (cpu_number c.args.cpu)) stands ∙ drops_shown c.args.self.now c.args.cpu (valid c) (run c) (below c))
+    (c.offer-offer.ensures.needs (actor_of c.args.self.now (cpu_number c.args.cpu)) stands ∙ needs_shown c.args.self.now c.args.cpu (valid c) (run c) (below c))
+
+pub returns-then-from-len-clause-run : goal.returns-then-from-len-clause-run
+returns-then-from-len-clause-run c = subst IsRun c.self.view_is c.self.invariant.run
+
+pub returns-then-from-len-clause-valid : goal.returns-then-from-len-clause-valid
+returns-then-from-len-clause-valid c = subst (λ (m : Seen). IsValid m.image) c.self.view_is c.self.invariant.valid
+
+pub returns-clause-run : goal.returns-clause-run
+returns-clause-run c = run c
+
+pub returns-clause-valid : goal.returns-clause-valid
+returns-clause-valid c = valid c
