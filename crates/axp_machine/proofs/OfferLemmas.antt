@@ -113,10 +113,10 @@ counts_same a b same =
     ⊎_elim
     (λ (less : a < b). absurd (false≢true (sym (le-ltb a a (omega arith)) ∙ same a ∙ lt-ltb a b less)))
     (λ (not_less : b ≤ a).
-      ⊎_elim
-      (λ (more : b < a). absurd (false≢true (sym (le-ltb b b (omega arith)) ∙ sym (same b) ∙ lt-ltb b a more)))
-      (λ (not_more : a ≤ b). omega (arith, not_less, not_more))
-      (cases_lt b a))
+    ⊎_elim
+    (λ (more : b < a). absurd (false≢true (sym (le-ltb b b (omega arith)) ∙ sym (same b) ∙ lt-ltb b a more)))
+    (λ (not_more : a ≤ b). omega (arith, not_less, not_more))
+    (cases_lt b a))
     (cases_lt a b)
 
 none_below : (k : ℕ) → ltb k 0 ≡ false
