@@ -1,6 +1,7 @@
-ghost use Rattle.std.specs.Prelude.{◌≡◌, ◌<◌, ◌≤◌, ◌↔◌, true, length, IfOk, IsNone, Some};
+ghost use Rattle.std.specs.Prelude.{◌≡◌, ◌<◌, ◌≤◌, ◌↔◌, true, length, IfOk, IfSome, IsNone, Some};
 ghost use Rattle.axp_base.specs.declared.processors.TheConstants.{MAX_BUDGET, MAX_CPUS, MIN_CPUS};
-ghost use Rattle.axp_machine.specs.Runs.{is_complete};
+ghost use Rattle.axp_access.specs.Spelling.{Spells};
+ghost use Rattle.axp_machine.specs.Runs.{IsRun, is_complete};
 ghost use Rattle.axp_seed.specs.Seeds.{behind, next_record, seeded_start, turn_among, working};
 
 use arrayvec::ArrayVec;
@@ -67,6 +68,9 @@ impl SeededRun {
         ensures record { result ≡ next_record self.old }
         ensures after { self.new ≡ behind self.old }
         ensures end { IsNone result ↔ (is_complete self.old.machine ≡ true) }
+        ensures run { IfSome result (λ r. IsRun self.new.machine) }
+        ensures spelled { IfSome result (λ r. Spells r.event r.outcome) }
+        ensures few { self.old.machine.cpus ≤ MAX_CPUS }
     {
         let numbers = working(&self.machine);
         if numbers.is_empty() {
