@@ -1,3 +1,4 @@
 pub mod TurnLemmas
 pub mod AbleLemmas
 pub mod NextLemmas
+pub mod CompletionLemmas
