@@ -5,13 +5,14 @@ use Rattle.axp_explain.specs.LineWords.{fault_words, line_fault}
 use Rattle.axp_explain.specs.ReasonWords.{reason_words}
 use Rattle.axp_explain.specs.Reasons.{reason_of_files}
 use Rattle.axp_explain.specs.Texts.{of_file, of_line}
-use Rattle.axp_io.specs.Causes.{FetchCount, FetchTold}
+use Rattle.axp_io.specs.Causes.{Ask, FetchAsks, FetchCount, FetchTold}
 use Rattle.axp_io.specs.declared.FetchFault.{FetchFault}
 use Rattle.axp_io.specs.declared.FetchFault.TheVariants as fetch
 use Rattle.axp_image.specs.Grammar.{image_of}
 use Rattle.axp_lsu.specs.declared.reasons.Reason.{Reason}
+use Rattle.axp_top.specs.Outside.{DeskState}
 use Rattle.axp_top.specs.Replays.{FileLine}
-use Rattle.axp_top.specs.Words.{Order, Replay}
+use Rattle.axp_top.specs.Words.{Order, Replay, Seed}
 use Rattle.axp_top.specs.declared.limits.TheConstants.{MAX_IMAGE_BYTES, MAX_TRACE_BYTES}
 use Rattle.axp_top.specs.declared.status.Status.{Status}
 use Rattle.axp_top.specs.declared.status.Status.TheVariants as status
@@ -81,20 +82,36 @@ is_refusal status.WriteFault = false
 is_refusal status.Memory = false
 is_refusal _ = true
 
--- what the desk handed over of a file, where it tells it, and its count of faults before and now
-abbrev pub IsFetched : Option (List ℕ) → ℕ → ℕ → ℕ → Result (List ℕ) FetchFault → Type 0
-IsFetched told most before now fetched = IfSome told (λ list. FetchTold list most fetched) × FetchCount before now fetched
+-- what the desk handed over of a file, where it tells it, and its faults and asks before and now
+abbrev pub IsFetched : Option (List ℕ) → Ask → DeskState → DeskState → Result (List ℕ) FetchFault → Type 0
+IsFetched told ask before now fetched = IfSome told (λ list. FetchTold list ask.1 fetched) × FetchCount before.faults now.faults fetched × FetchAsks before.asks now.asks ask fetched
 
--- the text is the explanation of the two files as the desk handed them over
-abbrev pub ExplainsReplay : (List ℕ → Option (List ℕ)) → ℕ → ℕ → List ℕ → List ℕ → Status → Option (List ℕ) → Type 0
+-- the text is the explanation of the two files as the desk handed them over, one after the other
+abbrev pub ExplainsReplay : (List ℕ → Option (List ℕ)) → DeskState → DeskState → List ℕ → List ℕ → Status → Option (List ℕ) → Type 0
 ExplainsReplay told before now image trace s text =
-    (first second : Result (List ℕ) FetchFault) × (between : ℕ) × IsFetched (told image) MAX_IMAGE_BYTES before between first × IsFetched (told trace) MAX_TRACE_BYTES between now second × (text ≡ explanation image first trace second s)
+    (first second : Result (List ℕ) FetchFault) × (faults : ℕ) × (asks : List Ask) × IsFetched (told image) (image, MAX_IMAGE_BYTES) before (record { faults = faults; asks = asks }) first
+    × IsFetched (told trace) (trace, MAX_TRACE_BYTES) (record { faults = faults; asks = asks }) now second × (text ≡ explanation image first trace second s)
 
--- so it is where a replay was refused, and else there is none
-abbrev pub ExplainsIf : Bool → Type 0 → Option (List ℕ) → Type 0
-ExplainsIf true explained text = explained
-ExplainsIf false explained text = text ≡ None
+-- so it is where the work was refused; else there is no text, and nothing was asked for
+abbrev pub ExplainsIf : Bool → Type 0 → DeskState → DeskState → Option (List ℕ) → Type 0
+ExplainsIf true explained before now text = explained
+ExplainsIf false explained before now text = (text ≡ None) × (now ≡ before)
 
-abbrev pub Explains : (List ℕ → Option (List ℕ)) → ℕ → ℕ → Option Order → Status → Option (List ℕ) → Type 0
-Explains told before now None s text = text ≡ None
-Explains told before now (Some (Replay image trace)) s text = ExplainsIf (is_refusal s) (ExplainsReplay told before now image trace s text) text
+-- of a status that a seeded run has over an image file, by what the desk handed over of it
+unfoldable pub seed_explanation : List ℕ → Result (List ℕ) FetchFault → Status → Option (List ℕ)
+seed_explanation path (Err fault) s = fetch_explained path MAX_IMAGE_BYTES fault
+seed_explanation path (Ok image) s = image_explained path image s None
+
+abbrev pub ExplainsSeed : (List ℕ → Option (List ℕ)) → DeskState → DeskState → List ℕ → Status → Option (List ℕ) → Type 0
+ExplainsSeed told before now image s text = (fetched : Result (List ℕ) FetchFault) × IsFetched (told image) (image, MAX_IMAGE_BYTES) before now fetched × (text ≡ seed_explanation image fetched s)
+
+abbrev pub Explains : (List ℕ → Option (List ℕ)) → DeskState → DeskState → Option Order → Status → Option (List ℕ) → Type 0
+Explains told before now None s text = (text ≡ None) × (now ≡ before)
+Explains told before now (Some (Replay image trace)) s text = ExplainsIf (is_refusal s) (ExplainsReplay told before now image trace s text) before now text
+Explains told before now (Some (Seed image cpus budget seed)) s text = ExplainsIf (is_refusal s) (ExplainsSeed told before now image s text) before now text
+
+-- there is something to tell: a command was refused
+abbrev pub is_told : Option Order → Status → Bool
+is_told None s = false
+is_told (Some (Replay image trace)) s = is_refusal s
+is_told (Some (Seed image cpus budget seed)) s = is_refusal s

@@ -1,11 +1,13 @@
 //! What a person is told of a refusal.
-ghost use Rattle.std.specs.Prelude.{◌≡◌, [], IfOk};
+ghost use Rattle.std.specs.Prelude.{◌≡◌, ℕ, List, [], IfOk, Ok, None, false};
 ghost use Rattle.axp_trace.specs.Files.{lines_of};
+ghost use Rattle.axp_top.specs.Outside.{desk_state};
 ghost use Rattle.axp_top.specs.Words.{order_of};
 ghost use Rattle.axp_top.specs.declared.status.Status.TheVariants.{BadTrace, NotLegal};
-ghost use Rattle.axp_explain.specs.Explanations.{Explains, ExplainsReplay, cpus_in, explanation};
+ghost use Rattle.axp_explain.specs.Explanations.{Explains, ExplainsReplay, ExplainsSeed, cpus_in};
+ghost use Rattle.axp_explain.specs.Explanations.{explanation, seed_explanation};
 ghost use Rattle.axp_explain.specs.Explanations.{fetch_explained, image_explained, is_refusal};
-ghost use Rattle.axp_explain.specs.Explanations.{too_long_words, trace_explained};
+ghost use Rattle.axp_explain.specs.Explanations.{is_told, too_long_words, trace_explained};
 ghost use Rattle.axp_explain.specs.Explanations.{trace_file_explained};
 ghost use Rattle.axp_explain.specs.ImageWords.{image_words};
 ghost use Rattle.axp_explain.specs.Texts.{of_file, of_line};
@@ -33,12 +35,19 @@ pub fn explain<D: Desk>(
     desk: &mut D,
     status: Status,
 ) -> Result<Option<Bytes>, NoMemory>
-    ensures { IfOk result (λ text. Explains (D.told desk.old) (D.faults desk.old)
-        (D.faults desk.new) (order_of words.now) status text) }
+    ensures text { IfOk result (λ text. Explains (D.told desk.old)
+        (desk_state D.faults D.asks desk.old) (desk_state D.faults D.asks desk.new)
+        (order_of words.now) status text) }
+    // Where there is nothing to tell, no memory is needed for it.
+    ensures silent { is_told (order_of words.now) status ≡ false → result ≡ Ok None }
+    ensures stays { (n : List ℕ) → D.told desk.new n ≡ D.told desk.old n }
 {
     match read_words(words) {
         Ok(Command::Replay { image, trace }) if is_refusal(status) => {
             explain_replay(alloc, desk, image, trace, status)
+        }
+        Ok(Command::Seed { image, .. }) if is_refusal(status) => {
+            explain_seed(alloc, desk, image, status)
         }
         _ => Ok(None),
     }
@@ -67,12 +76,63 @@ fn explain_replay<D: Desk>(
     trace_path: &str,
     status: Status,
 ) -> Result<Option<Bytes>, NoMemory>
-    ensures { IfOk result (λ text. ExplainsReplay (D.told desk.old) (D.faults desk.old)
-        (D.faults desk.new) image_path.now trace_path.now status text) }
+    ensures text { IfOk result (λ text. ExplainsReplay (D.told desk.old)
+        (desk_state D.faults D.asks desk.old) (desk_state D.faults D.asks desk.new)
+        image_path.now trace_path.now status text) }
+    ensures stays { (n : List ℕ) → D.told desk.new n ≡ D.told desk.old n }
 {
     let image = desk.fetch(alloc, image_path, MAX_IMAGE_BYTES);
     let trace = desk.fetch(alloc, trace_path, MAX_TRACE_BYTES);
     explanation(alloc, image_path, image, trace_path, trace, status)
+}
+
+fn explain_seed<D: Desk>(
+    alloc: Global,
+    desk: &mut D,
+    path: &str,
+    status: Status,
+) -> Result<Option<Bytes>, NoMemory>
+    ensures text { IfOk result (λ text. ExplainsSeed (D.told desk.old)
+        (desk_state D.faults D.asks desk.old) (desk_state D.faults D.asks desk.new)
+        path.now status text) }
+    ensures stays { (n : List ℕ) → D.told desk.new n ≡ D.told desk.old n }
+{
+    let image = desk.fetch(alloc, path, MAX_IMAGE_BYTES);
+    seed_explanation(alloc, path, image, status)
+}
+
+/// What is told of a status of a seeded run, by what was handed over of the image file.
+#[tactic(auto, unfolding(crate::specs::Explanations::seed_explanation))]
+fn seed_explanation(
+    alloc: Global,
+    path: &str,
+    image: Result<Bytes, FetchFault>,
+    status: Status,
+) -> Result<Option<Bytes>, NoMemory>
+    ensures { IfOk result (λ text. text ≡ seed_explanation path.now image status) }
+{
+    match image {
+        Ok(image) => explain_bad_image(alloc, path, image.as_slice(), status),
+        Err(fault) => explain_fetch(alloc, path, MAX_IMAGE_BYTES, fault),
+    }
+}
+
+/// Of an image file that has a fault.
+fn explain_bad_image(
+    alloc: Global,
+    path: &str,
+    image: &[u8],
+    status: Status,
+) -> Result<Option<Bytes>, NoMemory>
+    ensures { IfOk result (λ text. text ≡ image_explained path.now image.now status None) }
+{
+    match status {
+        Status::BadImage { kind, offset } => {
+            let words = image_words(alloc, image, kind, offset)?;
+            Ok(Some(of_file(alloc, path, words.as_slice())?))
+        }
+        _ => Ok(None),
+    }
 }
 
 /// What is told of a status of a replay, by what was handed over of both files.

@@ -3,12 +3,14 @@
 
 mod explanations;
 mod image_faults;
+mod laws;
 mod line_faults;
 mod reasons;
 mod refusals;
 mod texts;
 
 pub use explanations::explain;
+pub use laws::refusals_have_a_reason;
 pub use line_faults::{LineAt, LineFault};
 
 #[cfg(test)]

@@ -327,3 +327,23 @@ fn other_refusals_have_a_line_and_what_is_done_has_none(rt: HostRuntime) -> Resu
     assert!(rt; line.as_slice() == text.as_bytes());
     Ok(())
 }
+
+#[test]
+fn a_seeded_run_has_a_line_for_its_image_alone(rt: HostRuntime) -> Result<(), Fail> {
+    let mut words = Vec::new(rt.alloc());
+    for text in ["seed", "image", "2", "5", "0"] {
+        words.push(Word::new(rt.alloc(), text)?)?;
+    }
+    let mut desk = TableDesk::new(rt.alloc(), &[])?;
+    desk.add(rt.alloc(), "image", &[])?;
+    let status = Status::BadImage {
+        kind: ImageKind::Short,
+        offset: 0,
+    };
+    let told = explain(rt.alloc(), words.as_slice(), &mut desk, status)?;
+    let line = told.expect(&rt, "a file that is no image has a line");
+    let text =
+        "axp: image: the file ends after 0 bytes, inside of a field, a record or the segments' bytes\n";
+    assert!(rt; line.as_slice() == text.as_bytes());
+    Ok(())
+}

@@ -16,7 +16,7 @@ pub record IsServed (told : List ℕ → Option (List ℕ)) (before now : Outsid
   pub number : n ≡ number_of_status status
   pub answer : IfSome (answer_of order told) (λ a. Settles before now a status)
   pub puts : IfSome (answer_of order told) (λ a. PutsEach before now a status)
-  pub constraints : IfSome (image_told order told) AreBytes → IfSome (answer_of order told) (SettlesLawfully before now (image_of_file (image_told order told)) (lines_of_file (trace_told order told)) status)
+  pub constraints : IfSome (image_told order told) AreBytes → IfSome (answer_of order told) (SettlesLawfully before now order (image_of_file (image_told order told)) (lines_of_file (trace_told order told)) status)
   pub some_files : SettlesSome told before now order status
   pub sink_count : SinkCount before.sink.faults now.sink.faults status
   pub desk_count : DeskCount before.desk.faults now.desk.faults status

@@ -30,14 +30,17 @@ const VERSION: &str = "axp 0.1.0\n";
 const HELP: &str = "\
 axp: an emulator of Alpha AXP processors that share memory
 
-usage: axp replay IMAGE EVENTS-OR-TRACE
+usage: axp seed IMAGE CPUS BUDGET SEED
+           prints the trace of a run whose events the seed chooses
+       axp replay IMAGE EVENTS-OR-TRACE
            prints the trace of an event list, or runs a trace again and compares
        axp --help
            prints this on standard error
        axp --version
            prints the name and the version on standard error
 
-example: axp replay examples/spin_lock/image.bin examples/spin_lock/events.txt
+examples: axp seed examples/spin_lock/image.bin 2 4000 7
+          axp replay examples/spin_lock/image.bin examples/spin_lock/events.txt
 
 IMAGE is what the memory of the machine holds at first. Standard output has the
 trace, or a line that says why there is none, and the exit number says how the

@@ -1,5 +1,5 @@
 -- The answer to a file shows a run that keeps the constraints of shared memory, and why it ended.
-use Rattle.std.proofs.Common.{◌≡◌, ℕ, ◌+◌, ◌&&◌, Bool, true, false, cond, eqb, List, [], ◌∷◌, ◌++◌, length, map, reverse, Option, Some, None, Ok, Err, Result, IfSome, refl, sym, ap, ◌∙◌, subst, inl, inr, append_assoc}
+use Rattle.std.proofs.Common.{◌≡◌, ◌≤◌, ℕ, ◌+◌, ◌&&◌, Bool, true, false, cond, eqb, List, [], ◌∷◌, ◌++◌, length, map, reverse, Option, Some, None, Ok, Err, Result, IfSome, refl, sym, ap, ◌∙◌, subst, inl, inr, append_assoc}
 use Rattle.std.specs.Prelude.{nat_lt, not}
 use Rattle.std.specs.Str.{bytes_eq}
 use Rattle.std.proofs.lemmas.Bool.{and_parts, eqb-true}
@@ -29,10 +29,14 @@ use Rattle.axp_trace.specs.Tails.{tail_of}
 use Rattle.axp_trace.specs.TraceLines.{full_by, line_by, line_of}
 use Rattle.axp_top.specs.declared.limits.TheConstants.{MAX_IMAGE_BYTES, MAX_TRACE_BYTES}
 use Rattle.axp_top.specs.Answers as answers
-use Rattle.axp_top.specs.Answers.{answer_by, answer_of_files, answer_of_image, answer_of_trace, answer_over, first_bad, image_in, image_told, no_image, too_long, trace_told}
-use Rattle.axp_top.specs.Lawful.{AreRight, EventsEnd, IsCause, IsLawful, IsNotLegal, RefusesAll, ShowsRun, event_in, event_shown, image_of_file, image_over, lines_of_file}
+use Rattle.axp_base.specs.declared.processors.TheConstants.{MAX_CPUS}
+use Rattle.axp_seed.proofs.CompletionLemmas.{Ends, ends}
+use Rattle.axp_seed.specs.Seeds.{seeded_start}
+use Rattle.axp_top.specs.SeededRuns.{end_of, seeded_answer}
+use Rattle.axp_top.specs.Answers.{answer_by, answer_if_told, answer_of_files, answer_of_image, answer_of_trace, answer_over, answer_with, image_name, trace_told_by, first_bad, image_in, image_told, no_image, too_long, trace_told}
+use Rattle.axp_top.specs.Lawful.{AreRight, EventsEnd, IsCause, IsLawful, IsLawfulReplay, ShowsSeeded, IsNotLegal, RefusesAll, ShowsRun, event_in, event_shown, image_of_file, image_over, lines_of_file}
 use Rattle.axp_top.specs.Replays.{Answer, FileLine, Front, LineResult, OfTail, Recorded, Refused, answer_of_front, answer_of_header, answer_of_lines, answer_of_run, bad_trace, complete_ending, differs, ending_by, event_result, front_of, incomplete, is_in_order, is_other_memory, is_tail_line, next_line, not_legal, or_else, other_memory, refused_line, refused_or_whole, result_by, result_of, shown_result, tail_refusal}
-use Rattle.axp_top.specs.Words.{Order, Replay}
+use Rattle.axp_top.specs.Words.{Order, Replay, Seed}
 
 -- ---- a line whose event is done
 
@@ -302,7 +306,7 @@ same_memory true false is full = cc
 same_memory false same is full = cc
 
 start_lawful : (image : Contents) (first : List ℕ) (h : Header) (ls : List FileLine) (other : Bool) → IsValid image → header_of first ≡ Some h → is_other_memory h (started image h.cpus h.budget) ≡ other
-    → IsLawful (Some image) (Some first ∷ ls) (cond other (other_memory (started image h.cpus h.budget) first) (answer_of_run h (started image h.cpus h.budget) ls))
+    → IsLawfulReplay image (Some first ∷ ls) (cond other (other_memory (started image h.cpus h.budget) first) (answer_of_run h (started image h.cpus h.budget) ls))
 start_lawful image first h ls true valid is other =
     let parts = and_parts h.full (not (eqb h.memory image.size)) other in
     inr (inl (record { header = h; start = started image h.cpus h.budget; over = refl; first = first; more = ls; parted = refl; read = is; full = parts.0; other = not_true (eqb h.memory image.size) (sym parts.1); shown = refl }))
@@ -311,20 +315,20 @@ start_lawful image first h ls false valid is other =
     inr (inr (run_lawful image first h ls (front_of h start ls) valid is (λ full. eqb-true h.memory image.size (same_memory h.full (eqb h.memory image.size) other full))
     (ends_at h start start ls ls (record { done = []; parted = refl; events = refl; right = λ full. refl; run = tt; image = refl; cpus = refl; budget = refl }))))
 
-header_lawful : (image : Contents) (first : List ℕ) (h : Option Header) (ls : List FileLine) → IsValid image → header_of first ≡ h → IsLawful (Some image) (Some first ∷ ls) (answer_of_header image first h ls)
+header_lawful : (image : Contents) (first : List ℕ) (h : Option Header) (ls : List FileLine) → IsValid image → header_of first ≡ h → IsLawfulReplay image (Some first ∷ ls) (answer_of_header image first h ls)
 header_lawful image first None ls valid is = inl refl
 header_lawful image first (Some h) ls valid is = start_lawful image first h ls (is_other_memory h (started image h.cpus h.budget)) valid is refl
 
-lines_lawful : (image : Contents) (ls : List FileLine) → IsValid image → IsLawful (Some image) ls (answer_of_lines image ls)
+lines_lawful : (image : Contents) (ls : List FileLine) → IsValid image → IsLawfulReplay image ls (answer_of_lines image ls)
 lines_lawful image [] valid = inl refl
 lines_lawful image (None ∷ ls) valid = inl refl
 lines_lawful image (Some first ∷ ls) valid = header_lawful image first (header_of first) ls valid refl
 
-limited : (image : Contents) (ls : List FileLine) (long : Bool) (a : Answer) → IsLawful (Some image) ls a → IsLawful (Some image) ls (cond long too_long a)
+limited : (image : Contents) (ls : List FileLine) (long : Bool) (a : Answer) → IsLawfulReplay image ls a → IsLawfulReplay image ls (cond long too_long a)
 limited image ls true a is = inl refl
 limited image ls false a is = is
 
-trace_lawful : (image : Contents) (bytes : List ℕ) → IsValid image → IsLawful (Some image) (lines_of bytes) (answer_of_trace image bytes)
+trace_lawful : (image : Contents) (bytes : List ℕ) → IsValid image → IsLawfulReplay image (lines_of bytes) (answer_of_trace image bytes)
 trace_lawful image bytes valid = limited image (lines_of bytes) (nat_lt MAX_TRACE_BYTES (length bytes)) (answer_of_lines image (lines_of bytes)) (lines_lawful image (lines_of bytes) valid)
 
 fault_at_once : (f : Option Fault) → RefusesAll (first_bad f)
@@ -338,14 +342,35 @@ long_at_once false a is = is
 no_image_at_once : (bytes : List ℕ) → RefusesAll (no_image bytes)
 no_image_at_once bytes = long_at_once (nat_lt MAX_IMAGE_BYTES (length bytes)) (first_bad (first_fault bytes)) (fault_at_once (first_fault bytes))
 
-by_lawful : (first : List ℕ) (image : Option Contents) (bytes : List ℕ) → IfSome image IsValid → IsLawful image (lines_of bytes) (answer_by first image bytes)
-by_lawful first None bytes valid = no_image_at_once first
-by_lawful first (Some image) bytes valid = trace_lawful image bytes valid
+-- over the end of a seeded run
+seeded_lawful : (image : Contents) (cpus budget seed : ℕ) → IsValid image → cpus ≤ MAX_CPUS → ShowsSeeded image cpus budget seed (seeded_answer image cpus budget seed)
+unfolding end_of
+seeded_lawful image cpus budget seed valid few =
+    let last : Ends image cpus budget (end_of (seeded_start image cpus budget seed)) = ends image cpus budget seed valid few in
+    record {
+      machine = end_of (seeded_start image cpus budget seed);
+      shown = refl;
+      seeded = refl;
+      over = last.over.0;
+      cpus_are = last.over.1;
+      budget_is = last.over.2;
+      complete = last.complete;
+      run = last.run;
+      constraints = keeps_constraints (end_of (seeded_start image cpus budget seed)) (subst IsValid (sym last.over.0) valid) last.run;
+    }
+
+with_lawful : (order : Order) (image : Contents) (bytes : List ℕ) → IsValid image → IsLawful (Some order) (Some image) (lines_of bytes) (answer_with order image bytes)
+with_lawful (Replay i t) image bytes valid = trace_lawful image bytes valid
+with_lawful (Seed i cpus budget seed) image bytes valid = λ few. seeded_lawful image cpus budget seed valid few
+
+by_lawful : (order : Order) (first : List ℕ) (image : Option Contents) (bytes : List ℕ) → IfSome image IsValid → IsLawful (Some order) image (lines_of bytes) (answer_by order first image bytes)
+by_lawful order first None bytes valid = no_image_at_once first
+by_lawful order first (Some image) bytes valid = with_lawful order image bytes valid
 
 -- over the lists that were handed over
-pub over_lawful : (order : Option Order) (image trace : List ℕ) → IfSome (image_over order image) IsValid → IsLawful (image_over order image) (lines_of trace) (answer_over order image trace)
+pub over_lawful : (order : Option Order) (image trace : List ℕ) → IfSome (image_over order image) IsValid → IsLawful order (image_over order image) (lines_of trace) (answer_over order image trace)
 over_lawful None image trace valid = refl
-over_lawful (Some order) image trace valid = by_lawful image (image_in image) trace valid
+over_lawful (Some order) image trace valid = by_lawful order image (image_in image) trace valid
 
 -- ---- a file's image is valid
 
@@ -362,15 +387,19 @@ valid_in bytes all = in_limit (nat_lt MAX_IMAGE_BYTES (length bytes)) bytes all
 
 -- ---- over the lists that are told
 
-image_lawful : (first : List ℕ) (image : Option Contents) (trace : Option (List ℕ)) → IfSome image IsValid → IfSome (answer_of_image first image trace) (IsLawful image (lines_of_file trace))
-image_lawful first None trace valid = no_image_at_once first
-image_lawful first (Some image) None valid = tt
-image_lawful first (Some image) (Some bytes) valid = trace_lawful image bytes valid
+told_if_lawful : (order : Order) (image : Contents) (trace : Option (List ℕ)) → IsValid image → IfSome (answer_if_told order image trace) (IsLawful (Some order) (Some image) (lines_of_file trace))
+told_if_lawful (Replay i t) image None valid = tt
+told_if_lawful (Replay i t) image (Some bytes) valid = trace_lawful image bytes valid
+told_if_lawful (Seed i cpus budget seed) image trace valid = λ few. seeded_lawful image cpus budget seed valid few
 
-files_lawful : (image trace : Option (List ℕ)) → IfSome image AreBytes → IfSome (answer_of_files image trace) (IsLawful (image_of_file image) (lines_of_file trace))
-files_lawful None trace all = tt
-files_lawful (Some bytes) trace all = image_lawful bytes (image_in bytes) trace (valid_in bytes all)
+image_lawful : (order : Order) (first : List ℕ) (image : Option Contents) (trace : Option (List ℕ)) → IfSome image IsValid → IfSome (answer_of_image order first image trace) (IsLawful (Some order) image (lines_of_file trace))
+image_lawful order first None trace valid = no_image_at_once first
+image_lawful order first (Some image) trace valid = told_if_lawful order image trace valid
 
-pub told_lawful : (order : Option Order) (told : List ℕ → Option (List ℕ)) → IfSome (image_told order told) AreBytes → IfSome (answers.answer_of order told) (IsLawful (image_of_file (image_told order told)) (lines_of_file (trace_told order told)))
+files_lawful : (order : Order) (image trace : Option (List ℕ)) → IfSome image AreBytes → IfSome (answer_of_files order image trace) (IsLawful (Some order) (image_of_file image) (lines_of_file trace))
+files_lawful order None trace all = tt
+files_lawful order (Some bytes) trace all = image_lawful order bytes (image_in bytes) trace (valid_in bytes all)
+
+pub told_lawful : (order : Option Order) (told : List ℕ → Option (List ℕ)) → IfSome (image_told order told) AreBytes → IfSome (answers.answer_of order told) (IsLawful order (image_of_file (image_told order told)) (lines_of_file (trace_told order told)))
 told_lawful None told all = refl
-told_lawful (Some (Replay image trace)) told all = files_lawful (told image) (told trace) all
+told_lawful (Some order) told all = files_lawful order (told (image_name order)) (trace_told_by order told) all

@@ -8,3 +8,5 @@ pub mod EndingLemmas
 pub mod StatusLemmas
 pub mod WholeAnswerLemmas
 pub mod ServingLemmas
+pub mod SeededLemmas
+pub mod RangeLemmas

@@ -15,16 +15,17 @@ use Rattle.axp_trace.specs.Files.{lines_of}
 use Rattle.axp_top.specs.declared.limits.TheConstants.{MAX_IMAGE_BYTES, MAX_TRACE_BYTES}
 use Rattle.axp_top.specs.declared.status.Status.{Status}
 use Rattle.axp_top.specs.declared.status.Status.TheVariants as status
-use Rattle.axp_top.specs.Answers.{answer_by, answer_of, answer_of_files, answer_of_image, answer_of_trace, answer_over, asks_by, asks_of, bad_image, image_in, image_told, no_image, read_fault, too_long, trace_told, usage}
+use Rattle.axp_top.specs.SeededRuns.{seeded_answer}
+use Rattle.axp_top.specs.Answers.{answer_by, answer_if_told, answer_of, answer_of_files, answer_of_image, answer_of_trace, answer_over, answer_with, image_name, trace_told_by, asks_by, asks_of, bad_image, image_in, image_told, no_image, read_fault, too_long, trace_told, usage}
 use Rattle.axp_top.specs.Lawful.{IsLawful, image_of_file, image_over, lines_of_file}
 use Rattle.axp_top.specs.Outside.{DeskState, Outside}
 use Rattle.axp_top.specs.Printing.{Ends}
 use Rattle.axp_top.specs.Replays.{Answer, answer_of_lines}
 use Rattle.axp_top.specs.Serving.{Course, Serves, ServesTrace}
 use Rattle.axp_top.specs.Statuses.{AsksFailed, AsksFront, AsksInTurn, AsksNeeded, DeskCount, PutsEach, Settles, SettlesLawfully, SettlesSome, SinkCount}
-use Rattle.axp_top.specs.Words.{Order, Replay}
+use Rattle.axp_top.specs.Words.{Order, Replay, Seed}
 use Rattle.axp_top.proofs.LawfulAnswerLemmas.{over_lawful, told_lawful, valid_in}
-use Rattle.axp_top.proofs.StatusLemmas.{IsAnswer, answer_is, asks_in_turn, asks_needed, desk_count, over_is, puts_each, settles, sink_count, trace_is}
+use Rattle.axp_top.proofs.StatusLemmas.{IsAnswer, answer_is, asks_in_turn, asks_needed, desk_count, over_is, puts_each, settles, sink_count, trace_is, with_is}
 
 -- ---- lists that may have been handed over
 
@@ -132,82 +133,97 @@ abbrev ByFirst : Outside → Outside → Option Order → List ℕ → List ℕ 
 ByFirst b n order image trace s = Course b n (answer_over order image trace) (asks_by order (image_over order image)) s
 
 -- a course over a file that is no image
-refused_course : (b n : Outside) (first second image trace : List ℕ) (s : Status) → image_in image ≡ None → Course b n (no_image image) ((first, MAX_IMAGE_BYTES) ∷ []) s → ByFirst b n (Some (Replay first second)) image trace s
-refused_course b n first second image trace s none h = rw none h
+refused_course : (b n : Outside) (order : Order) (image trace : List ℕ) (s : Status) → image_in image ≡ None → Course b n (no_image image) ((image_name order, MAX_IMAGE_BYTES) ∷ []) s → ByFirst b n (Some order) image trace s
+refused_course b n order image trace s none h = rw none h
 
-refused_serves : (told : List ℕ → Option (List ℕ)) (b n : Outside) (first second image : List ℕ) (s : Status) → image_in image ≡ None → IfSome (told first) (λ bytes. image ≡ bytes) → Course b n (no_image image) ((first, MAX_IMAGE_BYTES) ∷ []) s
-    → Serves told (Some (Replay first second)) b n s
-refused_serves told b n first second image s none is h = record {
+refused_serves : (told : List ℕ → Option (List ℕ)) (b n : Outside) (order : Order) (image : List ℕ) (s : Status) → image_in image ≡ None → IfSome (told (image_name order)) (λ bytes. image ≡ bytes) → Course b n (no_image image) ((image_name order, MAX_IMAGE_BYTES) ∷ []) s
+    → Serves told (Some order) b n s
+refused_serves told b n order image s none is h = record {
   image = image;
-  trace = told_or_none (told second);
+  trace = told_or_none (trace_told_by order told);
   image_is_told = is;
-  trace_is_told = told_is (told second);
-  course = refused_course b n first second image (told_or_none (told second)) s none h;
+  trace_is_told = told_is (trace_told_by order told);
+  course = refused_course b n order image (told_or_none (trace_told_by order told)) s none h;
   sure = inl (rw none tt);
 }
 
 -- the file is within its limit and no image
-pub files_refused : (told : List ℕ → Option (List ℕ)) (b n : Outside) (first second bytes : List ℕ) (f : Fault) (s : Status) → IfSome (told first) (λ t. FetchTold t MAX_IMAGE_BYTES (Ok bytes)) → length bytes ≤ MAX_IMAGE_BYTES → first_fault bytes ≡ Some f → n.desk.faults ≡ b.desk.faults
-    → n.desk.asks ≡ b.desk.asks ++ (first, MAX_IMAGE_BYTES) ∷ [] → Ends b.sink n.sink (bad_image f) s → Serves told (Some (Replay first second)) b n s
-files_refused told b n first second bytes f s is short fault count asks ends =
+pub files_refused : (told : List ℕ → Option (List ℕ)) (b n : Outside) (order : Order) (bytes : List ℕ) (f : Fault) (s : Status) → IfSome (told (image_name order)) (λ t. FetchTold t MAX_IMAGE_BYTES (Ok bytes)) → length bytes ≤ MAX_IMAGE_BYTES → first_fault bytes ≡ Some f → n.desk.faults ≡ b.desk.faults
+    → n.desk.asks ≡ b.desk.asks ++ (image_name order, MAX_IMAGE_BYTES) ∷ [] → Ends b.sink n.sink (bad_image f) s → Serves told (Some order) b n s
+files_refused told b n order bytes f s is short fault count asks ends =
     let within : nat_lt MAX_IMAGE_BYTES (length bytes) ≡ false = le-ltb MAX_IMAGE_BYTES (length bytes) short in
-    refused_serves told b n first second bytes s (rw within (fault_is_no_image bytes f fault)) (handed_is (told first) bytes MAX_IMAGE_BYTES is)
-    (rw (within, fault) (handed_course b n (bad_image f) (first, MAX_IMAGE_BYTES) s count asks ends))
+    refused_serves told b n order bytes s (rw within (fault_is_no_image bytes f fault)) (handed_is (told (image_name order)) bytes MAX_IMAGE_BYTES is)
+    (rw (within, fault) (handed_course b n (bad_image f) (image_name order, MAX_IMAGE_BYTES) s count asks ends))
 
 -- the empty list is no image
 none_is_no_image : image_of [] ≡ None
 unfolding image_of grammar.header_of grammar.number_at grammar.piece_at
 none_is_no_image = refl
 
-pub files_long : (told : List ℕ → Option (List ℕ)) (b n : Outside) (first second : List ℕ) (s : Status) (f : FetchFault) → f ≡ fetch.TooLong → IfSome (told first) (λ t. FetchTold t MAX_IMAGE_BYTES (Err f)) → FetchCount b.desk.faults n.desk.faults (Err f)
-    → FetchAsks b.desk.asks n.desk.asks (first, MAX_IMAGE_BYTES) (Err f) → Ends b.sink n.sink too_long s → Serves told (Some (Replay first second)) b n s
-files_long told b n first second s fetch.TooLong is long count asks ends =
-    let list = told_or_long MAX_IMAGE_BYTES (told first) in
-    let over : nat_lt MAX_IMAGE_BYTES (length list) ≡ true = lt-ltb MAX_IMAGE_BYTES (length list) (is_longer MAX_IMAGE_BYTES (told first) long) in
-    refused_serves told b n first second list s (rw over refl) (told_long_is MAX_IMAGE_BYTES (told first)) (rw over (handed_course b n too_long (first, MAX_IMAGE_BYTES) s count asks ends))
-files_long told b n first second s fetch.Failed is long count asks ends = cc
-files_long told b n first second s fetch.Memory is long count asks ends = cc
+pub files_long : (told : List ℕ → Option (List ℕ)) (b n : Outside) (order : Order) (s : Status) (f : FetchFault) → f ≡ fetch.TooLong → IfSome (told (image_name order)) (λ t. FetchTold t MAX_IMAGE_BYTES (Err f)) → FetchCount b.desk.faults n.desk.faults (Err f)
+    → FetchAsks b.desk.asks n.desk.asks (image_name order, MAX_IMAGE_BYTES) (Err f) → Ends b.sink n.sink too_long s → Serves told (Some order) b n s
+files_long told b n order s fetch.TooLong is long count asks ends =
+    let list = told_or_long MAX_IMAGE_BYTES (told (image_name order)) in
+    let over : nat_lt MAX_IMAGE_BYTES (length list) ≡ true = lt-ltb MAX_IMAGE_BYTES (length list) (is_longer MAX_IMAGE_BYTES (told (image_name order)) long) in
+    refused_serves told b n order list s (rw over refl) (told_long_is MAX_IMAGE_BYTES (told (image_name order))) (rw over (handed_course b n too_long (image_name order, MAX_IMAGE_BYTES) s count asks ends))
+files_long told b n order s fetch.Failed is long count asks ends = cc
+files_long told b n order s fetch.Memory is long count asks ends = cc
 
 -- what holds over each first file
-each_serves : (told : List ℕ → Option (List ℕ)) (b n : Outside) (first second : List ℕ) (s : Status) → ((image trace : List ℕ) → ByFirst b n (Some (Replay first second)) image trace s) → Serves told (Some (Replay first second)) b n s
-each_serves told b n first second s each = record {
-  image = told_or_none (told first);
-  trace = told_or_none (told second);
-  image_is_told = told_is (told first);
-  trace_is_told = told_is (told second);
-  course = each (told_or_none (told first)) (told_or_none (told second));
-  sure = inr (λ other. each other (told_or_none (told second)));
+each_serves : (told : List ℕ → Option (List ℕ)) (b n : Outside) (order : Order) (s : Status) → ((image trace : List ℕ) → ByFirst b n (Some order) image trace s) → Serves told (Some order) b n s
+each_serves told b n order s each = record {
+  image = told_or_none (told (image_name order));
+  trace = told_or_none (trace_told_by order told);
+  image_is_told = told_is (told (image_name order));
+  trace_is_told = told_is (trace_told_by order told);
+  course = each (told_or_none (told (image_name order))) (told_or_none (trace_told_by order told));
+  sure = inr (λ other. each other (told_or_none (trace_told_by order told)));
 }
 
-failed_by : (b n : Outside) (first second bytes : List ℕ) (image : Option Contents) (trace : List ℕ) (s : Status) (f : FetchFault) → f ≡ fetch.Failed → FetchCount b.desk.faults n.desk.faults (Err f) → FetchAsks b.desk.asks n.desk.asks (first, MAX_IMAGE_BYTES) (Err f)
-    → Ends b.sink n.sink read_fault s → Course b n (answer_by bytes image trace) (asks_by (Some (Replay first second)) image) s
-failed_by b n first second bytes None trace s f is count asks ends = failed_course b n (no_image bytes) _ [] s f is count asks ends
-failed_by b n first second bytes (Some image) trace s f is count asks ends = failed_course b n (answer_of_trace image trace) _ _ s f is count asks ends
+failed_by : (b n : Outside) (order : Order) (bytes : List ℕ) (image : Option Contents) (trace : List ℕ) (s : Status) (f : FetchFault) → f ≡ fetch.Failed → FetchCount b.desk.faults n.desk.faults (Err f) → FetchAsks b.desk.asks n.desk.asks (image_name order, MAX_IMAGE_BYTES) (Err f)
+    → Ends b.sink n.sink read_fault s → Course b n (answer_by order bytes image trace) (asks_by (Some order) image) s
+failed_by b n order bytes None trace s f is count asks ends = failed_course b n (no_image bytes) _ [] s f is count asks ends
+failed_by b n order bytes (Some image) trace s f is count asks ends = failed_course b n (answer_with order image trace) _ _ s f is count asks ends
 
-pub files_failed : (told : List ℕ → Option (List ℕ)) (b n : Outside) (first second : List ℕ) (s : Status) (f : FetchFault) → f ≡ fetch.Failed → FetchCount b.desk.faults n.desk.faults (Err f) → FetchAsks b.desk.asks n.desk.asks (first, MAX_IMAGE_BYTES) (Err f)
-    → Ends b.sink n.sink read_fault s → Serves told (Some (Replay first second)) b n s
-files_failed told b n first second s f is count asks ends = each_serves told b n first second s (λ image trace. failed_by b n first second image (image_in image) trace s f is count asks ends)
+pub files_failed : (told : List ℕ → Option (List ℕ)) (b n : Outside) (order : Order) (s : Status) (f : FetchFault) → f ≡ fetch.Failed → FetchCount b.desk.faults n.desk.faults (Err f) → FetchAsks b.desk.asks n.desk.asks (image_name order, MAX_IMAGE_BYTES) (Err f)
+    → Ends b.sink n.sink read_fault s → Serves told (Some order) b n s
+files_failed told b n order s f is count asks ends = each_serves told b n order s (λ image trace. failed_by b n order image (image_in image) trace s f is count asks ends)
 
 -- memory was not found, once the first file was asked for or before
 longer_front : (before now : List Ask) (ask : Ask) (more : List Ask) → AsksFront before now (ask ∷ []) → AsksFront before now (ask ∷ more)
 longer_front before now ask more h = (h.0, h.1 ++ more, ap (λ (xs : List Ask). xs ++ more) h.2 ∙ append_assoc h.0 h.1 more, h.3)
 
-unfound_by : (b n : Outside) (first second bytes : List ℕ) (image : Option Contents) (trace : List ℕ) → n.sink ≡ b.sink → n.desk.faults ≡ b.desk.faults → AsksFront b.desk.asks n.desk.asks ((first, MAX_IMAGE_BYTES) ∷ [])
-    → Course b n (answer_by bytes image trace) (asks_by (Some (Replay first second)) image) status.Memory
-unfound_by b n first second bytes None trace same count some = unfound_course b n (no_image bytes) _ same count some
-unfound_by b n first second bytes (Some image) trace same count some = unfound_course b n (answer_of_trace image trace) _ same count (longer_front b.desk.asks n.desk.asks _ _ some)
+unfound_by : (b n : Outside) (order : Order) (bytes : List ℕ) (image : Option Contents) (trace : List ℕ) → n.sink ≡ b.sink → n.desk.faults ≡ b.desk.faults → AsksFront b.desk.asks n.desk.asks ((image_name order, MAX_IMAGE_BYTES) ∷ [])
+    → Course b n (answer_by order bytes image trace) (asks_by (Some order) image) status.Memory
+unfound_by b n order bytes None trace same count some = unfound_course b n (no_image bytes) _ same count some
+unfound_by b n order bytes (Some image) trace same count some = unfound_course b n (answer_with order image trace) _ same count (longer_front b.desk.asks n.desk.asks _ _ some)
 
-files_unfound : (told : List ℕ → Option (List ℕ)) (b n : Outside) (first second : List ℕ) → n.sink ≡ b.sink → n.desk.faults ≡ b.desk.faults → AsksFront b.desk.asks n.desk.asks ((first, MAX_IMAGE_BYTES) ∷ []) → Serves told (Some (Replay first second)) b n status.Memory
-files_unfound told b n first second same count some = each_serves told b n first second status.Memory (λ image trace. unfound_by b n first second image (image_in image) trace same count some)
+files_unfound : (told : List ℕ → Option (List ℕ)) (b n : Outside) (order : Order) → n.sink ≡ b.sink → n.desk.faults ≡ b.desk.faults → AsksFront b.desk.asks n.desk.asks ((image_name order, MAX_IMAGE_BYTES) ∷ []) → Serves told (Some order) b n status.Memory
+files_unfound told b n order same count some = each_serves told b n order status.Memory (λ image trace. unfound_by b n order image (image_in image) trace same count some)
 
-pub files_unfound_first : (told : List ℕ → Option (List ℕ)) (b n : Outside) (first second : List ℕ) (f : FetchFault) → f ≡ fetch.Memory → n.sink ≡ b.sink → FetchCount b.desk.faults n.desk.faults (Err f) → FetchAsks b.desk.asks n.desk.asks (first, MAX_IMAGE_BYTES) (Err f)
-    → Serves told (Some (Replay first second)) b n status.Memory
-files_unfound_first told b n first second fetch.Memory is same count asks = files_unfound told b n first second same count (memory_front b.desk.asks n.desk.asks (first, MAX_IMAGE_BYTES) asks)
-files_unfound_first told b n first second fetch.Failed is same count asks = cc
-files_unfound_first told b n first second fetch.TooLong is same count asks = cc
+pub files_unfound_first : (told : List ℕ → Option (List ℕ)) (b n : Outside) (order : Order) (f : FetchFault) → f ≡ fetch.Memory → n.sink ≡ b.sink → FetchCount b.desk.faults n.desk.faults (Err f) → FetchAsks b.desk.asks n.desk.asks (image_name order, MAX_IMAGE_BYTES) (Err f)
+    → Serves told (Some order) b n status.Memory
+files_unfound_first told b n order fetch.Memory is same count asks = files_unfound told b n order same count (memory_front b.desk.asks n.desk.asks (image_name order, MAX_IMAGE_BYTES) asks)
+files_unfound_first told b n order fetch.Failed is same count asks = cc
+files_unfound_first told b n order fetch.TooLong is same count asks = cc
 
-pub files_unfound_image : (told : List ℕ → Option (List ℕ)) (b n : Outside) (first second : List ℕ) → n.sink ≡ b.sink → n.desk.faults ≡ b.desk.faults → n.desk.asks ≡ b.desk.asks ++ (first, MAX_IMAGE_BYTES) ∷ [] → Serves told (Some (Replay first second)) b n status.Memory
-files_unfound_image told b n first second same count asks = files_unfound told b n first second same count (all_front b.desk.asks n.desk.asks _ asks)
+pub files_unfound_image : (told : List ℕ → Option (List ℕ)) (b n : Outside) (order : Order) → n.sink ≡ b.sink → n.desk.faults ≡ b.desk.faults → n.desk.asks ≡ b.desk.asks ++ (image_name order, MAX_IMAGE_BYTES) ∷ [] → Serves told (Some order) b n status.Memory
+files_unfound_image told b n order same count asks = files_unfound told b n order same count (all_front b.desk.asks n.desk.asks _ asks)
+
+-- the run that a seed defines, over the image
+pub seed_served : (told : List ℕ → Option (List ℕ)) (b n : Outside) (first : List ℕ) (cpus budget seed : ℕ) (bytes : List ℕ) (image : Contents) (s : Status) → IfSome (told first) (λ t. FetchTold t MAX_IMAGE_BYTES (Ok bytes)) → length bytes ≤ MAX_IMAGE_BYTES
+    → Some image ≡ image_of bytes → IsValid image → n.desk.faults ≡ b.desk.faults → n.desk.asks ≡ b.desk.asks ++ (first, MAX_IMAGE_BYTES) ∷ [] → Ends b.sink n.sink (seeded_answer image cpus budget seed) s
+    → Serves told (Some (Seed first cpus budget seed)) b n s
+seed_served told b n first cpus budget seed bytes image s is short reads valid count asks ends =
+    let image_is : image_in bytes ≡ Some image = rw (le-ltb MAX_IMAGE_BYTES (length bytes) short) (sym reads) in
+    record {
+      image = bytes;
+      trace = [];
+      image_is_told = handed_is (told first) bytes MAX_IMAGE_BYTES is;
+      trace_is_told = tt;
+      course = rw image_is (handed_course b n (seeded_answer image cpus budget seed) (first, MAX_IMAGE_BYTES) s count asks ends);
+      sure = inl (rw image_is valid);
+    }
 
 -- ---- the second file behind the first
 
@@ -288,20 +304,24 @@ record IsServed (b n : Outside) (s : Status) (a : Answer) : Type 0 where
   pub asks : List Ask
   pub course : Course b n a asks s
 
-image_served : (b n : Outside) (asks : List Ask) (s : Status) (bytes : List ℕ) (image : Option Contents) (trace : List ℕ) (told : Option (List ℕ)) → IfSome told (λ t. trace ≡ t) → Course b n (answer_by bytes image trace) asks s → IfSome (answer_of_image bytes image told) (IsServed b n s)
-image_served b n asks s bytes None trace told is h = record { is = answer_is bytes None trace; asks = asks; course = h }
-image_served b n asks s bytes (Some image) trace None is h = tt
-image_served b n asks s bytes (Some image) trace (Some t) is h = subst (λ (x : List ℕ). IsServed b n s (answer_of_trace image x)) is (record { is = trace_is image trace; asks = asks; course = h })
+told_if_served : (b n : Outside) (asks : List Ask) (s : Status) (order : Order) (image : Contents) (trace : List ℕ) (told : Option (List ℕ)) → IfSome told (λ t. trace ≡ t) → Course b n (answer_with order image trace) asks s → IfSome (answer_if_told order image told) (IsServed b n s)
+told_if_served b n asks s (Replay i t) image trace None is h = tt
+told_if_served b n asks s (Replay i t) image trace (Some list) is h = subst (λ (x : List ℕ). IsServed b n s (answer_of_trace image x)) is (record { is = trace_is image trace; asks = asks; course = h })
+told_if_served b n asks s (Seed i cpus budget seed) image trace told is h = record { is = with_is (Seed i cpus budget seed) image trace; asks = asks; course = h }
 
-files_told : (b n : Outside) (asks : List Ask) (s : Status) (image trace : List ℕ) (told_image told_trace : Option (List ℕ)) → IfSome told_image (λ t. image ≡ t) → IfSome told_trace (λ t. trace ≡ t) → Course b n (answer_by image (image_in image) trace) asks s
-    → IfSome (answer_of_files told_image told_trace) (IsServed b n s)
-files_told b n asks s image trace None told_trace is others h = tt
-files_told b n asks s image trace (Some t) told_trace is others h =
-    image_served b n asks s t (image_in t) trace told_trace others (subst (λ (x : List ℕ). Course b n (answer_by x (image_in x) trace) asks s) is h)
+image_served : (b n : Outside) (asks : List Ask) (s : Status) (order : Order) (bytes : List ℕ) (image : Option Contents) (trace : List ℕ) (told : Option (List ℕ)) → IfSome told (λ t. trace ≡ t) → Course b n (answer_by order bytes image trace) asks s → IfSome (answer_of_image order bytes image told) (IsServed b n s)
+image_served b n asks s order bytes None trace told is h = record { is = answer_is order bytes None trace; asks = asks; course = h }
+image_served b n asks s order bytes (Some image) trace told is h = told_if_served b n asks s order image trace told is h
+
+files_told : (b n : Outside) (asks : List Ask) (s : Status) (order : Order) (image trace : List ℕ) (told_image told_trace : Option (List ℕ)) → IfSome told_image (λ t. image ≡ t) → IfSome told_trace (λ t. trace ≡ t) → Course b n (answer_by order image (image_in image) trace) asks s
+    → IfSome (answer_of_files order told_image told_trace) (IsServed b n s)
+files_told b n asks s order image trace None told_trace is others h = tt
+files_told b n asks s order image trace (Some t) told_trace is others h =
+    image_served b n asks s order t (image_in t) trace told_trace others (subst (λ (x : List ℕ). Course b n (answer_by order x (image_in x) trace) asks s) is h)
 
 told_served : (told : List ℕ → Option (List ℕ)) (order : Option Order) (b n : Outside) (s : Status) → Serves told order b n s → IfSome (answer_of order told) (IsServed b n s)
 told_served told None b n s h = record { is = over_is None [] []; asks = []; course = h.course }
-told_served told (Some (Replay first second)) b n s h = files_told b n _ s h.image h.trace (told first) (told second) h.image_is_told h.trace_is_told h.course
+told_served told (Some order) b n s h = files_told b n _ s order h.image h.trace (told (image_name order)) (trace_told_by order told) h.image_is_told h.trace_is_told h.course
 
 -- what follows of an answer that may be none
 if_some : {A : Type 0} (P Q : A → Type 0) (o : Option A) → ((x : A) → P x → Q x) → IfSome o P → IfSome o Q
@@ -314,19 +334,19 @@ serves_answer told order b n s h = if_some (IsServed b n s) (λ a. Settles b n a
 pub serves_puts : (told : List ℕ → Option (List ℕ)) (order : Option Order) (b n : Outside) (s : Status) → Serves told order b n s → IfSome (answer_of order told) (λ a. PutsEach b n a s)
 serves_puts told order b n s h = if_some (IsServed b n s) (λ a. PutsEach b n a s) (answer_of order told) (λ a x. puts_each b n a x.asks s x.is x.course) (told_served told order b n s h)
 
-both : (b n : Outside) (s : Status) (image : Option Contents) (ls : List (Option (List ℕ))) (answer : Option Answer) → IfSome answer (λ a. Settles b n a s) → IfSome answer (IsLawful image ls) → IfSome answer (SettlesLawfully b n image ls s)
-both b n s image ls None settled lawful = tt
-both b n s image ls (Some a) settled lawful = (settled, lawful)
+both : (b n : Outside) (s : Status) (order : Option Order) (image : Option Contents) (ls : List (Option (List ℕ))) (answer : Option Answer) → IfSome answer (λ a. Settles b n a s) → IfSome answer (IsLawful order image ls) → IfSome answer (SettlesLawfully b n order image ls s)
+both b n s order image ls None settled lawful = tt
+both b n s order image ls (Some a) settled lawful = (settled, lawful)
 
 pub serves_lawfully : (told : List ℕ → Option (List ℕ)) (order : Option Order) (b n : Outside) (s : Status) → Serves told order b n s → IfSome (image_told order told) AreBytes
-    → IfSome (answer_of order told) (SettlesLawfully b n (image_of_file (image_told order told)) (lines_of_file (trace_told order told)) s)
-serves_lawfully told order b n s h all = both b n s _ _ (answer_of order told) (serves_answer told order b n s h) (told_lawful order told all)
+    → IfSome (answer_of order told) (SettlesLawfully b n order (image_of_file (image_told order told)) (lines_of_file (trace_told order told)) s)
+serves_lawfully told order b n s h all = both b n s order _ _ (answer_of order told) (serves_answer told order b n s h) (told_lawful order told all)
 
 pub serves_needed : (told : List ℕ → Option (List ℕ)) (order : Option Order) (b n : Outside) (s : Status) → Serves told order b n s → IfSome (image_told order told) (λ bytes. AsksNeeded b.desk n.desk (asks_by order (image_in bytes)) s)
 serves_needed told None b n s h = tt
-serves_needed told (Some (Replay first second)) b n s h =
-    if_some (λ bytes. h.image ≡ bytes) (λ bytes. AsksNeeded b.desk n.desk (asks_by (Some (Replay first second)) (image_in bytes)) s) (told first)
-    (λ bytes is. subst (λ (x : List ℕ). AsksNeeded b.desk n.desk (asks_by (Some (Replay first second)) (image_in x)) s) is (asks_needed b n (answer_by h.image (image_in h.image) h.trace) _ s (answer_is h.image (image_in h.image) h.trace) h.course))
+serves_needed told (Some order) b n s h =
+    if_some (λ bytes. h.image ≡ bytes) (λ bytes. AsksNeeded b.desk n.desk (asks_by (Some order) (image_in bytes)) s) (told (image_name order))
+    (λ bytes is. subst (λ (x : List ℕ). AsksNeeded b.desk n.desk (asks_by (Some order) (image_in x)) s) is (asks_needed b n (answer_by order h.image (image_in h.image) h.trace) _ s (answer_is order h.image (image_in h.image) h.trace) h.course))
     h.image_is_told
 
 -- ---- and where nothing is told

@@ -9,7 +9,8 @@ use Rattle.axp_trace.specs.Lines.{bad_image_line, read_fault_line, too_long_line
 use Rattle.axp_top.specs.declared.status.Status.TheVariants as status
 use Rattle.axp_top.specs.declared.limits.TheConstants.{MAX_IMAGE_BYTES, MAX_TRACE_BYTES}
 use Rattle.axp_top.specs.Replays.{Answer, answer_in_one_line, answer_of_lines}
-use Rattle.axp_top.specs.Words.{Order, Replay}
+use Rattle.axp_top.specs.SeededRuns.{seeded_answer}
+use Rattle.axp_top.specs.Words.{Order, Replay, Seed}
 
 abbrev pub usage : Answer
 usage = answer_in_one_line status.Usage usage_line
@@ -39,49 +40,76 @@ image_in bytes = if nat_lt MAX_IMAGE_BYTES (length bytes) then None else image_o
 abbrev pub answer_of_trace : Contents → List ℕ → Answer
 answer_of_trace image bytes = if nat_lt MAX_TRACE_BYTES (length bytes) then too_long else answer_of_lines image (lines_of bytes)
 
+-- what a command answers over an image, by the second file; a seeded run has none
+abbrev pub answer_with : Order → Contents → List ℕ → Answer
+answer_with (Replay image trace) contents list = answer_of_trace contents list
+answer_with (Seed image cpus budget seed) contents list = seeded_answer contents cpus budget seed
+
 -- by the first file, the image that it is, and the second file
-abbrev pub answer_by : List ℕ → Option Contents → List ℕ → Answer
-answer_by first None trace = no_image first
-answer_by first (Some image) trace = answer_of_trace image trace
+abbrev pub answer_by : Order → List ℕ → Option Contents → List ℕ → Answer
+answer_by order first None trace = no_image first
+answer_by order first (Some image) trace = answer_with order image trace
 
 -- the answer by the lists that the desk hands over
 abbrev pub answer_over : Option Order → List ℕ → List ℕ → Answer
 answer_over None first trace = usage
-answer_over (Some order) first trace = answer_by first (image_in first) trace
+answer_over (Some order) first trace = answer_by order first (image_in first) trace
 
--- by the first file, the image that it is, and the second, None where the desk does not tell it
-abbrev pub answer_of_image : List ℕ → Option Contents → Option (List ℕ) → Option Answer
-answer_of_image first None trace = Some (no_image first)
-answer_of_image first (Some image) None = None
-answer_of_image first (Some image) (Some trace) = Some (answer_of_trace image trace)
+-- the second file of a command that has one, None where the desk does not tell it
+abbrev pub answer_if_told : Order → Contents → Option (List ℕ) → Option Answer
+answer_if_told (Replay image trace) contents None = None
+answer_if_told (Replay image trace) contents (Some list) = Some (answer_of_trace contents list)
+answer_if_told (Seed image cpus budget seed) contents list = Some (seeded_answer contents cpus budget seed)
 
-abbrev pub answer_of_files : Option (List ℕ) → Option (List ℕ) → Option Answer
-answer_of_files None trace = None
-answer_of_files (Some first) trace = answer_of_image first (image_in first) trace
+-- by the first file, the image that it is, and the second
+abbrev pub answer_of_image : Order → List ℕ → Option Contents → Option (List ℕ) → Option Answer
+answer_of_image order first None trace = Some (no_image first)
+answer_of_image order first (Some image) trace = answer_if_told order image trace
+
+abbrev pub answer_of_files : Order → Option (List ℕ) → Option (List ℕ) → Option Answer
+answer_of_files order None trace = None
+answer_of_files order (Some first) trace = answer_of_image order first (image_in first) trace
+
+-- the name of a command's image
+abbrev pub image_name : Order → List ℕ
+image_name (Replay image trace) = image
+image_name (Seed image cpus budget seed) = image
 
 -- what the desk tells under the names of a command's files
 abbrev pub image_told : Option Order → (List ℕ → Option (List ℕ)) → Option (List ℕ)
 image_told None told = None
-image_told (Some (Replay image trace)) told = told image
+image_told (Some order) told = told (image_name order)
+
+abbrev pub trace_told_by : Order → (List ℕ → Option (List ℕ)) → Option (List ℕ)
+trace_told_by (Replay image trace) told = told trace
+trace_told_by (Seed image cpus budget seed) told = None
 
 abbrev pub trace_told : Option Order → (List ℕ → Option (List ℕ)) → Option (List ℕ)
 trace_told None told = None
-trace_told (Some (Replay image trace)) told = told trace
+trace_told (Some order) told = trace_told_by order told
 
 -- the answer; None where a list that it needs is not told
 abbrev pub answer_of : Option Order → (List ℕ → Option (List ℕ)) → Option Answer
 answer_of None told = Some usage
-answer_of (Some (Replay image trace)) told = answer_of_files (told image) (told trace)
+answer_of (Some order) told = answer_of_files order (told (image_name order)) (trace_told_by order told)
 
 -- ---- what is asked of the desk, in order
+
+-- the asks behind that for the image
+abbrev pub more_asks : Order → List Ask
+more_asks (Replay image trace) = (trace, MAX_TRACE_BYTES) ∷ []
+more_asks (Seed image cpus budget seed) = []
 
 -- all that a command may ask for; words outside the grammar ask for nothing
 abbrev pub asks_of : Option Order → List Ask
 asks_of None = []
-asks_of (Some (Replay image trace)) = (image, MAX_IMAGE_BYTES) ∷ (trace, MAX_TRACE_BYTES) ∷ []
+asks_of (Some order) = (image_name order, MAX_IMAGE_BYTES) ∷ more_asks order
 
--- what it asks for by what the first file is: the second only where that is an image
+-- what it asks for by the image that the first file is: the second is of use only behind an image
+abbrev pub asks_by_image : Order → Option Contents → List Ask
+asks_by_image order None = []
+asks_by_image order (Some contents) = more_asks order
+
 abbrev pub asks_by : Option Order → Option Contents → List Ask
-asks_by None first = []
-asks_by (Some (Replay image trace)) None = (image, MAX_IMAGE_BYTES) ∷ []
-asks_by (Some (Replay image trace)) (Some contents) = (image, MAX_IMAGE_BYTES) ∷ (trace, MAX_TRACE_BYTES) ∷ []
+asks_by None image = []
+asks_by (Some order) image = (image_name order, MAX_IMAGE_BYTES) ∷ asks_by_image order image

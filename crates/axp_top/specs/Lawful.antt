@@ -1,5 +1,5 @@
 -- What is printed of a file shows a run that keeps the constraints of shared memory, and why it ended.
-use Rattle.std.specs.Prelude.{◌≡◌, ◌⊎◌, ℕ, ◌+◌, ◌==◌, Bool, true, false, List, ◌∷◌, [], ◌++◌, length, map, reverse, Option, Some, None}
+use Rattle.std.specs.Prelude.{◌≡◌, ◌⊎◌, ℕ, ◌+◌, ◌≤◌, ◌==◌, Bool, true, false, List, ◌∷◌, [], ◌++◌, length, map, reverse, Option, Some, None}
 use Rattle.axp_access.specs.declared.Event.{Event}
 use Rattle.axp_access.specs.declared.Record.{Record}
 use Rattle.axp_image.specs.Contents.{Contents}
@@ -19,7 +19,10 @@ use Rattle.axp_top.specs.declared.status.Status.TheVariants as status
 use Rattle.axp_top.specs.Answers.{image_in}
 use Rattle.axp_top.specs.Replays.{Answer, FileLine, Refused, next_line, other_memory, result_of, tail_refusal}
 use Rattle.axp_top.specs.Texts.{lines}
-use Rattle.axp_top.specs.Words.{Order}
+use Rattle.axp_base.specs.declared.processors.TheConstants.{MAX_CPUS}
+use Rattle.axp_seed.specs.Seeds.{seeded_start}
+use Rattle.axp_top.specs.SeededRuns.{end_of, whole_answer}
+use Rattle.axp_top.specs.Words.{Order, Replay, Seed}
 
 -- the event that a line shows, of a list or of a trace
 abbrev pub event_shown : Option TraceLine → Option Event
@@ -122,10 +125,33 @@ is_at_once _ = false
 abbrev pub RefusesAll : Answer → Type 0
 RefusesAll answer = is_at_once answer.status ≡ true
 
--- the answer shows such a run, or that memory is of another size, or refuses all; without an image it refuses
-abbrev pub IsLawful : Option Contents → List FileLine → Answer → Type 0
-IsLawful None ls answer = RefusesAll answer
-IsLawful (Some image) ls answer = RefusesAll answer ⊎ (IsOtherMemory image ls answer ⊎ ShowsRun image ls answer)
+-- an answer to a file of these lines shows such a run, or that memory is of another size, or refuses all
+abbrev pub IsLawfulReplay : Contents → List FileLine → Answer → Type 0
+IsLawfulReplay image ls answer = RefusesAll answer ⊎ (IsOtherMemory image ls answer ⊎ ShowsRun image ls answer)
+
+-- The answer is the header, all records and the tail of the machine at the end of the run that a seed defines over
+-- an image. It is complete, and the records keep the constraints of shared memory.
+pub record ShowsSeeded (image : Contents) (cpus budget seed : ℕ) (answer : Answer) : Type 0 where
+  pub machine : Seen
+  pub shown : answer ≡ whole_answer machine
+  pub seeded : machine ≡ end_of (seeded_start image cpus budget seed)
+  pub over : machine.image ≡ image
+  pub cpus_are : machine.cpus ≡ cpus
+  pub budget_is : machine.budget ≡ budget
+  pub complete : is_complete machine ≡ true
+  pub run : IsRun machine
+  pub constraints : KeepsConstraints machine
+
+-- by the command, over an image
+abbrev pub IsLawfulOver : Option Order → Contents → List FileLine → Answer → Type 0
+IsLawfulOver None image ls answer = RefusesAll answer
+IsLawfulOver (Some (Replay i t)) image ls answer = IsLawfulReplay image ls answer
+IsLawfulOver (Some (Seed i cpus budget seed)) image ls answer = cpus ≤ MAX_CPUS → ShowsSeeded image cpus budget seed answer
+
+-- without an image the answer refuses
+abbrev pub IsLawful : Option Order → Option Contents → List FileLine → Answer → Type 0
+IsLawful order None ls answer = RefusesAll answer
+IsLawful order (Some image) ls answer = IsLawfulOver order image ls answer
 
 -- the image and the lines in files that are told
 abbrev pub image_of_file : Option (List ℕ) → Option Contents

@@ -8,3 +8,4 @@ pub mod Walks
 pub mod Lawful
 pub mod Statuses
 pub mod Serving
+pub mod SeededRuns

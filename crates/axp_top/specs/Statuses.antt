@@ -109,8 +109,8 @@ AsksNeeded before now asks s = now.asks ≡ before.asks ++ asks
 -- ---- where the desk tells nothing
 
 -- the answer is settled, and lawful over an image and the lines of a list
-abbrev pub SettlesLawfully : Outside → Outside → Option Contents → List FileLine → Status → Answer → Type 0
-SettlesLawfully before now image ls s answer = Settles before now answer s × IsLawful image ls answer
+abbrev pub SettlesLawfully : Outside → Outside → Option Order → Option Contents → List FileLine → Status → Answer → Type 0
+SettlesLawfully before now order image ls s answer = Settles before now answer s × IsLawful order image ls answer
 
 -- There are two lists, one for the image and one for the event list, by which this is the text and the
 -- status, and these are the puts and the asks. Each is the told one where the desk tells it.
@@ -120,7 +120,7 @@ pub record SettlesSome (told : List ℕ → Option (List ℕ)) (before now : Out
   pub trace : List ℕ
   pub image_is_told : IfSome (image_told order told) (λ bytes. AreBytes bytes → image ≡ bytes)
   pub trace_is_told : IfSome (trace_told order told) (λ bytes. trace ≡ bytes)
-  pub settled : SettlesLawfully before now (image_over order image) (lines_of trace) s (answer_over order image trace)
+  pub settled : SettlesLawfully before now order (image_over order image) (lines_of trace) s (answer_over order image trace)
   pub puts : PutsEach before now (answer_over order image trace) s
   pub asked : AsksNeeded before.desk now.desk (asks_by order (image_over order image)) s
 

@@ -9,6 +9,7 @@ mod limits;
 mod printing;
 mod refusals;
 mod replay;
+mod seeds;
 mod serve;
 mod status;
 mod tail;

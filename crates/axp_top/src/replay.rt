@@ -105,7 +105,7 @@ fn print_ending<K: Sink>(
 }
 
 /// The first line of the right trace.
-fn right_header(machine: &Machine) -> LineText
+pub fn right_header(machine: &Machine) -> LineText
     ensures text { result.items ≡ right_header machine.now }
     ensures short { array_vec_len result < LINE_ROOM }
 {

@@ -11,12 +11,14 @@ ghost use Rattle.axp_top.specs.Serving.{Serves, ServesTrace};
 ghost use Rattle.axp_words.specs.Commands as commands;
 ghost use Rattle.axp_top.specs.Statuses.{AsksInTurn, AsksNeeded, DeskCount, PutsEach, SinkCount};
 ghost use Rattle.axp_top.specs.Statuses.{Settles, SettlesLawfully, SettlesSome};
-ghost use Rattle.axp_top.specs.Words.{Replay, order_in, order_of};
+ghost use Rattle.axp_top.specs.SeededRuns.{AreInRange, IsInRange};
+ghost use Rattle.axp_top.specs.Words.{Replay, Seed, order_in, order_of};
 
 use crate::Status;
 use crate::limits::{MAX_IMAGE_BYTES, MAX_TRACE_BYTES};
 use crate::printing::refuse;
 use crate::replay::replay;
+use crate::seeds::print_seed;
 use axp_image::{Image, ImageError, ImageKind, read_image};
 use axp_io::{Desk, FetchFault, Sink};
 use axp_trace::{write_bad_image, write_read_fault, write_too_long, write_usage};
@@ -52,7 +54,7 @@ pub fn serve_plain<D: Desk, K: Sink>(
         let image = image_told (order_of words.now) (D.told desk.old) in
         let trace = trace_told (order_of words.now) (D.told desk.old) in
         IfSome image AreBytes → IfSome (answer_of (order_of words.now) (D.told desk.old))
-        (SettlesLawfully (at desk.old sink.old) (at desk.new sink.new)
+        (SettlesLawfully (at desk.old sink.old) (at desk.new sink.new) (order_of words.now)
         (image_of_file image) (lines_of_file trace) result) }
     // Where the desk does not tell a file, all this holds by a list that it may have handed over.
     ensures some_files { let at = outside_at D.faults D.asks K.taken K.faults K.puts in
@@ -79,13 +81,22 @@ fn serve_command<D: Desk, K: Sink>(
     desk: &mut D,
     sink: &mut K,
 ) -> Status
+    requires { IsInRange (commands.order_by command) }
     ensures { let at = outside_at D.faults D.asks K.taken K.faults K.puts in
         Serves (D.told desk.old) (order_in (commands.order_by command.entry))
         (at desk.old sink.old) (at desk.new sink.new) result }
 {
     match command {
         Ok(Command::Replay { image, trace }) => replay_files(alloc, desk, sink, image, trace),
-        Ok(Command::Seed { .. } | Command::Gen { .. }) | Err(Usage) => refuse_usage(alloc, sink),
+        Ok(
+            Command::Seed {
+                image,
+                cpus,
+                budget,
+                seed,
+            },
+        ) => seed_file(alloc, desk, sink, image, (cpus, budget, seed)),
+        Ok(Command::Gen { .. }) | Err(Usage) => refuse_usage(alloc, sink),
     }
 }
 
@@ -104,6 +115,33 @@ fn replay_files<D: Desk, K: Sink>(
     match desk.fetch(alloc, image, MAX_IMAGE_BYTES) {
         Ok(bytes) => match read_image(alloc, bytes.as_slice()) {
             Ok(image) => replay_file(alloc, desk, sink, &image, trace),
+            Err(ImageError::Bad { kind, offset }) => refuse_image(alloc, sink, kind, offset),
+            Err(ImageError::Memory) => Status::Memory,
+        },
+        Err(FetchFault::Failed) => refuse_read_fault(alloc, sink),
+        Err(FetchFault::TooLong) => refuse_long(alloc, sink),
+        Err(FetchFault::Memory) => Status::Memory,
+    }
+}
+
+/// Prints the run that a seed defines over the image of a name: the numbers are how many processors
+/// there are, the budget of steps of each, and the seed.
+fn seed_file<D: Desk, K: Sink>(
+    alloc: Global,
+    desk: &mut D,
+    sink: &mut K,
+    image: &str,
+    numbers: (u8, u32, u64),
+) -> Status
+    requires { AreInRange numbers.0 numbers.1 }
+    ensures { let at = outside_at D.faults D.asks K.taken K.faults K.puts in
+        Serves (D.told desk.old) (Some (Seed image.now numbers.0 numbers.1 numbers.2))
+        (at desk.old sink.old) (at desk.new sink.new) result }
+{
+    let (cpus, budget, seed) = numbers;
+    match desk.fetch(alloc, image, MAX_IMAGE_BYTES) {
+        Ok(bytes) => match read_image(alloc, bytes.as_slice()) {
+            Ok(image) => print_seed(alloc, sink, &image, cpus, budget, seed),
             Err(ImageError::Bad { kind, offset }) => refuse_image(alloc, sink, kind, offset),
             Err(ImageError::Memory) => Status::Memory,
         },

@@ -12,20 +12,20 @@ returns-in-Ok-read_image g c =
 
 pub returns-in-Err-Bad : goal.returns-in-Err-Bad
 returns-in-Err-Bad g c =
-    files_refused _ _ _ _ _ c.in-Ok.bytes (c.in-Err-Bad.kind, c.in-Err-Bad.offset) c.refuse_image.result c.in-Ok.ensures.told c.in-Ok.ensures.most
+    files_refused _ _ _ _ c.in-Ok.bytes (c.in-Err-Bad.kind, c.in-Err-Bad.offset) c.refuse_image.result c.in-Ok.ensures.told c.in-Ok.ensures.most
     (subst (λ x. first_fault x ≡ Some (c.in-Err-Bad.kind, c.in-Err-Bad.offset)) c.as_slice.ensures (subst (Names (first_fault c.as_slice.result.now)) c.in-Err-Bad.field-0-is c.in-Err-Bad.ensures.fault))
     c.in-Ok.ensures.count c.in-Ok.ensures.asks c.refuse_image.ensures
 
 pub returns-in-Err-Failed : goal.returns-in-Err-Failed
 returns-in-Err-Failed g c =
-    files_failed _ _ _ _ _ c.refuse_read_fault.result c.in-Err-Failed.field-0 c.in-Err-Failed.field-0-is c.in-Err-Failed.ensures.count c.in-Err-Failed.ensures.asks c.refuse_read_fault.ensures
+    files_failed _ _ _ _ c.refuse_read_fault.result c.in-Err-Failed.field-0 c.in-Err-Failed.field-0-is c.in-Err-Failed.ensures.count c.in-Err-Failed.ensures.asks c.refuse_read_fault.ensures
 
 pub returns-in-Err-TooLong : goal.returns-in-Err-TooLong
 returns-in-Err-TooLong g c =
-    files_long _ _ _ _ _ c.refuse_long.result c.in-Err-TooLong.field-0 c.in-Err-TooLong.field-0-is c.in-Err-TooLong.ensures.told c.in-Err-TooLong.ensures.count c.in-Err-TooLong.ensures.asks c.refuse_long.ensures
+    files_long _ _ _ _ c.refuse_long.result c.in-Err-TooLong.field-0 c.in-Err-TooLong.field-0-is c.in-Err-TooLong.ensures.told c.in-Err-TooLong.ensures.count c.in-Err-TooLong.ensures.asks c.refuse_long.ensures
 
 pub returns-in-Ok : goal.returns-in-Ok
-returns-in-Ok g c = files_unfound_image _ _ _ _ _ refl c.in-Ok.ensures.count c.in-Ok.ensures.asks
+returns-in-Ok g c = files_unfound_image _ _ _ _ refl c.in-Ok.ensures.count c.in-Ok.ensures.asks
 
 pub returns : goal.returns
-returns g c = files_unfound_first _ _ _ _ _ c.in-Err-Memory.field-0 c.in-Err-Memory.field-0-is refl c.in-Err-Memory.ensures.count c.in-Err-Memory.ensures.asks
+returns g c = files_unfound_first _ _ _ _ c.in-Err-Memory.field-0 c.in-Err-Memory.field-0-is refl c.in-Err-Memory.ensures.count c.in-Err-Memory.ensures.asks

@@ -1,3 +1,6 @@
+use Rattle.std.proofs.Common.{subst, sym}
+use Rattle.axp_top.proofs.RangeLemmas.{in_range}
+use Rattle.axp_top.specs.SeededRuns.{IsInRange}
 use Rattle.axp_top.proofs.ServingLemmas.{serves_answer, serves_asks, serves_desk_count, serves_lawfully, serves_needed, serves_puts, serves_sink_count, serves_some}
 use Rattle.axp_top.proofs.serve.serve_plain.Goals as goal
 
@@ -14,3 +17,6 @@ returns g c =
       asks = serves_asks _ _ _ _ _ served;
       second_ask = serves_needed _ _ _ _ _ served;
     }
+
+pub serve_command-requires : goal.serve_command-requires
+serve_command-requires g c = subst IsInRange (sym c.read_words.ensures) (in_range c.args.words.now)
