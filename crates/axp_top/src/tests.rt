@@ -6,6 +6,7 @@ use std::test::Fail;
 
 mod entries;
 mod locks;
+mod seeds;
 mod shared_memory;
 mod traces;
 mod translation;
