@@ -4,3 +4,6 @@
 mod runs;
 
 pub use runs::SeededRun;
+
+#[cfg(test)]
+mod tests;
