@@ -6,3 +6,6 @@ mod runs;
 
 pub use completion::seeded_runs_end_complete;
 pub use runs::SeededRun;
+
+#[cfg(test)]
+mod tests;
