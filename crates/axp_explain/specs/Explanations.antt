@@ -12,7 +12,7 @@ use Rattle.axp_image.specs.Grammar.{image_of}
 use Rattle.axp_lsu.specs.declared.reasons.Reason.{Reason}
 use Rattle.axp_top.specs.Outside.{DeskState}
 use Rattle.axp_top.specs.Replays.{FileLine}
-use Rattle.axp_top.specs.Words.{Order, Replay, Seed}
+use Rattle.axp_top.specs.Words.{Gen, Order, Over, Replay, Seed}
 use Rattle.axp_top.specs.declared.limits.TheConstants.{MAX_IMAGE_BYTES, MAX_TRACE_BYTES}
 use Rattle.axp_top.specs.declared.status.Status.{Status}
 use Rattle.axp_top.specs.declared.status.Status.TheVariants as status
@@ -107,11 +107,13 @@ ExplainsSeed told before now image s text = (fetched : Result (List ℕ) FetchFa
 
 abbrev pub Explains : (List ℕ → Option (List ℕ)) → DeskState → DeskState → Option Order → Status → Option (List ℕ) → Type 0
 Explains told before now None s text = (text ≡ None) × (now ≡ before)
-Explains told before now (Some (Replay image trace)) s text = ExplainsIf (is_refusal s) (ExplainsReplay told before now image trace s text) before now text
-Explains told before now (Some (Seed image cpus budget seed)) s text = ExplainsIf (is_refusal s) (ExplainsSeed told before now image s text) before now text
+Explains told before now (Some (Gen number)) s text = (text ≡ None) × (now ≡ before)
+Explains told before now (Some (Over (Replay image trace))) s text = ExplainsIf (is_refusal s) (ExplainsReplay told before now image trace s text) before now text
+Explains told before now (Some (Over (Seed image cpus budget seed))) s text = ExplainsIf (is_refusal s) (ExplainsSeed told before now image s text) before now text
 
 -- there is something to tell: a command was refused
 abbrev pub is_told : Option Order → Status → Bool
 is_told None s = false
-is_told (Some (Replay image trace)) s = is_refusal s
-is_told (Some (Seed image cpus budget seed)) s = is_refusal s
+is_told (Some (Gen number)) s = false
+is_told (Some (Over (Replay image trace))) s = is_refusal s
+is_told (Some (Over (Seed image cpus budget seed))) s = is_refusal s

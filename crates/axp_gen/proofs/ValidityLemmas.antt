@@ -3,7 +3,10 @@ use Rattle.std.proofs.Common.{ℕ, zero, suc, ◌+◌, ◌*◌, ◌<◌, ◌≤�
 use Rattle.std.specs.Int.{byte_at, bytes_low_first, to_le_bytes, w32}
 use Rattle.axp_image.specs.declared.limits.TheConstants.{KSEG}
 use Rattle.axp_image.specs.Contents.{AreBytes, IsPlaced, IsValid, segment_of}
-use Rattle.axp_gen.specs.Litmus.{bytes_of, quadword_at, with_code, with_pointer, table_entry, with_table}
+use Rattle.axp_gen.specs.Litmus.{bytes_of, litmus_image, quadword_at, with_code, with_pointer, table_entry, with_table}
+use Rattle.axp_gen.specs.Programs.{code_of, store_buffering, dependent_load, dependent_load_with_barrier, spin_lock}
+use Rattle.axp_gen.specs.declared.shapes.Shape.{Shape}
+use Rattle.axp_gen.specs.declared.shapes.Shape.TheVariants.{Sb, Dl, Dm, Lock}
 use Rattle.axp_gen.proofs.ImageLemmas.{bytes_length}
 
 -- ---- bytes
@@ -100,3 +103,10 @@ with_table_valid words some short = record {
     ),
   );
 }
+
+pub litmus_valid : (shape : Shape) → IsValid (litmus_image shape)
+unfolding litmus_image store_buffering dependent_load dependent_load_with_barrier spin_lock
+litmus_valid Sb = with_code_valid (code_of Sb) (omega arith) (omega arith)
+litmus_valid Dl = with_pointer_valid (code_of Dl) (omega arith) (omega arith)
+litmus_valid Dm = with_pointer_valid (code_of Dm) (omega arith) (omega arith)
+litmus_valid Lock = with_table_valid (code_of Lock) (omega arith) (omega arith)

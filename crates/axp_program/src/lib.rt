@@ -34,6 +34,8 @@ usage: axp seed IMAGE CPUS BUDGET SEED
            prints the trace of a run whose events the seed chooses
        axp replay IMAGE EVENTS-OR-TRACE
            prints the trace of an event list, or runs a trace again and compares
+       axp gen NUMBER
+           counts what many seeded runs of a litmus test showed
        axp --help
            prints this on standard error
        axp --version

@@ -1,5 +1,5 @@
 -- The run that a seed defines, event by event.
-use Rattle.std.specs.Prelude.{ℕ, zero, suc, ◌%◌, if◌then◌else◌, List, [], ◌∷◌, ◌++◌, length, slice_get, Option, Some, None, option_map, Result, Ok, Err}
+use Rattle.std.specs.Prelude.{ℕ, zero, suc, ◌*◌, ◌%◌, if◌then◌else◌, List, [], ◌∷◌, ◌++◌, length, slice_get, Option, Some, None, option_map, Result, Ok, Err}
 use Rattle.axp_access.specs.declared.Act.{Act}
 use Rattle.axp_access.specs.declared.Event.{Event}
 use Rattle.axp_access.specs.declared.Outcome.{Outcome}
@@ -13,6 +13,7 @@ use Rattle.axp_machine.specs.Tails.{cpu_at}
 use Rattle.axp_model.specs.Legal.{is_done}
 use Rattle.axp_pick.specs.Choices.{choice, turn_field}
 use Rattle.axp_pick.specs.Words.{first_words, next_word, words_behind}
+use Rattle.axp_world.specs.declared.lengths.TheConstants.{EVENTS_PER_STEP}
 use Rattle.rand_pcg.specs.Lcg.{Lcg}
 
 -- a machine, and the words by which it goes on
@@ -76,3 +77,11 @@ behind s = behind_record s (next_record s)
 unfoldable pub seeded_after : ℕ → Seeded → Seeded
 seeded_after zero s = s
 seeded_after (suc n) s = seeded_after n (behind s)
+
+-- a run has no more events than these
+abbrev pub most_events : Seen → ℕ
+most_events m = EVENTS_PER_STEP * m.cpus * m.budget
+
+-- the machine at the end of a seeded run
+unfoldable pub end_of : Seeded → Seen
+end_of s = (seeded_after (most_events s.machine) s).machine

@@ -2,7 +2,8 @@ ghost use Rattle.std.specs.Prelude.{◌≡◌, ◌<◌, ◌≤◌, ◌↔◌, tr
 ghost use Rattle.axp_base.specs.declared.processors.TheConstants.{MAX_BUDGET, MAX_CPUS, MIN_CPUS};
 ghost use Rattle.axp_access.specs.Spelling.{Spells};
 ghost use Rattle.axp_machine.specs.Runs.{IsRun, is_complete};
-ghost use Rattle.axp_seed.specs.Seeds.{behind, next_record, seeded_start, turn_among, working};
+ghost use Rattle.axp_seed.specs.Seeds.{behind, end_of, next_record, seeded_start, turn_among};
+ghost use Rattle.axp_seed.specs.Seeds.{working};
 
 use arrayvec::ArrayVec;
 use axp_access::{Event, Record};
@@ -86,6 +87,13 @@ impl SeededRun {
             Ok(outcome) => Some(Record { event, outcome }),
             Err(NotLegal) => unreachable!(),
         }
+    }
+
+    /// Makes all events that are left: the run is complete then.
+    pub fn finish(&mut self)
+        ensures { self.new.machine ≡ end_of self.old }
+    {
+        while let Some(_record) = self.next() {}
     }
 }
 

@@ -31,12 +31,14 @@ use Rattle.axp_top.specs.declared.limits.TheConstants.{MAX_IMAGE_BYTES, MAX_TRAC
 use Rattle.axp_top.specs.Answers as answers
 use Rattle.axp_base.specs.declared.processors.TheConstants.{MAX_CPUS}
 use Rattle.axp_seed.proofs.CompletionLemmas.{Ends, ends}
-use Rattle.axp_seed.specs.Seeds.{seeded_start}
-use Rattle.axp_top.specs.SeededRuns.{end_of, seeded_answer}
+use Rattle.axp_seed.specs.Seeds.{end_of, seeded_start}
+use Rattle.axp_top.specs.SeededRuns.{seeded_answer}
 use Rattle.axp_top.specs.Answers.{answer_by, answer_if_told, answer_of_files, answer_of_image, answer_of_trace, answer_over, answer_with, image_name, trace_told_by, first_bad, image_in, image_told, no_image, too_long, trace_told}
-use Rattle.axp_top.specs.Lawful.{AreRight, EventsEnd, IsCause, IsLawful, IsLawfulReplay, ShowsSeeded, IsNotLegal, RefusesAll, ShowsRun, event_in, event_shown, image_of_file, image_over, lines_of_file}
+use Rattle.axp_top.specs.Lawful.{AreRight, EventsEnd, IsCause, IsLawful, IsLawfulReplay, ShowsSeeded, ShowsSummary, IsNotLegal, RefusesAll, ShowsRun, event_in, event_shown, image_of_file, image_over, lines_of_file}
 use Rattle.axp_top.specs.Replays.{Answer, FileLine, Front, LineResult, OfTail, Recorded, Refused, answer_of_front, answer_of_header, answer_of_lines, answer_of_run, bad_trace, complete_ending, differs, ending_by, event_result, front_of, incomplete, is_in_order, is_other_memory, is_tail_line, next_line, not_legal, or_else, other_memory, refused_line, refused_or_whole, result_by, result_of, shown_result, tail_refusal}
-use Rattle.axp_top.specs.Words.{Order, Replay, Seed}
+use Rattle.axp_summary.proofs.RoundLemmas.{whole_run}
+use Rattle.axp_top.specs.SummaryTexts.{summary_answer}
+use Rattle.axp_top.specs.Words.{Gen, ImageOrder, Order, Over, Replay, Seed}
 
 -- ---- a line whose event is done
 
@@ -359,18 +361,23 @@ seeded_lawful image cpus budget seed valid few =
       constraints = keeps_constraints (end_of (seeded_start image cpus budget seed)) (subst IsValid (sym last.over.0) valid) last.run;
     }
 
-with_lawful : (order : Order) (image : Contents) (bytes : List ℕ) → IsValid image → IsLawful (Some order) (Some image) (lines_of bytes) (answer_with order image bytes)
+-- over the rounds of a summary
+summary_lawful : (number : ℕ) → ShowsSummary number (summary_answer number)
+summary_lawful number = record { shown = refl; rounds = whole_run number }
+
+with_lawful : (order : ImageOrder) (image : Contents) (bytes : List ℕ) → IsValid image → IsLawful (Some (Over order)) (Some image) (lines_of bytes) (answer_with order image bytes)
 with_lawful (Replay i t) image bytes valid = trace_lawful image bytes valid
 with_lawful (Seed i cpus budget seed) image bytes valid = λ few. seeded_lawful image cpus budget seed valid few
 
-by_lawful : (order : Order) (first : List ℕ) (image : Option Contents) (bytes : List ℕ) → IfSome image IsValid → IsLawful (Some order) image (lines_of bytes) (answer_by order first image bytes)
+by_lawful : (order : ImageOrder) (first : List ℕ) (image : Option Contents) (bytes : List ℕ) → IfSome image IsValid → IsLawful (Some (Over order)) image (lines_of bytes) (answer_by order first image bytes)
 by_lawful order first None bytes valid = no_image_at_once first
 by_lawful order first (Some image) bytes valid = with_lawful order image bytes valid
 
 -- over the lists that were handed over
 pub over_lawful : (order : Option Order) (image trace : List ℕ) → IfSome (image_over order image) IsValid → IsLawful order (image_over order image) (lines_of trace) (answer_over order image trace)
 over_lawful None image trace valid = refl
-over_lawful (Some order) image trace valid = by_lawful order image (image_in image) trace valid
+over_lawful (Some (Gen number)) image trace valid = summary_lawful number
+over_lawful (Some (Over order)) image trace valid = by_lawful order image (image_in image) trace valid
 
 -- ---- a file's image is valid
 
@@ -387,19 +394,20 @@ valid_in bytes all = in_limit (nat_lt MAX_IMAGE_BYTES (length bytes)) bytes all
 
 -- ---- over the lists that are told
 
-told_if_lawful : (order : Order) (image : Contents) (trace : Option (List ℕ)) → IsValid image → IfSome (answer_if_told order image trace) (IsLawful (Some order) (Some image) (lines_of_file trace))
+told_if_lawful : (order : ImageOrder) (image : Contents) (trace : Option (List ℕ)) → IsValid image → IfSome (answer_if_told order image trace) (IsLawful (Some (Over order)) (Some image) (lines_of_file trace))
 told_if_lawful (Replay i t) image None valid = tt
 told_if_lawful (Replay i t) image (Some bytes) valid = trace_lawful image bytes valid
 told_if_lawful (Seed i cpus budget seed) image trace valid = λ few. seeded_lawful image cpus budget seed valid few
 
-image_lawful : (order : Order) (first : List ℕ) (image : Option Contents) (trace : Option (List ℕ)) → IfSome image IsValid → IfSome (answer_of_image order first image trace) (IsLawful (Some order) image (lines_of_file trace))
+image_lawful : (order : ImageOrder) (first : List ℕ) (image : Option Contents) (trace : Option (List ℕ)) → IfSome image IsValid → IfSome (answer_of_image order first image trace) (IsLawful (Some (Over order)) image (lines_of_file trace))
 image_lawful order first None trace valid = no_image_at_once first
 image_lawful order first (Some image) trace valid = told_if_lawful order image trace valid
 
-files_lawful : (order : Order) (image trace : Option (List ℕ)) → IfSome image AreBytes → IfSome (answer_of_files order image trace) (IsLawful (Some order) (image_of_file image) (lines_of_file trace))
+files_lawful : (order : ImageOrder) (image trace : Option (List ℕ)) → IfSome image AreBytes → IfSome (answer_of_files order image trace) (IsLawful (Some (Over order)) (image_of_file image) (lines_of_file trace))
 files_lawful order None trace all = tt
 files_lawful order (Some bytes) trace all = image_lawful order bytes (image_in bytes) trace (valid_in bytes all)
 
 pub told_lawful : (order : Option Order) (told : List ℕ → Option (List ℕ)) → IfSome (image_told order told) AreBytes → IfSome (answers.answer_of order told) (IsLawful order (image_of_file (image_told order told)) (lines_of_file (trace_told order told)))
 told_lawful None told all = refl
-told_lawful (Some order) told all = files_lawful order (told (image_name order)) (trace_told_by order told) all
+told_lawful (Some (Gen number)) told all = summary_lawful number
+told_lawful (Some (Over order)) told all = files_lawful order (told (image_name order)) (trace_told_by order told) all

@@ -10,3 +10,4 @@ pub mod WholeAnswerLemmas
 pub mod ServingLemmas
 pub mod SeededLemmas
 pub mod RangeLemmas
+pub mod SummaryLemmas

@@ -1,68 +1,28 @@
 -- From event to event through a seeded run.
-use Rattle.std.proofs.Common.{◌≡◌, ℕ, zero, suc, ◌+◌, ◌-◌, ◌*◌, ◌≤◌, ◌<◌, true, List, [], ◌∷◌, ◌++◌, length, Option, Some, None, refl, sym, ap, ◌∙◌, subst, append_assoc, append-nil, arith}
+use Rattle.std.proofs.Common.{◌≡◌, ℕ, zero, suc, ◌+◌, ◌-◌, ◌≤◌, true, List, [], ◌∷◌, ◌++◌, Option, Some, None, refl, sym, ap, ◌∙◌, subst, append_assoc, append-nil, arith}
 use Rattle.axp_access.specs.declared.Record.{Record}
 use Rattle.axp_base.specs.declared.processors.TheConstants.{MAX_CPUS}
 use Rattle.axp_machine.specs.Runs.{IsRun, Seen, is_complete}
-use Rattle.axp_seed.proofs.NextLemmas.{stays}
-use Rattle.axp_seed.specs.Seeds.{Seeded, behind, behind_record, next_record, seeded_after}
+use Rattle.axp_seed.proofs.WalkLemmas.{IsNextTo, Keeps, Walks, after_keeps, after_more, next_to, walk_end, walk_first}
+use Rattle.axp_seed.specs.Seeds.{Seeded, behind, behind_record, end_of, most_events, next_record, seeded_after}
 use Rattle.axp_top.proofs.PrintingLemmas.{printed_none, printed_then, stopped_longer, stopped_then}
 use Rattle.axp_top.specs.Outside.{SinkState}
 use Rattle.axp_top.specs.Printing.{Printed, Stopped}
-use Rattle.axp_top.specs.SeededRuns.{end_of, most_events, whole_answer}
+use Rattle.axp_top.specs.SeededRuns.{whole_answer}
 use Rattle.axp_top.specs.Texts.{Lines, header_text, record_lines, record_text, right_header, tail}
 use Rattle.axp_top.specs.declared.printing.Stop.{Stop}
 use Rattle.axp_trace.specs.Lines.{line_text, with_feed}
-use Rattle.axp_world.proofs.CountEvents.{played_is_short}
-use Rattle.axp_world.specs.declared.lengths.TheConstants.{EVENTS_PER_STEP}
 
--- ---- so many events after others
-
-after_more : (k j : ℕ) (s : Seeded) → seeded_after (k + j) s ≡ seeded_after j (seeded_after k s)
-unfolding seeded_after
-after_more zero j s = let none : 0 + j ≡ j = omega arith in ap (λ n. seeded_after n s) none
-after_more (suc k) j s = let one : suc k + j ≡ suc (k + j) = omega arith in ap (λ n. seeded_after n s) one ∙ after_more k j (behind s)
-
-after_one : (s : Seeded) → seeded_after 1 s ≡ behind s
-unfolding seeded_after
-after_one s = refl
-
-after_none : (s : Seeded) → seeded_after 0 s ≡ s
-unfolding seeded_after
-after_none s = refl
-
--- a complete machine stays
-after_end : (n : ℕ) (s : Seeded) → is_complete s.machine ≡ true → seeded_after n s ≡ s
-unfolding seeded_after
-after_end zero s complete = refl
-after_end (suc n) s complete = ap (seeded_after n) (sym (stays s complete)) ∙ after_end n s complete
-
--- ---- what an event leaves as it was, and the lines that it adds
-
-record Keeps (m m' : Seen) : Type 0 where
-  pub image : m'.image ≡ m.image
-  pub cpus : m'.cpus ≡ m.cpus
-  pub budget : m'.budget ≡ m.budget
+-- ---- the lines that an event adds
 
 -- of the next record
 abbrev lines_of_next : Option Record → Lines
 lines_of_next None = []
 lines_of_next (Some r) = record_text r ∷ []
 
-next_keeps : (s : Seeded) (o : Option Record) → Keeps s.machine (behind_record s o).machine
-next_keeps s None = record { image = refl; cpus = refl; budget = refl }
-next_keeps s (Some r) = record { image = refl; cpus = refl; budget = refl }
-
 next_lines : (s : Seeded) (o : Option Record) → record_lines (behind_record s o).machine.records ≡ record_lines s.machine.records ++ lines_of_next o
 next_lines s None = sym (append-nil (record_lines s.machine.records))
 next_lines s (Some r) = refl
-
-after_keeps : (n : ℕ) (s : Seeded) → Keeps s.machine (seeded_after n s).machine
-unfolding seeded_after behind
-after_keeps zero s = record { image = refl; cpus = refl; budget = refl }
-after_keeps (suc n) s =
-    let one : Keeps s.machine (behind_record s (next_record s)).machine = next_keeps s (next_record s) in
-    let more : Keeps (behind_record s (next_record s)).machine (seeded_after n (behind_record s (next_record s))).machine = after_keeps n (behind_record s (next_record s)) in
-    record { image = more.image ∙ one.image; cpus = more.cpus ∙ one.cpus; budget = more.budget ∙ one.budget }
 
 -- the lines of the next so many records
 more_lines : ℕ → Seeded → Lines
@@ -84,39 +44,11 @@ after_lines (suc n) s =
 -- ---- the walk: a line was printed for each record so far
 
 pub record Seeds (b n : SinkState) (first s : Seeded) : Type 0 where
-  pub at : s ≡ seeded_after (length s.machine.records) first
-  pub few : length s.machine.records ≤ most_events first.machine
+  pub walk : Walks first s
   pub printed : Printed b n (record_lines s.machine.records)
 
 pub seeds_first : (b : SinkState) (s : Seeded) → s.machine.records ≡ [] → Seeds b b s s
-seeds_first b s none = record {
-  at = sym (after_none s) ∙ ap (λ (h : List Record). seeded_after (length h) s) (sym none);
-  few = subst (λ (h : List Record). length h ≤ most_events s.machine) (sym none) (omega arith);
-  printed = subst (λ (h : List Record). Printed b b (record_lines h)) (sym none) (printed_none b);
-}
-
--- the machine behind the next record
-record IsNextTo (first s s' : Seeded) (r : Record) : Type 0 where
-  pub records : s'.machine.records ≡ r ∷ s.machine.records
-  pub at : s' ≡ seeded_after (length s'.machine.records) first
-  pub few : length s'.machine.records ≤ most_events first.machine
-
-next_to : (b n : SinkState) (first s s' : Seeded) (r : Record) → Seeds b n first s → Some r ≡ next_record s → s' ≡ behind s → IsRun s'.machine → s.machine.cpus ≤ MAX_CPUS → IsNextTo first s s' r
-unfolding behind
-next_to b n first s s' r is shows after run cpus =
-    let records : s'.machine.records ≡ r ∷ s.machine.records = ap (λ (x : Seeded). x.machine.records) after ∙ rw (← shows) refl in
-    let one : s' ≡ seeded_after (length s.machine.records + 1) first =
-    after ∙ sym (after_one s) ∙ ap (seeded_after 1) is.at ∙ sym (after_more (length s.machine.records) 1 first) in
-    let long : length s'.machine.records ≡ length s.machine.records + 1 = ap length records ∙ omega arith in
-    let kept : Keeps first.machine s'.machine = subst (λ (x : Seeded). Keeps first.machine x.machine) (sym one) (after_keeps (length s.machine.records + 1) first) in
-    let same : s'.machine.cpus ≡ s.machine.cpus = ap (λ (x : Seeded). x.machine.cpus) after ∙ (next_keeps s (next_record s)).cpus in
-    record {
-      records = records;
-      at = one ∙ ap (λ k. seeded_after k first) (sym long);
-      few = subst (λ k. length s'.machine.records ≤ EVENTS_PER_STEP * k * first.machine.budget) kept.cpus
-          (subst (λ k. length s'.machine.records ≤ EVENTS_PER_STEP * s'.machine.cpus * k) kept.budget
-          (played_is_short s'.machine.image s'.machine.cpus s'.machine.budget s'.machine.records (subst (λ k. k ≤ MAX_CPUS) (sym same) cpus) run));
-    }
+seeds_first b s none = record { walk = walk_first s; printed = subst (λ (h : List Record). Printed b b (record_lines h)) (sym none) (printed_none b) }
 
 line_of : (h : List Record) (r : Record) (items : List ℕ) → items ≡ line_text r.event r.outcome → record_lines h ++ with_feed items ∷ [] ≡ record_lines (r ∷ h)
 line_of h r items is = ap (λ (t : List ℕ). record_lines h ++ with_feed t ∷ []) is
@@ -124,46 +56,34 @@ line_of h r items is = ap (λ (t : List ℕ). record_lines h ++ with_feed t ∷ 
 pub seeds_on : (b k n : SinkState) (first s s' : Seeded) (r : Record) (items : List ℕ) → Seeds b k first s → Some r ≡ next_record s → s' ≡ behind s → IsRun s'.machine → s.machine.cpus ≤ MAX_CPUS
     → items ≡ line_text r.event r.outcome → Printed k n (with_feed items ∷ []) → Seeds b n first s'
 seeds_on b k n first s s' r items is shows after run cpus text prints =
-    let next : IsNextTo first s s' r = next_to b k first s s' r is shows after run cpus in
+    let next : IsNextTo first s s' r = next_to first s s' r is.walk shows after run cpus in
     record {
-      at = next.at;
-      few = next.few;
+      walk = next.walk;
       printed = subst (λ (h : List Record). Printed b n (record_lines h)) (sym next.records)
           (subst (Printed b n) (line_of s.machine.records r items text) (printed_then b k n (record_lines s.machine.records) (with_feed items ∷ []) is.printed prints));
     }
 
 -- the lines so far begin those of the end
-end_lines : (first s : Seeded) (k : ℕ) → s ≡ seeded_after k first → k ≤ most_events first.machine → record_lines (end_of first).records ≡ record_lines s.machine.records ++ more_lines (most_events first.machine - k) s
+end_lines : (first s : Seeded) (walk : Walks first s) → record_lines (end_of first).records ≡ record_lines s.machine.records ++ more_lines (most_events first.machine - walk.made) s
 unfolding end_of
-end_lines first s k at few =
-    let whole : k + (most_events first.machine - k) ≡ most_events first.machine = omega (arith, few) in
+end_lines first s walk =
+    let rest : ℕ = most_events first.machine - walk.made in
+    let whole : walk.made + rest ≡ most_events first.machine = omega (arith, walk.few) in
     ap (λ j. record_lines (seeded_after j first).machine.records) (sym whole)
-    ∙ ap (λ (x : Seeded). record_lines x.machine.records) (after_more k (most_events first.machine - k) first ∙ ap (seeded_after (most_events first.machine - k)) (sym at))
-    ∙ after_lines (most_events first.machine - k) s
+    ∙ ap (λ (x : Seeded). record_lines x.machine.records) (after_more walk.made rest first ∙ ap (seeded_after rest) (sym walk.at))
+    ∙ after_lines rest s
 
 pub seeds_stop : (b k n : SinkState) (first s s' : Seeded) (r : Record) (items : List ℕ) (x : Stop) → Seeds b k first s → Some r ≡ next_record s → s' ≡ behind s → IsRun s'.machine → s.machine.cpus ≤ MAX_CPUS
     → items ≡ line_text r.event r.outcome → Stopped k n (with_feed items ∷ []) x → Stopped b n (record_lines (end_of first).records) x
 seeds_stop b k n first s s' r items x is shows after run cpus text stops =
-    let next : IsNextTo first s s' r = next_to b k first s s' r is shows after run cpus in
+    let next : IsNextTo first s s' r = next_to first s s' r is.walk shows after run cpus in
     let front : record_lines s.machine.records ++ with_feed items ∷ [] ≡ record_lines s'.machine.records = line_of s.machine.records r items text ∙ ap record_lines (sym next.records) in
-    subst (λ (t : Lines). Stopped b n t x) (sym (end_lines first s' (length s'.machine.records) next.at next.few))
-    (stopped_longer b n (record_lines s'.machine.records) (more_lines (most_events first.machine - length s'.machine.records) s') x
+    subst (λ (t : Lines). Stopped b n t x) (sym (end_lines first s' next.walk))
+    (stopped_longer b n (record_lines s'.machine.records) (more_lines (most_events first.machine - next.walk.made) s') x
     (subst (λ (t : Lines). Stopped b n t x) front (stopped_then b k n (record_lines s.machine.records) (with_feed items ∷ []) x is.printed stops)))
 
--- where no event follows, this is the end
-pub seeds_end : (b n : SinkState) (first s : Seeded) → Seeds b n first s → is_complete s.machine ≡ true → s.machine ≡ end_of first
-unfolding end_of
-seeds_end b n first s is complete =
-    let k : ℕ = length s.machine.records in
-    let whole : k + (most_events first.machine - k) ≡ most_events first.machine = omega (arith, is.few) in
-    ap (λ (x : Seeded). x.machine)
-    (sym (after_end (most_events first.machine - k) s complete)
-    ∙ ap (seeded_after (most_events first.machine - k)) is.at
-    ∙ sym (after_more k (most_events first.machine - k) first)
-    ∙ ap (λ j. seeded_after j first) whole)
-
 pub seeds_printed : (b n : SinkState) (first s : Seeded) → Seeds b n first s → is_complete s.machine ≡ true → Printed b n (record_lines (end_of first).records)
-seeds_printed b n first s is complete = subst (λ (m : Seen). Printed b n (record_lines m.records)) (seeds_end b n first s is complete) is.printed
+seeds_printed b n first s is complete = subst (λ (m : Seen). Printed b n (record_lines m.records)) (walk_end first s is.walk complete) is.printed
 
 -- ---- the whole text
 
@@ -196,15 +116,3 @@ pub all_printed : (b j k n : SinkState) (first : Seeded) (items : List ℕ) (m :
 all_printed b j k n first items m is prints records ends tails =
     subst (Printed b n) (whole_text first items is)
     (printed_then b j n (with_feed items ∷ []) (Rest first) prints (printed_then j k n (record_lines (end_of first).records) (tail (end_of first)) records (subst (λ (e : Seen). Printed k n (tail e)) ends tails)))
-
--- so fewer events may follow
-pub seeds_smaller : (b n : SinkState) (first s s' : Seeded) (r : Record) → Seeds b n first s → Some r ≡ next_record s → s' ≡ behind s → IsRun s'.machine → s.machine.cpus ≤ MAX_CPUS
-    → most_events first.machine - length s'.machine.records < most_events first.machine - length s.machine.records
-seeds_smaller b n first s s' r is shows after run cpus =
-    let next : IsNextTo first s s' r = next_to b n first s s' r is shows after run cpus in
-    let long : length s'.machine.records ≡ length s.machine.records + 1 = ap length next.records ∙ omega arith in
-    omega (arith, long, next.few)
-
--- the last call of a run leaves it as it was
-pub seeds_left : (b n : SinkState) (first s s' : Seeded) → Seeds b n first s → is_complete s.machine ≡ true → s' ≡ behind s → s'.machine ≡ end_of first
-seeds_left b n first s s' is complete after = ap (λ (x : Seeded). x.machine) (after ∙ sym (stays s complete)) ∙ seeds_end b n first s is complete

@@ -23,7 +23,8 @@ use Rattle.axp_top.specs.Printing.{Ends}
 use Rattle.axp_top.specs.Replays.{Answer, answer_of_lines}
 use Rattle.axp_top.specs.Serving.{Course, Serves, ServesTrace}
 use Rattle.axp_top.specs.Statuses.{AsksFailed, AsksFront, AsksInTurn, AsksNeeded, DeskCount, PutsEach, Settles, SettlesLawfully, SettlesSome, SinkCount}
-use Rattle.axp_top.specs.Words.{Order, Replay, Seed}
+use Rattle.axp_top.specs.SummaryTexts.{summary_answer}
+use Rattle.axp_top.specs.Words.{Gen, ImageOrder, Order, Over, Replay, Seed}
 use Rattle.axp_top.proofs.LawfulAnswerLemmas.{over_lawful, told_lawful, valid_in}
 use Rattle.axp_top.proofs.StatusLemmas.{IsAnswer, answer_is, asks_in_turn, asks_needed, desk_count, over_is, puts_each, settles, sink_count, trace_is, with_is}
 
@@ -133,11 +134,11 @@ abbrev ByFirst : Outside → Outside → Option Order → List ℕ → List ℕ 
 ByFirst b n order image trace s = Course b n (answer_over order image trace) (asks_by order (image_over order image)) s
 
 -- a course over a file that is no image
-refused_course : (b n : Outside) (order : Order) (image trace : List ℕ) (s : Status) → image_in image ≡ None → Course b n (no_image image) ((image_name order, MAX_IMAGE_BYTES) ∷ []) s → ByFirst b n (Some order) image trace s
+refused_course : (b n : Outside) (order : ImageOrder) (image trace : List ℕ) (s : Status) → image_in image ≡ None → Course b n (no_image image) ((image_name order, MAX_IMAGE_BYTES) ∷ []) s → ByFirst b n (Some (Over order)) image trace s
 refused_course b n order image trace s none h = rw none h
 
-refused_serves : (told : List ℕ → Option (List ℕ)) (b n : Outside) (order : Order) (image : List ℕ) (s : Status) → image_in image ≡ None → IfSome (told (image_name order)) (λ bytes. image ≡ bytes) → Course b n (no_image image) ((image_name order, MAX_IMAGE_BYTES) ∷ []) s
-    → Serves told (Some order) b n s
+refused_serves : (told : List ℕ → Option (List ℕ)) (b n : Outside) (order : ImageOrder) (image : List ℕ) (s : Status) → image_in image ≡ None → IfSome (told (image_name order)) (λ bytes. image ≡ bytes) → Course b n (no_image image) ((image_name order, MAX_IMAGE_BYTES) ∷ []) s
+    → Serves told (Some (Over order)) b n s
 refused_serves told b n order image s none is h = record {
   image = image;
   trace = told_or_none (trace_told_by order told);
@@ -148,8 +149,8 @@ refused_serves told b n order image s none is h = record {
 }
 
 -- the file is within its limit and no image
-pub files_refused : (told : List ℕ → Option (List ℕ)) (b n : Outside) (order : Order) (bytes : List ℕ) (f : Fault) (s : Status) → IfSome (told (image_name order)) (λ t. FetchTold t MAX_IMAGE_BYTES (Ok bytes)) → length bytes ≤ MAX_IMAGE_BYTES → first_fault bytes ≡ Some f → n.desk.faults ≡ b.desk.faults
-    → n.desk.asks ≡ b.desk.asks ++ (image_name order, MAX_IMAGE_BYTES) ∷ [] → Ends b.sink n.sink (bad_image f) s → Serves told (Some order) b n s
+pub files_refused : (told : List ℕ → Option (List ℕ)) (b n : Outside) (order : ImageOrder) (bytes : List ℕ) (f : Fault) (s : Status) → IfSome (told (image_name order)) (λ t. FetchTold t MAX_IMAGE_BYTES (Ok bytes)) → length bytes ≤ MAX_IMAGE_BYTES → first_fault bytes ≡ Some f → n.desk.faults ≡ b.desk.faults
+    → n.desk.asks ≡ b.desk.asks ++ (image_name order, MAX_IMAGE_BYTES) ∷ [] → Ends b.sink n.sink (bad_image f) s → Serves told (Some (Over order)) b n s
 files_refused told b n order bytes f s is short fault count asks ends =
     let within : nat_lt MAX_IMAGE_BYTES (length bytes) ≡ false = le-ltb MAX_IMAGE_BYTES (length bytes) short in
     refused_serves told b n order bytes s (rw within (fault_is_no_image bytes f fault)) (handed_is (told (image_name order)) bytes MAX_IMAGE_BYTES is)
@@ -160,8 +161,8 @@ none_is_no_image : image_of [] ≡ None
 unfolding image_of grammar.header_of grammar.number_at grammar.piece_at
 none_is_no_image = refl
 
-pub files_long : (told : List ℕ → Option (List ℕ)) (b n : Outside) (order : Order) (s : Status) (f : FetchFault) → f ≡ fetch.TooLong → IfSome (told (image_name order)) (λ t. FetchTold t MAX_IMAGE_BYTES (Err f)) → FetchCount b.desk.faults n.desk.faults (Err f)
-    → FetchAsks b.desk.asks n.desk.asks (image_name order, MAX_IMAGE_BYTES) (Err f) → Ends b.sink n.sink too_long s → Serves told (Some order) b n s
+pub files_long : (told : List ℕ → Option (List ℕ)) (b n : Outside) (order : ImageOrder) (s : Status) (f : FetchFault) → f ≡ fetch.TooLong → IfSome (told (image_name order)) (λ t. FetchTold t MAX_IMAGE_BYTES (Err f)) → FetchCount b.desk.faults n.desk.faults (Err f)
+    → FetchAsks b.desk.asks n.desk.asks (image_name order, MAX_IMAGE_BYTES) (Err f) → Ends b.sink n.sink too_long s → Serves told (Some (Over order)) b n s
 files_long told b n order s fetch.TooLong is long count asks ends =
     let list = told_or_long MAX_IMAGE_BYTES (told (image_name order)) in
     let over : nat_lt MAX_IMAGE_BYTES (length list) ≡ true = lt-ltb MAX_IMAGE_BYTES (length list) (is_longer MAX_IMAGE_BYTES (told (image_name order)) long) in
@@ -170,7 +171,7 @@ files_long told b n order s fetch.Failed is long count asks ends = cc
 files_long told b n order s fetch.Memory is long count asks ends = cc
 
 -- what holds over each first file
-each_serves : (told : List ℕ → Option (List ℕ)) (b n : Outside) (order : Order) (s : Status) → ((image trace : List ℕ) → ByFirst b n (Some order) image trace s) → Serves told (Some order) b n s
+each_serves : (told : List ℕ → Option (List ℕ)) (b n : Outside) (order : ImageOrder) (s : Status) → ((image trace : List ℕ) → ByFirst b n (Some (Over order)) image trace s) → Serves told (Some (Over order)) b n s
 each_serves told b n order s each = record {
   image = told_or_none (told (image_name order));
   trace = told_or_none (trace_told_by order told);
@@ -180,40 +181,40 @@ each_serves told b n order s each = record {
   sure = inr (λ other. each other (told_or_none (trace_told_by order told)));
 }
 
-failed_by : (b n : Outside) (order : Order) (bytes : List ℕ) (image : Option Contents) (trace : List ℕ) (s : Status) (f : FetchFault) → f ≡ fetch.Failed → FetchCount b.desk.faults n.desk.faults (Err f) → FetchAsks b.desk.asks n.desk.asks (image_name order, MAX_IMAGE_BYTES) (Err f)
-    → Ends b.sink n.sink read_fault s → Course b n (answer_by order bytes image trace) (asks_by (Some order) image) s
+failed_by : (b n : Outside) (order : ImageOrder) (bytes : List ℕ) (image : Option Contents) (trace : List ℕ) (s : Status) (f : FetchFault) → f ≡ fetch.Failed → FetchCount b.desk.faults n.desk.faults (Err f) → FetchAsks b.desk.asks n.desk.asks (image_name order, MAX_IMAGE_BYTES) (Err f)
+    → Ends b.sink n.sink read_fault s → Course b n (answer_by order bytes image trace) (asks_by (Some (Over order)) image) s
 failed_by b n order bytes None trace s f is count asks ends = failed_course b n (no_image bytes) _ [] s f is count asks ends
 failed_by b n order bytes (Some image) trace s f is count asks ends = failed_course b n (answer_with order image trace) _ _ s f is count asks ends
 
-pub files_failed : (told : List ℕ → Option (List ℕ)) (b n : Outside) (order : Order) (s : Status) (f : FetchFault) → f ≡ fetch.Failed → FetchCount b.desk.faults n.desk.faults (Err f) → FetchAsks b.desk.asks n.desk.asks (image_name order, MAX_IMAGE_BYTES) (Err f)
-    → Ends b.sink n.sink read_fault s → Serves told (Some order) b n s
+pub files_failed : (told : List ℕ → Option (List ℕ)) (b n : Outside) (order : ImageOrder) (s : Status) (f : FetchFault) → f ≡ fetch.Failed → FetchCount b.desk.faults n.desk.faults (Err f) → FetchAsks b.desk.asks n.desk.asks (image_name order, MAX_IMAGE_BYTES) (Err f)
+    → Ends b.sink n.sink read_fault s → Serves told (Some (Over order)) b n s
 files_failed told b n order s f is count asks ends = each_serves told b n order s (λ image trace. failed_by b n order image (image_in image) trace s f is count asks ends)
 
 -- memory was not found, once the first file was asked for or before
 longer_front : (before now : List Ask) (ask : Ask) (more : List Ask) → AsksFront before now (ask ∷ []) → AsksFront before now (ask ∷ more)
 longer_front before now ask more h = (h.0, h.1 ++ more, ap (λ (xs : List Ask). xs ++ more) h.2 ∙ append_assoc h.0 h.1 more, h.3)
 
-unfound_by : (b n : Outside) (order : Order) (bytes : List ℕ) (image : Option Contents) (trace : List ℕ) → n.sink ≡ b.sink → n.desk.faults ≡ b.desk.faults → AsksFront b.desk.asks n.desk.asks ((image_name order, MAX_IMAGE_BYTES) ∷ [])
-    → Course b n (answer_by order bytes image trace) (asks_by (Some order) image) status.Memory
+unfound_by : (b n : Outside) (order : ImageOrder) (bytes : List ℕ) (image : Option Contents) (trace : List ℕ) → n.sink ≡ b.sink → n.desk.faults ≡ b.desk.faults → AsksFront b.desk.asks n.desk.asks ((image_name order, MAX_IMAGE_BYTES) ∷ [])
+    → Course b n (answer_by order bytes image trace) (asks_by (Some (Over order)) image) status.Memory
 unfound_by b n order bytes None trace same count some = unfound_course b n (no_image bytes) _ same count some
 unfound_by b n order bytes (Some image) trace same count some = unfound_course b n (answer_with order image trace) _ same count (longer_front b.desk.asks n.desk.asks _ _ some)
 
-files_unfound : (told : List ℕ → Option (List ℕ)) (b n : Outside) (order : Order) → n.sink ≡ b.sink → n.desk.faults ≡ b.desk.faults → AsksFront b.desk.asks n.desk.asks ((image_name order, MAX_IMAGE_BYTES) ∷ []) → Serves told (Some order) b n status.Memory
+files_unfound : (told : List ℕ → Option (List ℕ)) (b n : Outside) (order : ImageOrder) → n.sink ≡ b.sink → n.desk.faults ≡ b.desk.faults → AsksFront b.desk.asks n.desk.asks ((image_name order, MAX_IMAGE_BYTES) ∷ []) → Serves told (Some (Over order)) b n status.Memory
 files_unfound told b n order same count some = each_serves told b n order status.Memory (λ image trace. unfound_by b n order image (image_in image) trace same count some)
 
-pub files_unfound_first : (told : List ℕ → Option (List ℕ)) (b n : Outside) (order : Order) (f : FetchFault) → f ≡ fetch.Memory → n.sink ≡ b.sink → FetchCount b.desk.faults n.desk.faults (Err f) → FetchAsks b.desk.asks n.desk.asks (image_name order, MAX_IMAGE_BYTES) (Err f)
-    → Serves told (Some order) b n status.Memory
+pub files_unfound_first : (told : List ℕ → Option (List ℕ)) (b n : Outside) (order : ImageOrder) (f : FetchFault) → f ≡ fetch.Memory → n.sink ≡ b.sink → FetchCount b.desk.faults n.desk.faults (Err f) → FetchAsks b.desk.asks n.desk.asks (image_name order, MAX_IMAGE_BYTES) (Err f)
+    → Serves told (Some (Over order)) b n status.Memory
 files_unfound_first told b n order fetch.Memory is same count asks = files_unfound told b n order same count (memory_front b.desk.asks n.desk.asks (image_name order, MAX_IMAGE_BYTES) asks)
 files_unfound_first told b n order fetch.Failed is same count asks = cc
 files_unfound_first told b n order fetch.TooLong is same count asks = cc
 
-pub files_unfound_image : (told : List ℕ → Option (List ℕ)) (b n : Outside) (order : Order) → n.sink ≡ b.sink → n.desk.faults ≡ b.desk.faults → n.desk.asks ≡ b.desk.asks ++ (image_name order, MAX_IMAGE_BYTES) ∷ [] → Serves told (Some order) b n status.Memory
+pub files_unfound_image : (told : List ℕ → Option (List ℕ)) (b n : Outside) (order : ImageOrder) → n.sink ≡ b.sink → n.desk.faults ≡ b.desk.faults → n.desk.asks ≡ b.desk.asks ++ (image_name order, MAX_IMAGE_BYTES) ∷ [] → Serves told (Some (Over order)) b n status.Memory
 files_unfound_image told b n order same count asks = files_unfound told b n order same count (all_front b.desk.asks n.desk.asks _ asks)
 
 -- the run that a seed defines, over the image
 pub seed_served : (told : List ℕ → Option (List ℕ)) (b n : Outside) (first : List ℕ) (cpus budget seed : ℕ) (bytes : List ℕ) (image : Contents) (s : Status) → IfSome (told first) (λ t. FetchTold t MAX_IMAGE_BYTES (Ok bytes)) → length bytes ≤ MAX_IMAGE_BYTES
     → Some image ≡ image_of bytes → IsValid image → n.desk.faults ≡ b.desk.faults → n.desk.asks ≡ b.desk.asks ++ (first, MAX_IMAGE_BYTES) ∷ [] → Ends b.sink n.sink (seeded_answer image cpus budget seed) s
-    → Serves told (Some (Seed first cpus budget seed)) b n s
+    → Serves told (Some (Over (Seed first cpus budget seed))) b n s
 seed_served told b n first cpus budget seed bytes image s is short reads valid count asks ends =
     let image_is : image_in bytes ≡ Some image = rw (le-ltb MAX_IMAGE_BYTES (length bytes) short) (sym reads) in
     record {
@@ -265,7 +266,7 @@ told_before now before bytes same is = subst (λ (o : Option (List ℕ)). IfSome
 
 pub files_served : (told told' : List ℕ → Option (List ℕ)) (b n : Outside) (desk : DeskState) (first second bytes : List ℕ) (image : Contents) (s : Status) → IfSome (told first) (λ t. FetchTold t MAX_IMAGE_BYTES (Ok bytes)) → length bytes ≤ MAX_IMAGE_BYTES
     → Some image ≡ image_of bytes → IsValid image → desk.faults ≡ b.desk.faults → desk.asks ≡ b.desk.asks ++ (first, MAX_IMAGE_BYTES) ∷ [] → ((name : List ℕ) → told' name ≡ told name)
-    → ServesTrace (told' second) (second, MAX_TRACE_BYTES) image (with_desk b desk) n s → Serves told (Some (Replay first second)) b n s
+    → ServesTrace (told' second) (second, MAX_TRACE_BYTES) image (with_desk b desk) n s → Serves told (Some (Over (Replay first second))) b n s
 files_served told told' b n desk first second bytes image s is short reads valid count asks stays h =
     let image_is : image_in bytes ≡ Some image = rw (le-ltb MAX_IMAGE_BYTES (length bytes) short) (sym reads) in
     record {
@@ -277,24 +278,25 @@ files_served told told' b n desk first second bytes image s is short reads valid
       sure = inl (rw image_is valid);
     }
 
--- ---- no command
+-- ---- a summary, and no command: nothing is asked for
+
+unasked_course : (b n : Outside) (a : Answer) (s : Status) → n.desk ≡ b.desk → Ends b.sink n.sink a s → Course b n a [] s
+unasked_course b n a s same ends =
+    let asks : n.desk.asks ≡ b.desk.asks = ap (λ (d : DeskState). d.asks) same in
+    inl (record {
+      ends = ends;
+      count = ap (λ (d : DeskState). d.faults) same;
+      some = none_front b.desk.asks n.desk.asks [] asks;
+      all = λ unless. asks ∙ sym (append-nil b.desk.asks);
+    })
+
+pub summary_served : (told : List ℕ → Option (List ℕ)) (b n : Outside) (number : ℕ) (s : Status) → n.desk ≡ b.desk → Ends b.sink n.sink (summary_answer number) s → Serves told (Some (Gen number)) b n s
+summary_served told b n number s same ends =
+    record { image = []; trace = []; image_is_told = tt; trace_is_told = tt; course = unasked_course b n (summary_answer number) s same ends; sure = inl tt }
 
 pub nothing_served : (told : List ℕ → Option (List ℕ)) (b n : Outside) (s : Status) → n.desk ≡ b.desk → Ends b.sink n.sink usage s → Serves told None b n s
 nothing_served told b n s same ends =
-    let asks : n.desk.asks ≡ b.desk.asks = ap (λ (d : DeskState). d.asks) same in
-    record {
-      image = [];
-      trace = [];
-      image_is_told = tt;
-      trace_is_told = tt;
-      course = inl (record {
-        ends = ends;
-        count = ap (λ (d : DeskState). d.faults) same;
-        some = none_front b.desk.asks n.desk.asks [] asks;
-        all = λ unless. asks ∙ sym (append-nil b.desk.asks);
-      });
-      sure = inl tt;
-    }
+    record { image = []; trace = []; image_is_told = tt; trace_is_told = tt; course = unasked_course b n usage s same ends; sure = inl tt }
 
 -- ---- the clauses, where the files are told
 
@@ -304,16 +306,16 @@ record IsServed (b n : Outside) (s : Status) (a : Answer) : Type 0 where
   pub asks : List Ask
   pub course : Course b n a asks s
 
-told_if_served : (b n : Outside) (asks : List Ask) (s : Status) (order : Order) (image : Contents) (trace : List ℕ) (told : Option (List ℕ)) → IfSome told (λ t. trace ≡ t) → Course b n (answer_with order image trace) asks s → IfSome (answer_if_told order image told) (IsServed b n s)
+told_if_served : (b n : Outside) (asks : List Ask) (s : Status) (order : ImageOrder) (image : Contents) (trace : List ℕ) (told : Option (List ℕ)) → IfSome told (λ t. trace ≡ t) → Course b n (answer_with order image trace) asks s → IfSome (answer_if_told order image told) (IsServed b n s)
 told_if_served b n asks s (Replay i t) image trace None is h = tt
 told_if_served b n asks s (Replay i t) image trace (Some list) is h = subst (λ (x : List ℕ). IsServed b n s (answer_of_trace image x)) is (record { is = trace_is image trace; asks = asks; course = h })
 told_if_served b n asks s (Seed i cpus budget seed) image trace told is h = record { is = with_is (Seed i cpus budget seed) image trace; asks = asks; course = h }
 
-image_served : (b n : Outside) (asks : List Ask) (s : Status) (order : Order) (bytes : List ℕ) (image : Option Contents) (trace : List ℕ) (told : Option (List ℕ)) → IfSome told (λ t. trace ≡ t) → Course b n (answer_by order bytes image trace) asks s → IfSome (answer_of_image order bytes image told) (IsServed b n s)
+image_served : (b n : Outside) (asks : List Ask) (s : Status) (order : ImageOrder) (bytes : List ℕ) (image : Option Contents) (trace : List ℕ) (told : Option (List ℕ)) → IfSome told (λ t. trace ≡ t) → Course b n (answer_by order bytes image trace) asks s → IfSome (answer_of_image order bytes image told) (IsServed b n s)
 image_served b n asks s order bytes None trace told is h = record { is = answer_is order bytes None trace; asks = asks; course = h }
 image_served b n asks s order bytes (Some image) trace told is h = told_if_served b n asks s order image trace told is h
 
-files_told : (b n : Outside) (asks : List Ask) (s : Status) (order : Order) (image trace : List ℕ) (told_image told_trace : Option (List ℕ)) → IfSome told_image (λ t. image ≡ t) → IfSome told_trace (λ t. trace ≡ t) → Course b n (answer_by order image (image_in image) trace) asks s
+files_told : (b n : Outside) (asks : List Ask) (s : Status) (order : ImageOrder) (image trace : List ℕ) (told_image told_trace : Option (List ℕ)) → IfSome told_image (λ t. image ≡ t) → IfSome told_trace (λ t. trace ≡ t) → Course b n (answer_by order image (image_in image) trace) asks s
     → IfSome (answer_of_files order told_image told_trace) (IsServed b n s)
 files_told b n asks s order image trace None told_trace is others h = tt
 files_told b n asks s order image trace (Some t) told_trace is others h =
@@ -321,7 +323,8 @@ files_told b n asks s order image trace (Some t) told_trace is others h =
 
 told_served : (told : List ℕ → Option (List ℕ)) (order : Option Order) (b n : Outside) (s : Status) → Serves told order b n s → IfSome (answer_of order told) (IsServed b n s)
 told_served told None b n s h = record { is = over_is None [] []; asks = []; course = h.course }
-told_served told (Some order) b n s h = files_told b n _ s order h.image h.trace (told (image_name order)) (trace_told_by order told) h.image_is_told h.trace_is_told h.course
+told_served told (Some (Gen number)) b n s h = record { is = over_is (Some (Gen number)) [] []; asks = []; course = h.course }
+told_served told (Some (Over order)) b n s h = files_told b n _ s order h.image h.trace (told (image_name order)) (trace_told_by order told) h.image_is_told h.trace_is_told h.course
 
 -- what follows of an answer that may be none
 if_some : {A : Type 0} (P Q : A → Type 0) (o : Option A) → ((x : A) → P x → Q x) → IfSome o P → IfSome o Q
@@ -344,9 +347,10 @@ serves_lawfully told order b n s h all = both b n s order _ _ (answer_of order t
 
 pub serves_needed : (told : List ℕ → Option (List ℕ)) (order : Option Order) (b n : Outside) (s : Status) → Serves told order b n s → IfSome (image_told order told) (λ bytes. AsksNeeded b.desk n.desk (asks_by order (image_in bytes)) s)
 serves_needed told None b n s h = tt
-serves_needed told (Some order) b n s h =
-    if_some (λ bytes. h.image ≡ bytes) (λ bytes. AsksNeeded b.desk n.desk (asks_by (Some order) (image_in bytes)) s) (told (image_name order))
-    (λ bytes is. subst (λ (x : List ℕ). AsksNeeded b.desk n.desk (asks_by (Some order) (image_in x)) s) is (asks_needed b n (answer_by order h.image (image_in h.image) h.trace) _ s (answer_is order h.image (image_in h.image) h.trace) h.course))
+serves_needed told (Some (Gen number)) b n s h = tt
+serves_needed told (Some (Over order)) b n s h =
+    if_some (λ bytes. h.image ≡ bytes) (λ bytes. AsksNeeded b.desk n.desk (asks_by (Some (Over order)) (image_in bytes)) s) (told (image_name order))
+    (λ bytes is. subst (λ (x : List ℕ). AsksNeeded b.desk n.desk (asks_by (Some (Over order)) (image_in x)) s) is (asks_needed b n (answer_by order h.image (image_in h.image) h.trace) _ s (answer_is order h.image (image_in h.image) h.trace) h.course))
     h.image_is_told
 
 -- ---- and where nothing is told
@@ -392,11 +396,13 @@ some_over told order b n s h image is valid course = record {
 -- the empty list has no image
 empty_valid : (order : Option Order) → IfSome (image_over order []) IsValid
 empty_valid None = tt
-empty_valid (Some order) = rw none_is_no_image tt
+empty_valid (Some (Gen number)) = tt
+empty_valid (Some (Over order)) = rw none_is_no_image tt
 
 bytes_valid : (order : Option Order) (bytes : List ℕ) → AreBytes bytes → IfSome (image_over order bytes) IsValid
 bytes_valid None bytes all = tt
-bytes_valid (Some order) bytes all = valid_in bytes all
+bytes_valid (Some (Gen number)) bytes all = tt
+bytes_valid (Some (Over order)) bytes all = valid_in bytes all
 
 -- any first file will do: the told one, if it is of bytes
 some_of_each : (told : List ℕ → Option (List ℕ)) (order : Option Order) (b n : Outside) (s : Status) (h : Serves told order b n s) (first : Option (List ℕ)) → image_told order told ≡ first → ((other : List ℕ) → ByFirst b n order other h.trace s) → SettlesSome told b n order s

@@ -26,8 +26,8 @@ use Rattle.axp_top.specs.declared.limits.TheConstants.{MAX_IMAGE_BYTES, MAX_TRAC
 use Rattle.axp_top.specs.declared.printing.Stop.TheVariants as stop
 use Rattle.axp_top.specs.declared.status.Status.{Status}
 use Rattle.axp_top.specs.declared.status.Status.TheVariants as status
-use Rattle.axp_seed.specs.Seeds.{seeded_start}
-use Rattle.axp_top.specs.SeededRuns.{end_of, whole_answer}
+use Rattle.axp_seed.specs.Seeds.{end_of, seeded_start}
+use Rattle.axp_top.specs.SeededRuns.{whole_answer}
 use Rattle.axp_top.specs.Answers.{answer_by, answer_of_trace, answer_over, answer_with, more_asks, asks_by, asks_of, first_bad, image_in, no_image, read_fault, too_long, usage}
 use Rattle.axp_top.specs.Lawful.{image_over}
 use Rattle.axp_top.specs.Outside.{Outside, SinkState}
@@ -36,7 +36,9 @@ use Rattle.axp_top.specs.Replays.{Answer, FileLine, LineResult, OfTail, Recorded
 use Rattle.axp_top.specs.Serving.{Course}
 use Rattle.axp_top.specs.Statuses.{AsksFailed, AsksFront, AsksInTurn, AsksNeeded, DeskCount, PutsEach, PutsLines, Settles, SinkCount}
 use Rattle.axp_top.specs.Texts.{Lines, header_text, record_lines, right_header, tail}
-use Rattle.axp_top.specs.Words.{Order, Replay, Seed}
+use Rattle.axp_summary.specs.Summaries.{summary_of}
+use Rattle.axp_top.specs.SummaryTexts.{all_count_lines, events_text, summary_answer, title_text}
+use Rattle.axp_top.specs.Words.{Gen, ImageOrder, Order, Over, Replay, Seed}
 
 -- ---- answers
 
@@ -192,20 +194,24 @@ no_image_is bytes = by_length (nat_lt MAX_IMAGE_BYTES (length bytes)) (first_bad
 whole_is : (m : Seen) → IsAnswer (whole_answer m)
 whole_is m = record { differs = no_fault status.Done refl; some = headed (header_text m) (record_lines m.records) (tail m) }
 
-pub with_is : (order : Order) (image : Contents) (bytes : List ℕ) → IsAnswer (answer_with order image bytes)
+pub with_is : (order : ImageOrder) (image : Contents) (bytes : List ℕ) → IsAnswer (answer_with order image bytes)
 with_is (Replay i t) image bytes = trace_is image bytes
 with_is (Seed i cpus budget seed) image bytes = whole_is (end_of (seeded_start image cpus budget seed))
 
-pub answer_is : (order : Order) (first : List ℕ) (image : Option Contents) (bytes : List ℕ) → IsAnswer (answer_by order first image bytes)
+pub answer_is : (order : ImageOrder) (first : List ℕ) (image : Option Contents) (bytes : List ℕ) → IsAnswer (answer_by order first image bytes)
 answer_is order first None bytes = no_image_is first
 answer_is order first (Some image) bytes = with_is order image bytes
+
+summary_is : (number : ℕ) → IsAnswer (summary_answer number)
+summary_is number = record { differs = no_fault status.Done refl; some = headed (title_text number (summary_of number)) (all_count_lines (summary_of number)) (events_text (summary_of number) ∷ []) }
 
 usage_is : IsAnswer usage
 usage_is = one_is status.Usage _ refl
 
 pub over_is : (order : Option Order) (first trace : List ℕ) → IsAnswer (answer_over order first trace)
 over_is None first trace = usage_is
-over_is (Some order) first trace = answer_is order first (image_in first) trace
+over_is (Some (Gen number)) first trace = summary_is number
+over_is (Some (Over order)) first trace = answer_is order first (image_in first) trace
 
 -- ---- the text
 
@@ -365,10 +371,11 @@ turn_first b n a asks more status.ReadFault is (inl h) = let never : false ≡ t
 turn_first b n a asks more s is (inl h) = let never : false ≡ true = ap is_of_file h.ends.0 ∙ is in cc
 turn_first b n a asks more s is (inr h) = let e : s ≡ status.ReadFault = h.ends.0 in cc
 
-turn_by : (b n : Outside) (order : Order) (bytes : List ℕ) (image : Option Contents) (trace : List ℕ) (s : Status) → Course b n (answer_by order bytes image trace) (asks_by (Some order) image) s → AsksInTurn b.desk.asks n.desk.asks (asks_of (Some order)) s
+turn_by : (b n : Outside) (order : ImageOrder) (bytes : List ℕ) (image : Option Contents) (trace : List ℕ) (s : Status) → Course b n (answer_by order bytes image trace) (asks_by (Some (Over order)) image) s → AsksInTurn b.desk.asks n.desk.asks (asks_of (Some (Over order))) s
 turn_by b n order bytes None trace s h = turn_first b n (no_image bytes) _ (more_asks order) s (no_image_of_file bytes) h
 turn_by b n order bytes (Some image) trace s h = turn_all b n (answer_with order image trace) _ s (with_is order image trace) h
 
 pub asks_in_turn : (b n : Outside) (order : Option Order) (image trace : List ℕ) (s : Status) → Course b n (answer_over order image trace) (asks_by order (image_over order image)) s → AsksInTurn b.desk.asks n.desk.asks (asks_of order) s
 asks_in_turn b n None image trace s h = turn_all b n usage [] s usage_is h
-asks_in_turn b n (Some order) image trace s h = turn_by b n order image (image_in image) trace s h
+asks_in_turn b n (Some (Gen number)) image trace s h = turn_all b n (summary_answer number) [] s (summary_is number) h
+asks_in_turn b n (Some (Over order)) image trace s h = turn_by b n order image (image_in image) trace s h

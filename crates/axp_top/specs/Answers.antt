@@ -10,7 +10,8 @@ use Rattle.axp_top.specs.declared.status.Status.TheVariants as status
 use Rattle.axp_top.specs.declared.limits.TheConstants.{MAX_IMAGE_BYTES, MAX_TRACE_BYTES}
 use Rattle.axp_top.specs.Replays.{Answer, answer_in_one_line, answer_of_lines}
 use Rattle.axp_top.specs.SeededRuns.{seeded_answer}
-use Rattle.axp_top.specs.Words.{Order, Replay, Seed}
+use Rattle.axp_top.specs.SummaryTexts.{summary_answer}
+use Rattle.axp_top.specs.Words.{Gen, ImageOrder, Order, Over, Replay, Seed}
 
 abbrev pub usage : Answer
 usage = answer_in_one_line status.Usage usage_line
@@ -41,75 +42,81 @@ abbrev pub answer_of_trace : Contents → List ℕ → Answer
 answer_of_trace image bytes = if nat_lt MAX_TRACE_BYTES (length bytes) then too_long else answer_of_lines image (lines_of bytes)
 
 -- what a command answers over an image, by the second file; a seeded run has none
-abbrev pub answer_with : Order → Contents → List ℕ → Answer
+abbrev pub answer_with : ImageOrder → Contents → List ℕ → Answer
 answer_with (Replay image trace) contents list = answer_of_trace contents list
 answer_with (Seed image cpus budget seed) contents list = seeded_answer contents cpus budget seed
 
 -- by the first file, the image that it is, and the second file
-abbrev pub answer_by : Order → List ℕ → Option Contents → List ℕ → Answer
+abbrev pub answer_by : ImageOrder → List ℕ → Option Contents → List ℕ → Answer
 answer_by order first None trace = no_image first
 answer_by order first (Some image) trace = answer_with order image trace
 
 -- the answer by the lists that the desk hands over
 abbrev pub answer_over : Option Order → List ℕ → List ℕ → Answer
 answer_over None first trace = usage
-answer_over (Some order) first trace = answer_by order first (image_in first) trace
+answer_over (Some (Gen number)) first trace = summary_answer number
+answer_over (Some (Over order)) first trace = answer_by order first (image_in first) trace
 
 -- the second file of a command that has one, None where the desk does not tell it
-abbrev pub answer_if_told : Order → Contents → Option (List ℕ) → Option Answer
+abbrev pub answer_if_told : ImageOrder → Contents → Option (List ℕ) → Option Answer
 answer_if_told (Replay image trace) contents None = None
 answer_if_told (Replay image trace) contents (Some list) = Some (answer_of_trace contents list)
 answer_if_told (Seed image cpus budget seed) contents list = Some (seeded_answer contents cpus budget seed)
 
 -- by the first file, the image that it is, and the second
-abbrev pub answer_of_image : Order → List ℕ → Option Contents → Option (List ℕ) → Option Answer
+abbrev pub answer_of_image : ImageOrder → List ℕ → Option Contents → Option (List ℕ) → Option Answer
 answer_of_image order first None trace = Some (no_image first)
 answer_of_image order first (Some image) trace = answer_if_told order image trace
 
-abbrev pub answer_of_files : Order → Option (List ℕ) → Option (List ℕ) → Option Answer
+abbrev pub answer_of_files : ImageOrder → Option (List ℕ) → Option (List ℕ) → Option Answer
 answer_of_files order None trace = None
 answer_of_files order (Some first) trace = answer_of_image order first (image_in first) trace
 
 -- the name of a command's image
-abbrev pub image_name : Order → List ℕ
+abbrev pub image_name : ImageOrder → List ℕ
 image_name (Replay image trace) = image
 image_name (Seed image cpus budget seed) = image
 
 -- what the desk tells under the names of a command's files
 abbrev pub image_told : Option Order → (List ℕ → Option (List ℕ)) → Option (List ℕ)
 image_told None told = None
-image_told (Some order) told = told (image_name order)
+image_told (Some (Gen number)) told = None
+image_told (Some (Over order)) told = told (image_name order)
 
-abbrev pub trace_told_by : Order → (List ℕ → Option (List ℕ)) → Option (List ℕ)
+abbrev pub trace_told_by : ImageOrder → (List ℕ → Option (List ℕ)) → Option (List ℕ)
 trace_told_by (Replay image trace) told = told trace
 trace_told_by (Seed image cpus budget seed) told = None
 
 abbrev pub trace_told : Option Order → (List ℕ → Option (List ℕ)) → Option (List ℕ)
 trace_told None told = None
-trace_told (Some order) told = trace_told_by order told
+trace_told (Some (Gen number)) told = None
+trace_told (Some (Over order)) told = trace_told_by order told
 
 -- the answer; None where a list that it needs is not told
 abbrev pub answer_of : Option Order → (List ℕ → Option (List ℕ)) → Option Answer
 answer_of None told = Some usage
-answer_of (Some order) told = answer_of_files order (told (image_name order)) (trace_told_by order told)
+answer_of (Some (Gen number)) told = Some (summary_answer number)
+answer_of (Some (Over order)) told = answer_of_files order (told (image_name order)) (trace_told_by order told)
 
 -- ---- what is asked of the desk, in order
 
 -- the asks behind that for the image
-abbrev pub more_asks : Order → List Ask
+abbrev pub more_asks : ImageOrder → List Ask
 more_asks (Replay image trace) = (trace, MAX_TRACE_BYTES) ∷ []
 more_asks (Seed image cpus budget seed) = []
 
--- all that a command may ask for; words outside the grammar ask for nothing
+-- all that a command may ask for; a summary and words outside the grammar ask for nothing
 abbrev pub asks_of : Option Order → List Ask
 asks_of None = []
-asks_of (Some order) = (image_name order, MAX_IMAGE_BYTES) ∷ more_asks order
+asks_of (Some (Gen number)) = []
+asks_of (Some (Over order)) = (image_name order, MAX_IMAGE_BYTES) ∷ more_asks order
 
 -- what it asks for by the image that the first file is: the second is of use only behind an image
-abbrev pub asks_by_image : Order → Option Contents → List Ask
+abbrev pub asks_by_image : ImageOrder → Option Contents → List Ask
 asks_by_image order None = []
 asks_by_image order (Some contents) = more_asks order
 
 abbrev pub asks_by : Option Order → Option Contents → List Ask
 asks_by None image = []
-asks_by (Some order) image = (image_name order, MAX_IMAGE_BYTES) ∷ asks_by_image order image
+asks_by (Some (Gen number)) image = []
+asks_by (Some (Over order)) image = (image_name order, MAX_IMAGE_BYTES) ∷ asks_by_image order image

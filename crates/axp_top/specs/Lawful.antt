@@ -20,9 +20,12 @@ use Rattle.axp_top.specs.Answers.{image_in}
 use Rattle.axp_top.specs.Replays.{Answer, FileLine, Refused, next_line, other_memory, result_of, tail_refusal}
 use Rattle.axp_top.specs.Texts.{lines}
 use Rattle.axp_base.specs.declared.processors.TheConstants.{MAX_CPUS}
-use Rattle.axp_seed.specs.Seeds.{seeded_start}
-use Rattle.axp_top.specs.SeededRuns.{end_of, whole_answer}
-use Rattle.axp_top.specs.Words.{Order, Replay, Seed}
+use Rattle.axp_gen.specs.Shapes.{shape_of}
+use Rattle.axp_seed.specs.Seeds.{end_of, seeded_start}
+use Rattle.axp_summary.specs.Rounds.{IsWholeRun, end_of_round}
+use Rattle.axp_top.specs.SeededRuns.{whole_answer}
+use Rattle.axp_top.specs.SummaryTexts.{summary_answer}
+use Rattle.axp_top.specs.Words.{Gen, ImageOrder, Order, Over, Replay, Seed}
 
 -- the event that a line shows, of a list or of a trace
 abbrev pub event_shown : Option TraceLine → Option Event
@@ -143,15 +146,22 @@ pub record ShowsSeeded (image : Contents) (cpus budget seed : ℕ) (answer : Ans
   pub constraints : KeepsConstraints machine
 
 -- by the command, over an image
-abbrev pub IsLawfulOver : Option Order → Contents → List FileLine → Answer → Type 0
-IsLawfulOver None image ls answer = RefusesAll answer
-IsLawfulOver (Some (Replay i t)) image ls answer = IsLawfulReplay image ls answer
-IsLawfulOver (Some (Seed i cpus budget seed)) image ls answer = cpus ≤ MAX_CPUS → ShowsSeeded image cpus budget seed answer
+abbrev pub IsLawfulOver : ImageOrder → Contents → List FileLine → Answer → Type 0
+IsLawfulOver (Replay i t) image ls answer = IsLawfulReplay image ls answer
+IsLawfulOver (Seed i cpus budget seed) image ls answer = cpus ≤ MAX_CPUS → ShowsSeeded image cpus budget seed answer
 
--- without an image the answer refuses
+-- The answer is the summary of a number. The machine at the end of each of its rounds is complete, and the records keep
+-- the constraints of shared memory.
+pub record ShowsSummary (number : ℕ) (answer : Answer) : Type 0 where
+  pub shown : answer ≡ summary_answer number
+  pub rounds : (round : ℕ) → IsWholeRun (shape_of number) (end_of_round number round)
+
+-- where a command needs an image and there is none the answer refuses
 abbrev pub IsLawful : Option Order → Option Contents → List FileLine → Answer → Type 0
-IsLawful order None ls answer = RefusesAll answer
-IsLawful order (Some image) ls answer = IsLawfulOver order image ls answer
+IsLawful None image ls answer = RefusesAll answer
+IsLawful (Some (Gen number)) image ls answer = ShowsSummary number answer
+IsLawful (Some (Over order)) None ls answer = RefusesAll answer
+IsLawful (Some (Over order)) (Some image) ls answer = IsLawfulOver order image ls answer
 
 -- the image and the lines in files that are told
 abbrev pub image_of_file : Option (List ℕ) → Option Contents
@@ -165,4 +175,5 @@ lines_of_file (Some bytes) = lines_of bytes
 -- the image in a file that was handed over to a command
 abbrev pub image_over : Option Order → List ℕ → Option Contents
 image_over None bytes = None
-image_over (Some order) bytes = image_in bytes
+image_over (Some (Gen number)) bytes = None
+image_over (Some (Over order)) bytes = image_in bytes

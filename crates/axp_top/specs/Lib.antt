@@ -9,3 +9,4 @@ pub mod Lawful
 pub mod Statuses
 pub mod Serving
 pub mod SeededRuns
+pub mod SummaryTexts

@@ -1,22 +1,13 @@
 -- What `seed` prints: the run that a seed defines, whole.
-use Rattle.std.specs.Prelude.{ℕ, ◌*◌, ◌++◌, ◌≤◌, Option, Some}
+use Rattle.std.specs.Prelude.{ℕ, ◌++◌, ◌≤◌, Option, Some}
 use Rattle.axp_image.specs.Contents.{Contents}
 use Rattle.axp_base.specs.declared.processors.TheConstants.{MAX_BUDGET, MAX_CPUS, MIN_CPUS}
 use Rattle.axp_machine.specs.Runs.{Seen}
-use Rattle.axp_seed.specs.Seeds.{Seeded, seeded_after, seeded_start}
+use Rattle.axp_seed.specs.Seeds.{end_of, seeded_start}
 use Rattle.axp_top.specs.Replays.{Answer}
 use Rattle.axp_top.specs.Texts.{lines, tail}
 use Rattle.axp_top.specs.declared.status.Status.TheVariants as status
 use Rattle.axp_words.specs.Words as words
-use Rattle.axp_world.specs.declared.lengths.TheConstants.{EVENTS_PER_STEP}
-
--- a run has no more events than these
-abbrev pub most_events : Seen → ℕ
-most_events m = EVENTS_PER_STEP * m.cpus * m.budget
-
--- the machine at the end of a seeded run
-unfoldable pub end_of : Seeded → Seen
-end_of s = (seeded_after (most_events s.machine) s).machine
 
 -- the header, a line for each record, and the tail
 abbrev pub whole_answer : Seen → Answer

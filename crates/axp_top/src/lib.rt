@@ -12,6 +12,7 @@ mod replay;
 mod seeds;
 mod serve;
 mod status;
+mod summaries;
 mod tail;
 #[cfg(test)]
 mod tests;

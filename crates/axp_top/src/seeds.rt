@@ -3,7 +3,8 @@ ghost use Rattle.std.specs.Prelude.{◌≡◌, ◌≤◌, [], OnOk};
 ghost use Rattle.axp_base.specs.declared.processors.TheConstants.{MAX_BUDGET, MAX_CPUS, MIN_CPUS};
 ghost use Rattle.axp_top.specs.Outside.{sink_state};
 ghost use Rattle.axp_top.specs.Printing.{Ends, Prints};
-ghost use Rattle.axp_top.specs.SeededRuns.{end_of, seeded_answer, whole_answer};
+ghost use Rattle.axp_seed.specs.Seeds.{end_of};
+ghost use Rattle.axp_top.specs.SeededRuns.{seeded_answer, whole_answer};
 ghost use Rattle.axp_top.specs.Texts.{record_lines};
 ghost use Rattle.axp_top.specs.Walks.{PrintsAnswer};
 

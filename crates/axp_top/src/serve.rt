@@ -12,13 +12,14 @@ ghost use Rattle.axp_words.specs.Commands as commands;
 ghost use Rattle.axp_top.specs.Statuses.{AsksInTurn, AsksNeeded, DeskCount, PutsEach, SinkCount};
 ghost use Rattle.axp_top.specs.Statuses.{Settles, SettlesLawfully, SettlesSome};
 ghost use Rattle.axp_top.specs.SeededRuns.{AreInRange, IsInRange};
-ghost use Rattle.axp_top.specs.Words.{Replay, Seed, order_in, order_of};
+ghost use Rattle.axp_top.specs.Words.{Over, Replay, Seed, order_in, order_of};
 
 use crate::Status;
 use crate::limits::{MAX_IMAGE_BYTES, MAX_TRACE_BYTES};
 use crate::printing::refuse;
 use crate::replay::replay;
 use crate::seeds::print_seed;
+use crate::summaries::print_summary;
 use axp_image::{Image, ImageError, ImageKind, read_image};
 use axp_io::{Desk, FetchFault, Sink};
 use axp_trace::{write_bad_image, write_read_fault, write_too_long, write_usage};
@@ -27,10 +28,10 @@ use std::alloc::Global;
 
 /// Does what the words say, and answers how it ended.
 ///
-/// The words must be `replay IMAGE TRACE`, where TRACE names an event list or a trace. The image is
-/// fetched and read before that file is asked for; each line with its line feed is one put. What
-/// each status means is [`Status`]'s to say, and `docs/FORMATS.md` has the forms of both files and
-/// of the text.
+/// The words are `replay IMAGE TRACE`, where TRACE names an event list or a trace, `seed IMAGE CPUS
+/// BUDGET SEED` or `gen NUMBER`. An image is fetched and read before a second file is asked for;
+/// each line with its line feed is one put. What each status means is [`Status`]'s to say, and
+/// `docs/FORMATS.md` has the command line, the forms of the files and of the text.
 pub fn serve_plain<D: Desk, K: Sink>(
     alloc: Global,
     words: &[Word],
@@ -74,7 +75,7 @@ pub fn serve_plain<D: Desk, K: Sink>(
     serve_command(alloc, read_words(words), desk, sink)
 }
 
-/// Does what a command says; one that is not built is refused as words outside the grammar.
+/// Does what a command says; words outside the grammar are refused.
 fn serve_command<D: Desk, K: Sink>(
     alloc: Global,
     command: Result<Command<'_>, Usage>,
@@ -96,7 +97,8 @@ fn serve_command<D: Desk, K: Sink>(
                 seed,
             },
         ) => seed_file(alloc, desk, sink, image, (cpus, budget, seed)),
-        Ok(Command::Gen { .. }) | Err(Usage) => refuse_usage(alloc, sink),
+        Ok(Command::Gen { number }) => print_summary(alloc, sink, number),
+        Err(Usage) => refuse_usage(alloc, sink),
     }
 }
 
@@ -109,7 +111,7 @@ fn replay_files<D: Desk, K: Sink>(
     trace: &str,
 ) -> Status
     ensures { let at = outside_at D.faults D.asks K.taken K.faults K.puts in
-        Serves (D.told desk.old) (Some (Replay image.now trace.now))
+        Serves (D.told desk.old) (Some (Over (Replay image.now trace.now)))
         (at desk.old sink.old) (at desk.new sink.new) result }
 {
     match desk.fetch(alloc, image, MAX_IMAGE_BYTES) {
@@ -135,7 +137,7 @@ fn seed_file<D: Desk, K: Sink>(
 ) -> Status
     requires { AreInRange numbers.0 numbers.1 }
     ensures { let at = outside_at D.faults D.asks K.taken K.faults K.puts in
-        Serves (D.told desk.old) (Some (Seed image.now numbers.0 numbers.1 numbers.2))
+        Serves (D.told desk.old) (Some (Over (Seed image.now numbers.0 numbers.1 numbers.2)))
         (at desk.old sink.old) (at desk.new sink.new) result }
 {
     let (cpus, budget, seed) = numbers;
@@ -171,7 +173,7 @@ fn replay_file<D: Desk, K: Sink>(
     }
 }
 
-/// Refuses words that are no command that is built.
+/// Refuses words that are no command.
 fn refuse_usage<K: Sink>(alloc: Global, sink: &mut K) -> Status
     ensures { let seen = sink_state K.taken K.faults K.puts in
         Ends (seen sink.old) (seen sink.new) usage result }

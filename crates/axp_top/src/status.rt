@@ -7,8 +7,7 @@ use axp_image::ImageKind;
 pub enum Status {
     /// The work was done, and all of its text was taken.
     Done,
-    /// The words are no command that is built; the line `axp: usage` was taken, and nothing before
-    /// it.
+    /// The words are no command; the line `axp: usage` was taken, and nothing before it.
     Usage,
     /// The desk failed; the line `axp: read fault` was taken, and nothing before it.
     ReadFault,

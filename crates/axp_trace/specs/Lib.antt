@@ -4,5 +4,6 @@ pub mod Files
 pub mod Lines
 pub mod Reading
 pub mod Records
+pub mod Summaries
 pub mod Tails
 pub mod TraceLines

@@ -12,6 +12,7 @@ mod headers;
 mod lines;
 mod records;
 mod refusals;
+mod summaries;
 mod tails;
 
 pub use digits::{decimal_gives_back, hex_gives_back, write_value};
@@ -24,6 +25,7 @@ pub use refusals::{
     MOST_KIND, write_bad_image, write_bad_trace, write_differs, write_given, write_incomplete,
     write_not_legal, write_read_fault, write_right, write_too_long, write_usage,
 };
+pub use summaries::{MOST_LABEL, write_count, write_events, write_summary_header};
 pub use tails::{tails_are_their_texts, write_tail};
 
 #[cfg(test)]

@@ -268,6 +268,25 @@ fn other_lines_have_their_text(rt: HostRuntime) {
 }
 
 #[test]
+fn lines_of_a_summary_have_their_text(rt: HostRuntime) {
+    let lines: [(LineText, &[u8]); 4] = [
+        (
+            write_summary_header(1, b"dl", 1_024),
+            b"gen 1 dl rounds 1024",
+        ),
+        (
+            write_summary_header(u64::MAX, b"lock", 64),
+            b"gen 18446744073709551615 lock rounds 64",
+        ),
+        (write_count(b"weak", 0), b"weak 0"),
+        (write_events(7), b"events 7"),
+    ];
+    for (line, text) in &lines {
+        assert!(rt; line.as_slice() == *text);
+    }
+}
+
+#[test]
 fn a_difference_shows_both_lines(rt: HostRuntime) -> Result<(), Fail> {
     let given = write_given(rt.alloc(), b"0 step : m @1")?;
     assert_eq!(rt; given.as_slice(), b"trace: 0 step : m @1".as_slice());

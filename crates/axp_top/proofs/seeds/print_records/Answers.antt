@@ -1,6 +1,7 @@
 use Rattle.std.proofs.Common.{refl}
 use Rattle.axp_top.proofs.PrintingLemmas.{exits}
-use Rattle.axp_top.proofs.SeededLemmas.{seeds_first, seeds_left, seeds_on, seeds_printed, seeds_smaller, seeds_stop}
+use Rattle.axp_seed.proofs.WalkLemmas.{walk_left, walk_smaller}
+use Rattle.axp_top.proofs.SeededLemmas.{seeds_first, seeds_on, seeds_printed, seeds_stop}
 use Rattle.axp_top.proofs.seeds.print_records.Goals as goal
 
 pub loop-record-init : goal.loop-record-init
@@ -8,7 +9,7 @@ loop-record-init g c = seeds_first _ c.args.run.now c.requires.start
 
 pub loop-record-smaller : goal.loop-record-smaller
 loop-record-smaller g c =
-    seeds_smaller _ _ c.args.run.now c.loop-record.run c.next.new.self c.in-Some.record c.loop-record.invariant c.in-Some.ensures.record c.next.ensures.after c.in-Some.ensures.run c.next.ensures.few
+    walk_smaller c.args.run.now c.loop-record.run c.next.new.self c.in-Some.record c.loop-record.invariant.walk c.in-Some.ensures.record c.next.ensures.after c.in-Some.ensures.run c.next.ensures.few
 
 pub loop-record-preserved : goal.loop-record-preserved
 loop-record-preserved g c =
@@ -25,4 +26,4 @@ pub returns-clause-printed : goal.returns-clause-printed
 returns-clause-printed g c = seeds_printed _ _ c.args.run.now c.loop-record.run c.loop-record.invariant (c.in_default.ensures.end.0 refl)
 
 pub returns-clause-end : goal.returns-clause-end
-returns-clause-end g c = seeds_left _ _ c.args.run.now c.loop-record.run c.next.new.self c.loop-record.invariant (c.in_default.ensures.end.0 refl) c.next.ensures.after
+returns-clause-end g c = walk_left c.args.run.now c.loop-record.run c.next.new.self c.loop-record.invariant.walk (c.in_default.ensures.end.0 refl) c.next.ensures.after

@@ -1,6 +1,6 @@
 use Rattle.std.proofs.Common.{◌-◌, length}
 use Rattle.axp_top.specs.Outside.{sink_state}
-use Rattle.axp_top.specs.SeededRuns.{most_events}
+use Rattle.axp_seed.specs.Seeds.{most_events}
 use Rattle.axp_top.proofs.SeededLemmas.{Seeds}
 use Rattle.axp_top.proofs.seeds.print_records.Given as goal
 

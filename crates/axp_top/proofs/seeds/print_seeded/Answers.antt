@@ -1,7 +1,8 @@
 use Rattle.std.proofs.Common.{ap, refl, ◌∙◌}
 use Rattle.axp_top.proofs.PrintingLemmas.{hands_on}
 use Rattle.axp_top.proofs.SeededLemmas.{all_printed, header_stops, records_stop, tail_stops}
-use Rattle.axp_top.specs.SeededRuns.{end_of, whole_answer}
+use Rattle.axp_seed.specs.Seeds.{end_of}
+use Rattle.axp_top.specs.SeededRuns.{whole_answer}
 use Rattle.axp_top.specs.Texts.{right_header}
 use Rattle.axp_top.specs.Walks.{PrintsAnswer}
 use Rattle.axp_top.proofs.seeds.print_seeded.Goals as goal
