@@ -1,0 +1,6 @@
+-- a header without a fault has room in memory
+pub mod PlacingLemmas
+-- headers are tested and loaded one after the other
+pub mod LoadingLemmas
+-- what an executable is read as
+pub mod ExecutableLemmas
