@@ -29,7 +29,7 @@ rest_none : (front rest : Option Fault) → option_or front rest ≡ None → re
 rest_none None rest none = none
 rest_none (Some f) rest none = absurd cc
 
-without_fault : (bytes : List ℕ) (memory stack table : ℕ) (c : Contents) → image_of bytes memory stack table ≡ Some c
+pub without_fault : (bytes : List ℕ) (memory stack table : ℕ) (c : Contents) → image_of bytes memory stack table ≡ Some c
     → (first_fault bytes memory ≡ None) × (c ≡ image_in bytes memory stack table)
 unfolding image_of
 without_fault bytes memory stack table c read =

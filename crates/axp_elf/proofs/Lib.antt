@@ -4,3 +4,5 @@ pub mod PlacingLemmas
 pub mod LoadingLemmas
 -- what an executable is read as
 pub mod ExecutableLemmas
+-- which byte of it stands where in memory
+pub mod MemoryLemmas

@@ -81,7 +81,10 @@ fn reads_the_program(rt: HostRuntime) -> Result<(), Fail> {
     assert_eq!(rt; write_image(alloc, &image)?.as_slice(), IMAGE.as_slice());
 
     let image = read_elf(alloc, &PROGRAM, 0x4000, 0x1234, 1)?;
-    assert_eq!(rt; (image.size(), image.stack(), image.table()), (0x4000, 0x1234, 1));
+    assert_eq!(rt;
+        (image.size(), image.stack(), image.table()),
+        (0x4000, 0x1234, 1)
+    );
     Ok(())
 }
 
@@ -132,7 +135,11 @@ fn a_field_at_fault_is_named(rt: HostRuntime) -> Result<(), Fail> {
 fn each_front_of_the_program_is_short(rt: HostRuntime) -> Result<(), Fail> {
     for length in 0..PROGRAM.len() {
         let fault = fault_of(rt.alloc(), &PROGRAM[..length])?;
-        assert_eq!(rt; fault, Some((ElfField::Short, length as u64)), "a front of {length}");
+        assert_eq!(rt;
+            fault,
+            Some((ElfField::Short, length as u64)),
+            "a front of {length}"
+        );
     }
     Ok(())
 }
