@@ -6,3 +6,5 @@ pub mod LoadingLemmas
 pub mod ExecutableLemmas
 -- which byte of it stands where in memory
 pub mod MemoryLemmas
+-- where its headers lie in memory
+pub mod OrderLemmas

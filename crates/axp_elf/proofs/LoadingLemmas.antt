@@ -12,7 +12,7 @@ use Rattle.axp_elf.specs.declared.faults.ElfError.{ElfError}
 use Rattle.axp_elf.specs.declared.faults.ElfError.TheVariants as error
 use Rattle.axp_elf.specs.declared.headers.ProgramHeader.{ProgramHeader}
 use Rattle.axp_elf.specs.declared.layout.TheConstants.{ENTRY_AT, START_AT, COUNT_AT}
-use Rattle.axp_elf.specs.Headers.{header_in, header_at, headers_in, has_bytes, end_past, end_of_all, with_bytes, segment_in, segments_in}
+use Rattle.axp_elf.specs.Headers.{header_in, header_at, headers_in, has_bytes, end_past, end_of_all, headers_with_bytes, segment_in, segments_in}
 use Rattle.axp_elf.specs.Faults.{Fault, Part, Names, first_of, parts_of, file_parts, header_parts, first_fault}
 use Rattle.axp_elf.specs.Executables.{parts_fault, with_header, image_in, image_of}
 use Rattle.axp_elf.proofs.PlacingLemmas.{behind_more}
@@ -90,8 +90,8 @@ next_first bytes memory entry stack table start count n c from fault loads lt =
     let at = header_at start n in
     let h = header_in bytes at in
     let k : count - n ≡ suc (count - suc n) = omega arith in
-    let before : length (segments_in bytes earlier) ≡ length (with_bytes earlier) = length-map (with_bytes earlier) (segment_in bytes) in
-    let joined = first_of-append (length bytes) (parts_of memory (end_of_all earlier) (length (with_bytes earlier)) at h) (header_parts bytes memory start (suc n) (count - suc n)) in
+    let before : length (segments_in bytes earlier) ≡ length (headers_with_bytes earlier) = length-map (headers_with_bytes earlier) (segment_in bytes) in
+    let joined = first_of-append (length bytes) (parts_of memory (end_of_all earlier) (length (headers_with_bytes earlier)) at h) (header_parts bytes memory start (suc n) (count - suc n)) in
     let one : first_of (length bytes) (header_parts bytes memory start n (count - n)) ≡ option_or (parts_fault bytes c from at) (first_of (length bytes) (header_parts bytes memory start (suc n) (count - suc n))) = rw (k, loads.image, loads.end, before) joined in
     sym one ∙ loads.left
 

@@ -9,7 +9,7 @@ use Rattle.axp_image.specs.Contents.{Segment, Contents, AreBytes, covers, byte_i
 use Rattle.axp_image.proofs.BytePlaceLemmas.{have_their_bytes, are_zero_elsewhere}
 use Rattle.axp_image.proofs.ValidityLemmas.{some_is}
 use Rattle.axp_elf.specs.declared.headers.ProgramHeader.{ProgramHeader}
-use Rattle.axp_elf.specs.Headers.{headers_of, physical, with_bytes, segment_in, segments_in}
+use Rattle.axp_elf.specs.Headers.{headers_of, physical, headers_with_bytes, segment_in, segments_in}
 use Rattle.axp_elf.specs.Executables.{IsSetting, image_of}
 use Rattle.axp_elf.specs.Laws.{fills, HasFileBytes, IsZeroElsewhere}
 use Rattle.axp_elf.proofs.ExecutableLemmas.{IsInFile, without_fault, executable_sound}
@@ -41,9 +41,9 @@ has_file_bytes bytes memory stack table c all setting read i k h at lt =
     let headers = headers_of bytes in
     let is = (without_fault bytes memory stack table c read).1 in
     let sound = executable_sound bytes memory stack table c all setting read in
-    let found : get_or (with_bytes headers) i h ≡ h = get_or_from_slice_get (with_bytes headers) i h h at in
-    let within : IsInFile bytes h = subst (IsInFile bytes) found (sound.in_file i h (slice_get_within (with_bytes headers) i h at)) in
-    let there : slice_get c.segments i ≡ Some (segment_in bytes h) = rw is (slice_get-map (segment_in bytes) (with_bytes headers) i ∙ ap (option_map (segment_in bytes)) at) in
+    let found : get_or (headers_with_bytes headers) i h ≡ h = get_or_from_slice_get (headers_with_bytes headers) i h h at in
+    let within : IsInFile bytes h = subst (IsInFile bytes) found (sound.in_file i h (slice_get_within (headers_with_bytes headers) i h at)) in
+    let there : slice_get c.segments i ≡ Some (segment_in bytes h) = rw is (slice_get-map (segment_in bytes) (headers_with_bytes headers) i ∙ ap (option_map (segment_in bytes)) at) in
     let inside : k < length (segment_in bytes h).bytes = omega (arith, lt, segment_length bytes h within) in
     subst (λ (address : ℕ). byte_in c.segments (address + k) ≡ slice_index (segment_in bytes h).bytes k) (segment_address bytes h)
     (have_their_bytes c.size 0 c.segments sound.valid.placed i k (segment_in bytes h) there inside)
@@ -53,10 +53,10 @@ pub is_zero_elsewhere : (bytes : List ℕ) (memory stack table : ℕ) (c : Conte
 is_zero_elsewhere bytes memory stack table c read address none =
     let headers = headers_of bytes in
     let is = (without_fault bytes memory stack table c read).1 in
-    are_zero_elsewhere c.segments address (λ i s at has. by_header (slice_get (with_bytes headers) i) i s refl (subst (λ (x : Contents). slice_get x.segments i ≡ Some s) is at) has)
+    are_zero_elsewhere c.segments address (λ i s at has. by_header (slice_get (headers_with_bytes headers) i) i s refl (subst (λ (x : Contents). slice_get x.segments i ≡ Some s) is at) has)
   where
-    by_header : (o : Option ProgramHeader) (i : ℕ) (s : Segment) → slice_get (with_bytes (headers_of bytes)) i ≡ o → slice_get (segments_in bytes (headers_of bytes)) i ≡ Some s → covers s address ≡ true → ⊥
-    by_header None i s at there has = absurd (none-some s (sym (slice_get-map (segment_in bytes) (with_bytes (headers_of bytes)) i ∙ ap (option_map (segment_in bytes)) at) ∙ there))
+    by_header : (o : Option ProgramHeader) (i : ℕ) (s : Segment) → slice_get (headers_with_bytes (headers_of bytes)) i ≡ o → slice_get (segments_in bytes (headers_of bytes)) i ≡ Some s → covers s address ≡ true → ⊥
+    by_header None i s at there has = absurd (none-some s (sym (slice_get-map (segment_in bytes) (headers_with_bytes (headers_of bytes)) i ∙ ap (option_map (segment_in bytes)) at) ∙ there))
     by_header (Some h) i s at there has =
-        let own = some_is (segment_in bytes h) s (sym (slice_get-map (segment_in bytes) (with_bytes (headers_of bytes)) i ∙ ap (option_map (segment_in bytes)) at) ∙ there) in
+        let own = some_is (segment_in bytes h) s (sym (slice_get-map (segment_in bytes) (headers_with_bytes (headers_of bytes)) i ∙ ap (option_map (segment_in bytes)) at) ∙ there) in
         none i h at (fills_there bytes h address (subst (λ (x : Segment). covers x address ≡ true) (sym own) has))

@@ -1,20 +1,21 @@
 -- A header without a fault has room in memory, and an image with its bytes is valid.
-use Rattle.std.proofs.Common.{◌≡◌, ℕ, ◌+◌, ◌<◌, ◌≤◌, true, ltb, List, [], ◌∷◌, ◌++◌, length, drop, None, refl, inl, inr, arith}
+use Rattle.std.proofs.Common.{◌≡◌, ℕ, ◌+◌, ◌<◌, ◌≤◌, true, false, ltb, List, [], ◌∷◌, ◌++◌, length, drop, None, refl, inl, inr, arith}
 use Rattle.std.proofs.lemmas.Bool.{cases_Bool, and_parts, ltb-true}
 use Rattle.std.proofs.lemmas.Bool.Decides.{nat_tests}
 use Rattle.std.proofs.lemmas.List.{length-take, length-drop}
-use Rattle.axp_image.specs.declared.limits.TheConstants.{MAX_SEGMENTS}
+use Rattle.axp_image.specs.declared.limits.TheConstants.{KSEG, MAX_SEGMENTS}
 use Rattle.axp_image.specs.Contents.{Segment, Contents, AreBytes, IsPlaced, IsValid, end_of, end_after, last_end}
 use Rattle.axp_image.proofs.ValidityLemmas.{AreBytes-take, AreBytes-drop}
 use Rattle.axp_image.proofs.WritingLemmas.{valid_with}
 use Rattle.axp_elf.specs.declared.headers.ProgramHeader.{ProgramHeader}
-use Rattle.axp_elf.specs.Headers.{header_in, is_loaded, has_bytes, physical, memory_end, end_past, segment_in}
+use Rattle.axp_elf.specs.Headers.{header_in, is_dynamic, is_loaded, has_bytes, physical, memory_end, end_past, segment_in}
 use Rattle.axp_elf.specs.Faults.{first_of, header_fault, parts_of}
 use Rattle.axp_elf.specs.Executables.{parts_fault, with_header}
 
 -- what a loaded header without a fault says of its place
 pub record HasRoom (memory from before : ℕ) (h : ProgramHeader) : Type 0 where
   pub in_file : h.file_size ≤ h.memory_size
+  pub in_kernel : KSEG ≤ h.address
   pub in_memory : memory_end h ≤ memory
   pub above : from ≤ physical h
   pub few : 0 < h.file_size → before < MAX_SEGMENTS
@@ -22,10 +23,14 @@ pub record HasRoom (memory from before : ℕ) (h : ProgramHeader) : Type 0 where
 pub has_room : (memory from before : ℕ) (h : ProgramHeader) → header_fault memory from before h ≡ None → is_loaded h ≡ true → HasRoom memory from before h
 has_room memory from before h none loads = record {
   in_file = grind (arith, nat_tests);
+  in_kernel = grind (arith, nat_tests);
   in_memory = grind (arith, nat_tests);
   above = grind (arith, nat_tests);
   few = λ some. grind (arith, nat_tests);
 }
+
+pub not_dynamic : (memory from before : ℕ) (h : ProgramHeader) → header_fault memory from before h ≡ None → is_dynamic h ≡ false
+not_dynamic memory from before h none = grind (arith, nat_tests)
 
 -- a header without a fault, with its bytes
 pub header_sound : (len memory from before at : ℕ) (h : ProgramHeader) → first_of len (parts_of memory from before at h) ≡ None → header_fault memory from before h ≡ None

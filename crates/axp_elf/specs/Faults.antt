@@ -11,7 +11,7 @@ use Rattle.axp_elf.specs.declared.faults.ElfField.{ElfField}
 use Rattle.axp_elf.specs.declared.faults.ElfField.TheVariants as field
 use Rattle.axp_elf.specs.declared.headers.ProgramHeader.{ProgramHeader}
 use Rattle.axp_elf.specs.declared.layout.TheConstants.{MAGIC, CLASS, DATA, VERSION, EXECUTABLE, MACHINE, HEADER_BYTES, MAX_HEADERS, MAGIC_AT, CLASS_AT, DATA_AT, IDENTITY_AT, TYPE_AT, MACHINE_AT, VERSION_AT, ENTRY_AT, START_AT, HEADER_SIZE_AT, COUNT_AT}
-use Rattle.axp_elf.specs.Headers.{header_in, header_at, headers_in, is_dynamic, is_loaded, has_bytes, is_placed, end_of_all, with_bytes}
+use Rattle.axp_elf.specs.Headers.{header_in, header_at, headers_in, is_dynamic, is_loaded, has_bytes, is_placed, end_of_all, headers_with_bytes}
 
 -- the word by which a fault is printed
 abbrev pub field_name : ElfField → List ℕ
@@ -38,16 +38,16 @@ pub record Part : Type 0 where
   pub wrong : Option ElfField
 
 -- the part whose bytes must pass a test
-abbrev pub tested : ℕ → ℕ → ElfField → Bool → Part
-tested at size f passes = record { at = at; size = size; wrong = if passes then None else Some f }
+abbrev pub tested_part : ℕ → ℕ → ElfField → Bool → Part
+tested_part at size f passes = record { at = at; size = size; wrong = if passes then None else Some f }
 
 -- the part whose bytes may be any
-abbrev pub untested : ℕ → ℕ → Part
-untested at size = record { at = at; size = size; wrong = None }
+abbrev pub untested_part : ℕ → ℕ → Part
+untested_part at size = record { at = at; size = size; wrong = None }
 
 -- the part whose bytes must be this number
-abbrev pub exact : List ℕ → ℕ → ℕ → ElfField → ℕ → Part
-exact bytes at size f number = tested at size f (number_in bytes at size == number)
+abbrev pub exact_part : List ℕ → ℕ → ℕ → ElfField → ℕ → Part
+exact_part bytes at size f number = tested_part at size f (number_in bytes at size == number)
 
 -- what is wrong with the part at an offset is a fault there
 abbrev pub fault_at : ℕ → Option ElfField → Option Fault
@@ -65,17 +65,17 @@ first_of len (p ∷ ps) = option_or (fault_of len p) (first_of len ps)
 -- the fields of the file header
 abbrev pub file_parts : List ℕ → ℕ → List Part
 file_parts bytes memory =
-    exact bytes MAGIC_AT 4 field.Magic MAGIC
-    ∷ exact bytes CLASS_AT 1 field.Class CLASS
-    ∷ exact bytes DATA_AT 1 field.Data DATA
-    ∷ exact bytes IDENTITY_AT 1 field.Version VERSION
-    ∷ exact bytes TYPE_AT 2 field.Type EXECUTABLE
-    ∷ exact bytes MACHINE_AT 2 field.Machine MACHINE
-    ∷ exact bytes VERSION_AT 4 field.Version VERSION
-    ∷ tested ENTRY_AT 8 field.Entry (is_entry memory (number_in bytes ENTRY_AT 8))
-    ∷ untested START_AT 8
-    ∷ exact bytes HEADER_SIZE_AT 2 field.Headers HEADER_BYTES
-    ∷ tested COUNT_AT 2 field.Headers (nat_le (number_in bytes COUNT_AT 2) MAX_HEADERS)
+    exact_part bytes MAGIC_AT 4 field.Magic MAGIC
+    ∷ exact_part bytes CLASS_AT 1 field.Class CLASS
+    ∷ exact_part bytes DATA_AT 1 field.Data DATA
+    ∷ exact_part bytes IDENTITY_AT 1 field.Version VERSION
+    ∷ exact_part bytes TYPE_AT 2 field.Type EXECUTABLE
+    ∷ exact_part bytes MACHINE_AT 2 field.Machine MACHINE
+    ∷ exact_part bytes VERSION_AT 4 field.Version VERSION
+    ∷ tested_part ENTRY_AT 8 field.Entry (is_entry memory (number_in bytes ENTRY_AT 8))
+    ∷ untested_part START_AT 8
+    ∷ exact_part bytes HEADER_SIZE_AT 2 field.Headers HEADER_BYTES
+    ∷ tested_part COUNT_AT 2 field.Headers (nat_le (number_in bytes COUNT_AT 2) MAX_HEADERS)
     ∷ []
 
 -- what is wrong with a program header behind headers that end at `from`, of which `before` have bytes in the file
@@ -87,7 +87,7 @@ header_fault memory from before h =
 abbrev pub parts_of : ℕ → ℕ → ℕ → ℕ → ProgramHeader → List Part
 parts_of memory from before at h =
     record { at = at; size = HEADER_BYTES; wrong = header_fault memory from before h }
-    ∷ (if has_bytes h then untested h.offset h.file_size ∷ [] else [])
+    ∷ (if has_bytes h then untested_part h.offset h.file_size ∷ [] else [])
 
 -- so many program headers from header n on, where the first stands at `start`
 abbrev pub header_parts : List ℕ → ℕ → ℕ → ℕ → ℕ → List Part
@@ -95,7 +95,7 @@ header_parts bytes memory start n zero = []
 header_parts bytes memory start n (suc left) =
     let earlier = headers_in bytes start n in
     let at = header_at start n in
-    parts_of memory (end_of_all earlier) (length (with_bytes earlier)) at (header_in bytes at) ++ header_parts bytes memory start (suc n) left
+    parts_of memory (end_of_all earlier) (length (headers_with_bytes earlier)) at (header_in bytes at) ++ header_parts bytes memory start (suc n) left
 
 -- all parts of a file, for a memory of this size
 abbrev pub parts_in : List ℕ → ℕ → List Part

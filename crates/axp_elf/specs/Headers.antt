@@ -70,9 +70,13 @@ end_past from h = if is_loaded h then memory_end h else from
 abbrev pub end_of_all : List ProgramHeader → ℕ
 end_of_all headers = fold end_past 0 headers
 
+-- the loaded headers
+abbrev pub loaded_headers : List ProgramHeader → List ProgramHeader
+loaded_headers headers = filter is_loaded headers
+
 -- the headers with bytes in the file
-abbrev pub with_bytes : List ProgramHeader → List ProgramHeader
-with_bytes headers = filter has_bytes headers
+abbrev pub headers_with_bytes : List ProgramHeader → List ProgramHeader
+headers_with_bytes headers = filter has_bytes headers
 
 -- the bytes that a header has in the file, at its physical address
 unfoldable pub segment_in : List ℕ → ProgramHeader → Segment
@@ -80,4 +84,4 @@ segment_in bytes h = segment_of (physical h) (take h.file_size (drop h.offset by
 
 -- the segments of an image: one for each header with bytes in the file, in order
 abbrev pub segments_in : List ℕ → List ProgramHeader → List Segment
-segments_in bytes headers = map (segment_in bytes) (with_bytes headers)
+segments_in bytes headers = map (segment_in bytes) (headers_with_bytes headers)

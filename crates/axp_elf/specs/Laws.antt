@@ -1,9 +1,19 @@
--- Which byte of a file stands where in memory; and a program of one word.
-use Rattle.std.specs.Prelude.{◌≡◌, ℕ, ◌+◌, ◌<◌, Bool, ◌&&◌, IsTrue, nat_le, nat_lt, List, [], ◌∷◌, ◌++◌, take, drop, slice_get, slice_index, Some}
+-- Where headers lie, and which byte of a file stands where in memory; and a program of one word.
+use Rattle.std.specs.Prelude.{◌≡◌, ℕ, ◌+◌, ◌<◌, ◌≤◌, Bool, ◌&&◌, IsTrue, nat_le, nat_lt, List, [], ◌∷◌, ◌++◌, take, drop, slice_get, slice_index, Some}
 use Rattle.axp_image.specs.declared.limits.TheConstants.{PAGE_BYTES, KSEG}
-use Rattle.axp_image.specs.Contents.{Contents, contents, segment_of, byte_in}
+use Rattle.axp_image.specs.Contents.{Segment, Contents, contents, byte_in}
 use Rattle.axp_elf.specs.declared.headers.ProgramHeader.{ProgramHeader}
-use Rattle.axp_elf.specs.Headers.{headers_of, physical, with_bytes}
+use Rattle.axp_elf.specs.Headers.{headers_of, physical, memory_end, headers_with_bytes}
+
+-- a header's bytes lie in the kernel's directly mapped memory, of which there is so much; the file has some or all of them
+pub record IsInMemory (memory : ℕ) (h : ProgramHeader) : Type 0 where
+  pub in_kernel : KSEG ≤ h.address
+  pub within : memory_end h ≤ memory
+  pub in_file : h.file_size ≤ h.memory_size
+
+-- a header ends in memory at or below the start of another
+abbrev pub EndsBelow : ProgramHeader → ProgramHeader → Type 0
+EndsBelow h g = memory_end h ≤ physical g
 
 -- a header's bytes in the file have this address
 abbrev pub fills : ProgramHeader → ℕ → Bool
@@ -11,12 +21,12 @@ fills h address = nat_le (physical h) address && nat_lt address (physical h + h.
 
 -- memory holds each byte that a header has in the file at its place
 abbrev pub HasFileBytes : List ℕ → Contents → Type 0
-HasFileBytes bytes c = (i k : ℕ) (h : ProgramHeader) → slice_get (with_bytes (headers_of bytes)) i ≡ Some h → k < h.file_size
+HasFileBytes bytes c = (i k : ℕ) (h : ProgramHeader) → slice_get (headers_with_bytes (headers_of bytes)) i ≡ Some h → k < h.file_size
     → byte_in c.segments (physical h + k) ≡ slice_index bytes (h.offset + k)
 
 -- memory is 0 at each address that no header's bytes in the file have, as behind them up to a header's size in memory
 abbrev pub IsZeroElsewhere : List ℕ → Contents → Type 0
-IsZeroElsewhere bytes c = (address : ℕ) → ((i : ℕ) (h : ProgramHeader) → slice_get (with_bytes (headers_of bytes)) i ≡ Some h → IsTrue (fills h address) → ⊥)
+IsZeroElsewhere bytes c = (address : ℕ) → ((i : ℕ) (h : ProgramHeader) → slice_get (headers_with_bytes (headers_of bytes)) i ≡ Some h → IsTrue (fills h address) → ⊥)
     → byte_in c.segments address ≡ 0
 
 -- the parts of a program of one word
@@ -34,10 +44,10 @@ program_header =
 abbrev pub program : List ℕ
 program = file_header ++ (program_header ++ (0 ∷ 0 ∷ 0 ∷ 0 ∷ []))
 
--- the same for another machine
-abbrev pub foreign : List ℕ
-foreign = take 18 program ++ (0x3E ∷ 0 ∷ drop 20 program)
+-- the same with another byte at one place
+abbrev pub with_byte : ℕ → ℕ → List ℕ
+with_byte at b = take at program ++ b ∷ drop (at + 1) program
 
--- its image in one page of memory
-abbrev pub loaded : Contents
-loaded = contents PAGE_BYTES KSEG 0 0 (segment_of 0 (0 ∷ 0 ∷ 0 ∷ 0 ∷ []) ∷ [])
+-- one page of memory, started at its first address, with these segments
+abbrev pub page_with : List Segment → Contents
+page_with segments = contents PAGE_BYTES KSEG 0 0 segments

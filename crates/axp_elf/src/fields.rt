@@ -3,7 +3,7 @@ ghost use Rattle.std.specs.Prelude.{◌≡◌, ◌+◌, ◌<◌, ◌≤◌, true
 ghost use Rattle.std.specs.Prelude.{IfOk, IfErr, OnOk, OnErr};
 ghost use Rattle.axp_image.specs.Faults.{number_in};
 ghost use Rattle.axp_image.specs.Grammar.{is_entry};
-ghost use Rattle.axp_elf.specs.Faults.{Names, exact, fault_of, file_parts, first_of};
+ghost use Rattle.axp_elf.specs.Faults.{Names, exact_part, fault_of, file_parts, first_of};
 ghost use Rattle.axp_elf.specs.declared.faults.ElfError.TheVariants.{Bad};
 ghost use Rattle.axp_elf.specs.declared.faults.ElfField.TheVariants.{Short};
 
@@ -91,9 +91,9 @@ fn check_exact(
     requires least { 1 ≤ size }
     requires most { size ≤ 8 }
     ensures sound { OnOk result
-        (fault_of (length bytes.now) (exact bytes.now at size field wanted) ≡ None) }
+        (fault_of (length bytes.now) (exact_part bytes.now at size field wanted) ≡ None) }
     ensures fault { IfErr result
-        (Names (fault_of (length bytes.now) (exact bytes.now at size field wanted))) }
+        (Names (fault_of (length bytes.now) (exact_part bytes.now at size field wanted))) }
 {
     let number = read_number(bytes, at, size)?;
     check(number == wanted, field, at as u64)

@@ -10,7 +10,9 @@ mod layout;
 mod loading;
 
 pub use faults::{ElfError, ElfField};
-pub use laws::{executable_limits_as_numbers, memory_of_executable, program_of_one_word};
+pub use laws::{
+    executable_limits_as_numbers, headers_of_executable, memory_of_executable, program_of_one_word,
+};
 pub use loading::read_elf;
 
 #[cfg(test)]

@@ -4,7 +4,7 @@ ghost use Rattle.std.specs.Prelude.{IfOk, IfErr, OnOk};
 ghost use Rattle.axp_image.specs.Contents.{IsValid, last_end, with_segment};
 ghost use Rattle.axp_image.specs.declared.limits.TheConstants.{KSEG, MAX_SEGMENTS};
 ghost use Rattle.axp_elf.specs.Headers.{end_past, header_at, header_in, physical, segment_in};
-ghost use Rattle.axp_elf.specs.Faults.{Names, fault_of, first_fault, untested};
+ghost use Rattle.axp_elf.specs.Faults.{Names, fault_of, first_fault, untested_part};
 ghost use Rattle.axp_elf.specs.Executables.{image_of, parts_fault, with_header};
 ghost use Rattle.axp_elf.specs.declared.layout.TheConstants.{MAX_HEADERS};
 
@@ -32,7 +32,7 @@ fn add_bytes(
         (image.new ≡ with_segment image.old (segment_in bytes.now header)) }
     ensures in_file { OnOk result (header.offset + header.file_size ≤ length bytes.now) }
     ensures fault { IfErr result
-        (Names (fault_of (length bytes.now) (untested header.offset header.file_size))) }
+        (Names (fault_of (length bytes.now) (untested_part header.offset header.file_size))) }
 {
     check_within(bytes, header.offset, header.file_size)?;
     let start = header.offset as usize;
