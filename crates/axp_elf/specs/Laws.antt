@@ -5,7 +5,7 @@ use Rattle.axp_image.specs.Contents.{Segment, Contents, contents, byte_in}
 use Rattle.axp_elf.specs.declared.headers.ProgramHeader.{ProgramHeader}
 use Rattle.axp_elf.specs.Headers.{headers_of, physical, memory_end, headers_with_bytes}
 
--- a header's bytes lie in the kernel's directly mapped memory, of which there is so much; the file has some or all of them
+-- a header's bytes lie in the kernel's directly mapped memory, which has this size, and the file has no more of them
 pub record IsInMemory (memory : ℕ) (h : ProgramHeader) : Type 0 where
   pub in_kernel : KSEG ≤ h.address
   pub within : memory_end h ≤ memory

@@ -58,8 +58,8 @@ impl ProgramHeader {
         self.address - KSEG
     }
 
-    /// Whether it may stand in a memory of `memory` bytes at or above `from`, where so many headers
-    /// before it have bytes in the file.
+    /// Whether it may stand in a memory of `memory` bytes at or above `from`, behind `before` loaded
+    /// headers that have bytes in the file.
     fn is_placed(self, memory: u64, from: u64, before: u32) -> bool
         ensures { result ≡ is_placed memory from before self }
     {
@@ -71,8 +71,8 @@ impl ProgramHeader {
             && (before < MAX_SEGMENTS || self.file_size == 0)
     }
 
-    /// An error where no header may be like this at an offset, behind headers that end at `from`, of
-    /// which so many have bytes in the file.
+    /// An error at this offset where no header may be like this in a memory of `memory` bytes, behind
+    /// headers that end at `from` and of which `before` have bytes in the file.
     pub(crate) fn check(self, memory: u64, from: u64, before: u32, at: u64) -> Result<(), ElfError>
         ensures sound { OnOk result (header_fault memory from before self ≡ None) }
         ensures fault { IfErr result (Names (fault_at at (header_fault memory from before self))) }
@@ -82,7 +82,8 @@ impl ProgramHeader {
         check(is_sound, ElfField::Segment, at)
     }
 
-    /// The end in memory of the last loaded header, where those before it end at `from`.
+    /// The end in memory of the last loaded header up to this one, where those before it end at
+    /// `from`.
     pub(crate) fn end_past(self, memory: u64, from: u64, before: u32) -> u64
         requires { header_fault memory from before self ≡ None }
         ensures { result ≡ end_past from self }
