@@ -8,6 +8,7 @@ mod entries;
 mod locks;
 mod seeds;
 mod shared_memory;
+mod summaries;
 mod traces;
 mod translation;
 mod worked;
