@@ -25,9 +25,7 @@ impl Model for Summary {
 
     ghost Value = { seen.Summary };
 
-    ghost view = {
-        λ s. record { shape = s.shape; labels = s.labels.items; events = s.events }
-    };
+    ghost view = { λ s. record { shape = s.shape; labels = s.labels.items; events = s.events } };
 
     ghost invariant = { λ s. length s.labels.items ≤ ROUNDS };
 }

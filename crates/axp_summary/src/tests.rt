@@ -15,9 +15,7 @@ fn counts(summary: &Summary) -> [u32; 4] {
 /// The summary of a number, with the counts and the number of events that it has as today.
 fn has_counts(rt: HostRuntime, number: u64, expected: [u32; 4], events: u64) -> Result<bool, Fail> {
     let summary = summarize(rt.alloc(), number)?;
-    Ok(summary.rounds() == 1_024
-        && counts(&summary) == expected
-        && summary.events() == events)
+    Ok(summary.rounds() == 1_024 && counts(&summary) == expected && summary.events() == events)
 }
 
 #[test]
