@@ -1,14 +1,9 @@
 -- The pairs of a queue, one added and one taken.
 use Rattle.std.proofs.Common.{◌≡◌, ◌↔◌, ℕ, ◌<◌, zero, suc, true, eqb, ltb, List, [], ◌∷◌, Some, slice_get, refl, ⊎_elim}
-use Rattle.std.specs.List.{remove}
 use Rattle.std.proofs.lemmas.Bool.{and_parts, and_from, or_cases, or_left, or_right, eqb-true, eq-eqb, ltb-true, lt-ltb}
 use Rattle.axp_base.specs.Lines.{line_number}
 use Rattle.axp_base.specs.declared.lines.Line.{Line}
-use Rattle.axp_base.specs.LatePairs.{Later, has_later, is_later, others}
-
-pub removed_first : (pairs : List (Line × ℕ)) → remove pairs 0 ≡ others pairs
-removed_first [] = refl
-removed_first (p ∷ pairs) = refl
+use Rattle.axp_base.specs.LatePairs.{Later, has_later, is_later}
 
 one_later : (line stamp : ℕ) (p : Line × ℕ) → is_later line stamp p ≡ true → (line_number p.0 ≡ line) × (stamp < p.1)
 one_later line stamp p h =

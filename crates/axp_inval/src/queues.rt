@@ -5,13 +5,14 @@ ghost use Rattle.axp_inval.specs.Queues.{IsInOrder, oldest, queue};
 
 use axp_base::{Line, NoMemory};
 use std::alloc::Global;
+use std::collections::VecDeque;
 use std::marker::Model;
 
 /// The invalidations that are to come late: pairs of a line and the turn that wrote it, oldest
 /// first, each turn greater than those before it. All room is taken when the queue is made.
 #[derive(Debug, Drop)]
 pub struct LateQueue {
-    pairs: Vec<(Line, u64)>,
+    pairs: VecDeque<(Line, u64)>,
 }
 
 impl Model for LateQueue {
@@ -32,7 +33,7 @@ impl LateQueue {
     pub fn with_room(alloc: Global, room: u32) -> Result<LateQueue, NoMemory>
         ensures { IfOk result (λ q. q ≡ queue [] room) }
     {
-        let pairs = Vec::with_capacity(alloc, room as usize)?;
+        let pairs = VecDeque::with_capacity(alloc, room as usize)?;
         Ok(LateQueue { pairs })
     }
 
@@ -43,7 +44,9 @@ impl LateQueue {
         requires newest { AreBefore turn self.old.pairs }
         ensures { self.new ≡ queue (self.old.pairs ++ (line, turn) ∷ []) self.old.room }
     {
-        self.pairs.push_reserved((line, turn));
+        let Ok(()) = self.pairs.push_back((line, turn)) else {
+            unreachable!()
+        };
     }
 
     /// Removes the oldest pair and gives it. `None`: the queue is empty.
@@ -51,20 +54,14 @@ impl LateQueue {
         ensures value { result ≡ oldest self.old.pairs }
         ensures rest { self.new ≡ queue (others self.old.pairs) self.old.room }
     {
-        if self.pairs.is_empty() {
-            return None;
-        }
-        Some(self.pairs.remove(0))
+        self.pairs.pop_front()
     }
 
     /// The oldest pair, which stays. `None`: the queue is empty.
     pub fn oldest(&self) -> Option<(Line, u64)>
         ensures { result ≡ oldest self.now.pairs }
     {
-        if self.pairs.is_empty() {
-            return None;
-        }
-        Some(self.pairs[0])
+        self.pairs.front().copied()
     }
 
     /// Whether no pair is kept.
