@@ -1,5 +1,6 @@
 -- What a person is told of a status that refuses, by the two files.
 use Rattle.std.specs.Prelude.{◌≡◌, ℕ, ◌+◌, ◌-◌, Bool, true, false, List, ◌∷◌, ◌++◌, codes, decimal, slice_get, Option, Some, None, IfSome, Result, Ok, Err}
+use Rattle.axp_explain.specs.ElfWords.{elf_words}
 use Rattle.axp_explain.specs.ImageWords.{image_words}
 use Rattle.axp_explain.specs.LineWords.{fault_words, line_fault}
 use Rattle.axp_explain.specs.ReasonWords.{reason_words}
@@ -10,9 +11,10 @@ use Rattle.axp_io.specs.declared.FetchFault.{FetchFault}
 use Rattle.axp_io.specs.declared.FetchFault.TheVariants as fetch
 use Rattle.axp_image.specs.Grammar.{image_of}
 use Rattle.axp_lsu.specs.declared.reasons.Reason.{Reason}
+use Rattle.axp_top.specs.ImageFiles.{source_name}
 use Rattle.axp_top.specs.Outside.{DeskState}
 use Rattle.axp_top.specs.Replays.{FileLine}
-use Rattle.axp_top.specs.Words.{Gen, Order, Over, Replay, Seed}
+use Rattle.axp_top.specs.Words.{From, Gen, Order, Over, Replay, Seed}
 use Rattle.axp_top.specs.declared.limits.TheConstants.{MAX_IMAGE_BYTES, MAX_TRACE_BYTES}
 use Rattle.axp_top.specs.declared.status.Status.{Status}
 use Rattle.axp_top.specs.declared.status.Status.TheVariants as status
@@ -105,9 +107,17 @@ seed_explanation path (Ok image) s = image_explained path image s None
 abbrev pub ExplainsSeed : (List ℕ → Option (List ℕ)) → DeskState → DeskState → List ℕ → Status → Option (List ℕ) → Type 0
 ExplainsSeed told before now image s text = (fetched : Result (List ℕ) FetchFault) × IsFetched (told image) (image, MAX_IMAGE_BYTES) before now fetched × (text ≡ seed_explanation image fetched s)
 
+-- of a status that a command over a source has: it names one file, which need not be asked for again
+unfoldable pub source_explained : List ℕ → Status → Option (List ℕ)
+source_explained path status.ReadFault = Some (of_file path read_fault_words)
+source_explained path status.TooLong = Some (of_file path (too_long_words MAX_IMAGE_BYTES))
+source_explained path (status.BadElf field offset) = Some (of_file path (elf_words field))
+source_explained path _ = None
+
 abbrev pub Explains : (List ℕ → Option (List ℕ)) → DeskState → DeskState → Option Order → Status → Option (List ℕ) → Type 0
 Explains told before now None s text = (text ≡ None) × (now ≡ before)
 Explains told before now (Some (Gen number)) s text = (text ≡ None) × (now ≡ before)
+Explains told before now (Some (From source)) s text = (text ≡ source_explained (source_name source) s) × (now ≡ before)
 Explains told before now (Some (Over (Replay image trace))) s text = ExplainsIf (is_refusal s) (ExplainsReplay told before now image trace s text) before now text
 Explains told before now (Some (Over (Seed image cpus budget seed))) s text = ExplainsIf (is_refusal s) (ExplainsSeed told before now image s text) before now text
 
@@ -115,5 +125,6 @@ Explains told before now (Some (Over (Seed image cpus budget seed))) s text = Ex
 abbrev pub is_told : Option Order → Status → Bool
 is_told None s = false
 is_told (Some (Gen number)) s = false
+is_told (Some (From source)) s = is_refusal s
 is_told (Some (Over (Replay image trace))) s = is_refusal s
 is_told (Some (Over (Seed image cpus budget seed))) s = is_refusal s

@@ -1,5 +1,6 @@
 pub mod Texts
 pub mod ImageWords
+pub mod ElfWords
 pub mod LineWords
 pub mod LinePlaces
 pub mod ReasonWords

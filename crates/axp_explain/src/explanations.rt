@@ -8,10 +8,11 @@ ghost use Rattle.axp_explain.specs.Explanations.{Explains, ExplainsReplay, Expla
 ghost use Rattle.axp_explain.specs.Explanations.{explanation, seed_explanation};
 ghost use Rattle.axp_explain.specs.Explanations.{fetch_explained, image_explained, is_refusal};
 ghost use Rattle.axp_explain.specs.Explanations.{is_told, too_long_words, trace_explained};
-ghost use Rattle.axp_explain.specs.Explanations.{trace_file_explained};
+ghost use Rattle.axp_explain.specs.Explanations.{source_explained, trace_file_explained};
 ghost use Rattle.axp_explain.specs.ImageWords.{image_words};
 ghost use Rattle.axp_explain.specs.Texts.{of_file, of_line};
 
+use crate::elf_faults::elf_words;
 use crate::image_faults::image_words;
 use crate::line_faults::{fault_words, line_at, line_fault};
 use crate::reasons::reason_words;
@@ -49,6 +50,7 @@ pub fn explain<D: Desk>(
         Ok(Command::Seed { image, .. }) if is_refusal(status) => {
             explain_seed(alloc, desk, image, status)
         }
+        Ok(Command::Elf { file, .. }) => explain_source(alloc, file, status),
         _ => Ok(None),
     }
 }
@@ -65,7 +67,8 @@ fn is_refusal(status: Status) -> bool
         | Status::NotLegal { .. }
         | Status::Differs { .. }
         | Status::Incomplete { .. }
-        | Status::TooLong => true,
+        | Status::TooLong
+        | Status::BadElf { .. } => true,
     }
 }
 
@@ -99,6 +102,22 @@ fn explain_seed<D: Desk>(
 {
     let image = desk.fetch(alloc, path, MAX_IMAGE_BYTES);
     seed_explanation(alloc, path, image, status)
+}
+
+/// What is told of a status of a command over a source.
+#[tactic(auto, unfolding(crate::specs::Explanations::source_explained))]
+fn explain_source(alloc: Global, path: &str, status: Status) -> Result<Option<Bytes>, NoMemory>
+    ensures text { IfOk result (λ text. text ≡ source_explained path.now status) }
+    ensures silent { is_refusal status ≡ false → result ≡ Ok None }
+{
+    match status {
+        Status::ReadFault => explain_fetch(alloc, path, MAX_IMAGE_BYTES, FetchFault::Failed),
+        Status::TooLong => explain_fetch(alloc, path, MAX_IMAGE_BYTES, FetchFault::TooLong),
+        Status::BadElf { field, .. } => {
+            Ok(Some(of_file(alloc, path, elf_words(field).as_bytes())?))
+        }
+        _ => Ok(None),
+    }
 }
 
 /// What is told of a status of a seeded run, by what was handed over of the image file.

@@ -1,6 +1,7 @@
 //! What a person is told of a refusal: the file, the line of the file, and what is wrong there.
 #![tactic(auto)]
 
+mod elf_faults;
 mod explanations;
 mod image_faults;
 mod laws;

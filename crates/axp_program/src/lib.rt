@@ -36,6 +36,8 @@ usage: axp seed IMAGE CPUS BUDGET SEED
            prints the trace of an event list, or runs a trace again and compares
        axp gen NUMBER
            counts what many seeded runs of a litmus test showed
+       axp elf FILE MEMORY STACK TABLE
+           prints the image file of an executable
        axp --help
            prints this on standard error
        axp --version
@@ -44,9 +46,8 @@ usage: axp seed IMAGE CPUS BUDGET SEED
 examples: axp seed examples/spin_lock/image.bin 2 4000 7
           axp replay examples/spin_lock/image.bin examples/spin_lock/events.txt
 
-IMAGE is what the memory of the machine holds at first. Standard output has the
-trace, or a line that says why there is none, and the exit number says how the
-run ended.
+Standard output has the trace or the file, or a line that says why there is
+none, and the exit number says how the work ended.
 ";
 
 /// Does what the words of the command line say, with the runtime's files and standard output, and

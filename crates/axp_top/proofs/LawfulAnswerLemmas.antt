@@ -1,6 +1,6 @@
 -- The answer to a file shows a run that keeps the constraints of shared memory, and why it ended.
 use Rattle.std.proofs.Common.{◌≡◌, ◌≤◌, ℕ, ◌+◌, ◌&&◌, Bool, true, false, cond, eqb, List, [], ◌∷◌, ◌++◌, length, map, reverse, Option, Some, None, Ok, Err, Result, IfSome, refl, sym, ap, ◌∙◌, subst, inl, inr, append_assoc}
-use Rattle.std.specs.Prelude.{nat_lt, not}
+use Rattle.std.specs.Prelude.{nat_lt, not, option_map}
 use Rattle.std.specs.Str.{bytes_eq}
 use Rattle.std.proofs.lemmas.Bool.{and_parts, eqb-true}
 use Rattle.std.proofs.lemmas.List.{reverse-append}
@@ -34,11 +34,14 @@ use Rattle.axp_seed.proofs.CompletionLemmas.{Ends, ends}
 use Rattle.axp_seed.specs.Seeds.{end_of, seeded_start}
 use Rattle.axp_top.specs.SeededRuns.{seeded_answer}
 use Rattle.axp_top.specs.Answers.{answer_by, answer_if_told, answer_of_files, answer_of_image, answer_of_trace, answer_over, answer_with, image_name, trace_told_by, first_bad, image_in, image_told, no_image, too_long, trace_told}
-use Rattle.axp_top.specs.Lawful.{AreRight, EventsEnd, IsCause, IsLawful, IsLawfulReplay, ShowsSeeded, ShowsSummary, IsNotLegal, RefusesAll, ShowsRun, event_in, event_shown, image_of_file, image_over, lines_of_file}
+use Rattle.axp_top.specs.Lawful.{AreRight, EventsEnd, IsCause, IsLawful, IsLawfulReplay, ShowsImage, ShowsSeeded, ShowsSummary, IsNotLegal, RefusesAll, ShowsRun, event_in, event_shown, image_of_file, image_over, lines_of_file}
 use Rattle.axp_top.specs.Replays.{Answer, FileLine, Front, LineResult, OfTail, Recorded, Refused, answer_of_front, answer_of_header, answer_of_lines, answer_of_run, bad_trace, complete_ending, differs, ending_by, event_result, front_of, incomplete, is_in_order, is_other_memory, is_tail_line, next_line, not_legal, or_else, other_memory, refused_line, refused_or_whole, result_by, result_of, shown_result, tail_refusal}
+use Rattle.axp_elf.specs.Executables as executables
+use Rattle.axp_elf.specs.Faults as elf_faults
+use Rattle.axp_top.specs.ImageFiles.{elf_answer, elf_answer_by, source_answer, source_name, too_long_source}
 use Rattle.axp_summary.proofs.RoundLemmas.{whole_run}
 use Rattle.axp_top.specs.SummaryTexts.{summary_answer}
-use Rattle.axp_top.specs.Words.{Gen, ImageOrder, Order, Over, Replay, Seed}
+use Rattle.axp_top.specs.Words.{Elf, From, Gen, ImageOrder, Order, Over, Replay, Seed, SourceOrder}
 
 -- ---- a line whose event is done
 
@@ -361,6 +364,22 @@ seeded_lawful image cpus budget seed valid few =
       constraints = keeps_constraints (end_of (seeded_start image cpus budget seed)) (subst IsValid (sym last.over.0) valid) last.run;
     }
 
+-- of a source
+elf_lawful : (f : Option elf_faults.Fault) (c : Contents) → ShowsImage (elf_answer_by f c)
+elf_lawful (Some f) c = inl refl
+elf_lawful None c = inr (c, refl)
+
+long_or : (long : Bool) (a : Answer) → ShowsImage a → ShowsImage (cond long too_long_source a)
+long_or true a is = inl refl
+long_or false a is = is
+
+source_lawful : (source : SourceOrder) (bytes : List ℕ) → ShowsImage (source_answer source bytes)
+source_lawful (Elf path memory stack table) bytes = long_or (nat_lt MAX_IMAGE_BYTES (length bytes)) (elf_answer bytes memory stack table) (elf_lawful (elf_faults.first_fault bytes memory) (executables.image_in bytes memory stack table))
+
+source_told_lawful : (source : SourceOrder) (told : Option (List ℕ)) → IfSome (option_map (source_answer source) told) ShowsImage
+source_told_lawful source None = tt
+source_told_lawful source (Some bytes) = source_lawful source bytes
+
 -- over the rounds of a summary
 summary_lawful : (number : ℕ) → ShowsSummary number (summary_answer number)
 summary_lawful number = record { shown = refl; rounds = whole_run number }
@@ -377,6 +396,7 @@ by_lawful order first (Some image) bytes valid = with_lawful order image bytes v
 pub over_lawful : (order : Option Order) (image trace : List ℕ) → IfSome (image_over order image) IsValid → IsLawful order (image_over order image) (lines_of trace) (answer_over order image trace)
 over_lawful None image trace valid = refl
 over_lawful (Some (Gen number)) image trace valid = summary_lawful number
+over_lawful (Some (From source)) image trace valid = source_lawful source image
 over_lawful (Some (Over order)) image trace valid = by_lawful order image (image_in image) trace valid
 
 -- ---- a file's image is valid
@@ -410,4 +430,5 @@ files_lawful order (Some bytes) trace all = image_lawful order bytes (image_in b
 pub told_lawful : (order : Option Order) (told : List ℕ → Option (List ℕ)) → IfSome (image_told order told) AreBytes → IfSome (answers.answer_of order told) (IsLawful order (image_of_file (image_told order told)) (lines_of_file (trace_told order told)))
 told_lawful None told all = refl
 told_lawful (Some (Gen number)) told all = summary_lawful number
+told_lawful (Some (From source)) told all = source_told_lawful source (told (source_name source))
 told_lawful (Some (Over order)) told all = files_lawful order (told (image_name order)) (trace_told_by order told) all

@@ -11,3 +11,4 @@ pub mod ServingLemmas
 pub mod SeededLemmas
 pub mod RangeLemmas
 pub mod SummaryLemmas
+pub mod ExecutableLemmas

@@ -1,6 +1,6 @@
 -- How the parts of the top call end, and what its clauses say of it.
 use Rattle.std.proofs.Common.{◌≡◌, ◌⊎◌, ℕ, zero, suc, ◌+◌, ◌≤◌, ◌<◌, Bool, true, false, List, [], ◌∷◌, ◌++◌, length, Option, Some, None, Ok, Err, IfSome, refl, sym, ap, ◌∙◌, subst, inl, inr, append_assoc, append-nil, arith}
-use Rattle.std.specs.Prelude.{slice_index, nat_lt, replicate}
+use Rattle.std.specs.Prelude.{slice_index, nat_lt, option_map, replicate}
 use Rattle.std.proofs.lemmas.Bool.{lt-ltb, le-ltb, ltb-true}
 use Rattle.std.proofs.lemmas.List.{length-replicate}
 use Rattle.axp_image.specs.Contents.{AreBytes, Contents, IsValid}
@@ -23,10 +23,11 @@ use Rattle.axp_top.specs.Printing.{Ends}
 use Rattle.axp_top.specs.Replays.{Answer, answer_of_lines}
 use Rattle.axp_top.specs.Serving.{Course, Serves, ServesTrace}
 use Rattle.axp_top.specs.Statuses.{AsksFailed, AsksFront, AsksInTurn, AsksNeeded, DeskCount, PutsEach, Settles, SettlesLawfully, SettlesSome, SinkCount}
+use Rattle.axp_top.specs.ImageFiles.{elf_answer, source_answer, source_ask, source_name}
 use Rattle.axp_top.specs.SummaryTexts.{summary_answer}
-use Rattle.axp_top.specs.Words.{Gen, ImageOrder, Order, Over, Replay, Seed}
+use Rattle.axp_top.specs.Words.{Elf, From, Gen, ImageOrder, Order, Over, Replay, Seed, SourceOrder}
 use Rattle.axp_top.proofs.LawfulAnswerLemmas.{over_lawful, told_lawful, valid_in}
-use Rattle.axp_top.proofs.StatusLemmas.{IsAnswer, answer_is, asks_in_turn, asks_needed, desk_count, over_is, puts_each, settles, sink_count, trace_is, with_is}
+use Rattle.axp_top.proofs.StatusLemmas.{IsAnswer, answer_is, asks_in_turn, asks_needed, desk_count, over_is, puts_each, settles, sink_count, source_is, trace_is, with_is}
 
 -- ---- lists that may have been handed over
 
@@ -161,6 +162,11 @@ none_is_no_image : image_of [] ≡ None
 unfolding image_of grammar.header_of grammar.number_at grammar.piece_at
 none_is_no_image = refl
 
+-- so the file of an image has a byte
+pub image_has_bytes : (file : List ℕ) (c : Contents) → image_of file ≡ Some c → 0 < length file
+image_has_bytes [] c is = absurd (let never : None ≡ Some c = sym none_is_no_image ∙ is in cc)
+image_has_bytes (b ∷ file) c is = omega arith
+
 pub files_long : (told : List ℕ → Option (List ℕ)) (b n : Outside) (order : ImageOrder) (s : Status) (f : FetchFault) → f ≡ fetch.TooLong → IfSome (told (image_name order)) (λ t. FetchTold t MAX_IMAGE_BYTES (Err f)) → FetchCount b.desk.faults n.desk.faults (Err f)
     → FetchAsks b.desk.asks n.desk.asks (image_name order, MAX_IMAGE_BYTES) (Err f) → Ends b.sink n.sink too_long s → Serves told (Some (Over order)) b n s
 files_long told b n order s fetch.TooLong is long count asks ends =
@@ -278,6 +284,40 @@ files_served told told' b n desk first second bytes image s is short reads valid
       sure = inl (rw image_is valid);
     }
 
+-- ---- a source: one file alone
+
+source_serves : (told : List ℕ → Option (List ℕ)) (b n : Outside) (source : SourceOrder) (bytes : List ℕ) (s : Status) → IfSome (told (source_name source)) (λ t. bytes ≡ t) → Course b n (source_answer source bytes) (source_ask source ∷ []) s → Serves told (Some (From source)) b n s
+source_serves told b n source bytes s is h = record { image = bytes; trace = []; image_is_told = is; trace_is_told = tt; course = h; sure = inl tt }
+
+pub elf_served : (told : List ℕ → Option (List ℕ)) (b n : Outside) (name : List ℕ) (memory stack table : ℕ) (bytes slice : List ℕ) (s : Status) → slice ≡ bytes → IfSome (told name) (λ t. FetchTold t MAX_IMAGE_BYTES (Ok bytes)) → length bytes ≤ MAX_IMAGE_BYTES → n.desk.faults ≡ b.desk.faults
+    → n.desk.asks ≡ b.desk.asks ++ (name, MAX_IMAGE_BYTES) ∷ [] → Ends b.sink n.sink (elf_answer slice memory stack table) s → Serves told (Some (From (Elf name memory stack table))) b n s
+elf_served told b n name memory stack table bytes slice s same is short count asks ends =
+    let within : nat_lt MAX_IMAGE_BYTES (length bytes) ≡ false = le-ltb MAX_IMAGE_BYTES (length bytes) short in
+    source_serves told b n (Elf name memory stack table) bytes s (handed_is (told name) bytes MAX_IMAGE_BYTES is)
+    (rw within (handed_course b n (elf_answer bytes memory stack table) (name, MAX_IMAGE_BYTES) s count asks (subst (λ (x : List ℕ). Ends b.sink n.sink (elf_answer x memory stack table) s) same ends)))
+
+pub elf_long : (told : List ℕ → Option (List ℕ)) (b n : Outside) (name : List ℕ) (memory stack table : ℕ) (s : Status) (f : FetchFault) → f ≡ fetch.TooLong → IfSome (told name) (λ t. FetchTold t MAX_IMAGE_BYTES (Err f)) → FetchCount b.desk.faults n.desk.faults (Err f)
+    → FetchAsks b.desk.asks n.desk.asks (name, MAX_IMAGE_BYTES) (Err f) → Ends b.sink n.sink too_long s → Serves told (Some (From (Elf name memory stack table))) b n s
+elf_long told b n name memory stack table s fetch.TooLong is long count asks ends =
+    let list = told_or_long MAX_IMAGE_BYTES (told name) in
+    let over : nat_lt MAX_IMAGE_BYTES (length list) ≡ true = lt-ltb MAX_IMAGE_BYTES (length list) (is_longer MAX_IMAGE_BYTES (told name) long) in
+    source_serves told b n (Elf name memory stack table) list s (told_long_is MAX_IMAGE_BYTES (told name)) (rw over (handed_course b n too_long (name, MAX_IMAGE_BYTES) s count asks ends))
+elf_long told b n name memory stack table s fetch.Failed is long count asks ends = cc
+elf_long told b n name memory stack table s fetch.Memory is long count asks ends = cc
+
+pub source_failed : (told : List ℕ → Option (List ℕ)) (b n : Outside) (source : SourceOrder) (s : Status) (f : FetchFault) → f ≡ fetch.Failed → FetchCount b.desk.faults n.desk.faults (Err f) → FetchAsks b.desk.asks n.desk.asks (source_ask source) (Err f)
+    → Ends b.sink n.sink read_fault s → Serves told (Some (From source)) b n s
+source_failed told b n source s f is count asks ends =
+    source_serves told b n source (told_or_none (told (source_name source))) s (told_is (told (source_name source))) (failed_course b n (source_answer source (told_or_none (told (source_name source)))) (source_ask source) [] s f is count asks ends)
+
+pub source_unfound : (told : List ℕ → Option (List ℕ)) (b n : Outside) (source : SourceOrder) (f : FetchFault) → f ≡ fetch.Memory → n.sink ≡ b.sink → FetchCount b.desk.faults n.desk.faults (Err f) → FetchAsks b.desk.asks n.desk.asks (source_ask source) (Err f)
+    → Serves told (Some (From source)) b n status.Memory
+source_unfound told b n source fetch.Memory is same count asks =
+    source_serves told b n source (told_or_none (told (source_name source))) status.Memory (told_is (told (source_name source)))
+    (unfound_course b n (source_answer source (told_or_none (told (source_name source)))) (source_ask source ∷ []) same count (memory_front b.desk.asks n.desk.asks (source_ask source) asks))
+source_unfound told b n source fetch.Failed is same count asks = cc
+source_unfound told b n source fetch.TooLong is same count asks = cc
+
 -- ---- a summary, and no command: nothing is asked for
 
 unasked_course : (b n : Outside) (a : Answer) (s : Status) → n.desk ≡ b.desk → Ends b.sink n.sink a s → Course b n a [] s
@@ -321,8 +361,13 @@ files_told b n asks s order image trace None told_trace is others h = tt
 files_told b n asks s order image trace (Some t) told_trace is others h =
     image_served b n asks s order t (image_in t) trace told_trace others (subst (λ (x : List ℕ). Course b n (answer_by order x (image_in x) trace) asks s) is h)
 
+source_told_served : (b n : Outside) (source : SourceOrder) (bytes : List ℕ) (s : Status) (told : Option (List ℕ)) → IfSome told (λ t. bytes ≡ t) → Course b n (source_answer source bytes) (source_ask source ∷ []) s → IfSome (option_map (source_answer source) told) (IsServed b n s)
+source_told_served b n source bytes s None is h = tt
+source_told_served b n source bytes s (Some t) is h = subst (λ (x : List ℕ). IsServed b n s (source_answer source x)) is (record { is = source_is source bytes; asks = source_ask source ∷ []; course = h })
+
 told_served : (told : List ℕ → Option (List ℕ)) (order : Option Order) (b n : Outside) (s : Status) → Serves told order b n s → IfSome (answer_of order told) (IsServed b n s)
 told_served told None b n s h = record { is = over_is None [] []; asks = []; course = h.course }
+told_served told (Some (From source)) b n s h = source_told_served b n source h.image s (told (source_name source)) h.image_is_told h.course
 told_served told (Some (Gen number)) b n s h = record { is = over_is (Some (Gen number)) [] []; asks = []; course = h.course }
 told_served told (Some (Over order)) b n s h = files_told b n _ s order h.image h.trace (told (image_name order)) (trace_told_by order told) h.image_is_told h.trace_is_told h.course
 
@@ -348,6 +393,9 @@ serves_lawfully told order b n s h all = both b n s order _ _ (answer_of order t
 pub serves_needed : (told : List ℕ → Option (List ℕ)) (order : Option Order) (b n : Outside) (s : Status) → Serves told order b n s → IfSome (image_told order told) (λ bytes. AsksNeeded b.desk n.desk (asks_by order (image_in bytes)) s)
 serves_needed told None b n s h = tt
 serves_needed told (Some (Gen number)) b n s h = tt
+serves_needed told (Some (From source)) b n s h =
+    if_some (λ bytes. h.image ≡ bytes) (λ bytes. AsksNeeded b.desk n.desk (source_ask source ∷ []) s) (told (source_name source))
+    (λ bytes is. asks_needed b n (source_answer source h.image) (source_ask source ∷ []) s (source_is source h.image) h.course) h.image_is_told
 serves_needed told (Some (Over order)) b n s h =
     if_some (λ bytes. h.image ≡ bytes) (λ bytes. AsksNeeded b.desk n.desk (asks_by (Some (Over order)) (image_in bytes)) s) (told (image_name order))
     (λ bytes is. subst (λ (x : List ℕ). AsksNeeded b.desk n.desk (asks_by (Some (Over order)) (image_in x)) s) is (asks_needed b n (answer_by order h.image (image_in h.image) h.trace) _ s (answer_is order h.image (image_in h.image) h.trace) h.course))
@@ -397,11 +445,13 @@ some_over told order b n s h image is valid course = record {
 empty_valid : (order : Option Order) → IfSome (image_over order []) IsValid
 empty_valid None = tt
 empty_valid (Some (Gen number)) = tt
+empty_valid (Some (From source)) = tt
 empty_valid (Some (Over order)) = rw none_is_no_image tt
 
 bytes_valid : (order : Option Order) (bytes : List ℕ) → AreBytes bytes → IfSome (image_over order bytes) IsValid
 bytes_valid None bytes all = tt
 bytes_valid (Some (Gen number)) bytes all = tt
+bytes_valid (Some (From source)) bytes all = tt
 bytes_valid (Some (Over order)) bytes all = valid_in bytes all
 
 -- any first file will do: the told one, if it is of bytes

@@ -37,8 +37,11 @@ use Rattle.axp_top.specs.Serving.{Course}
 use Rattle.axp_top.specs.Statuses.{AsksFailed, AsksFront, AsksInTurn, AsksNeeded, DeskCount, PutsEach, PutsLines, Settles, SinkCount}
 use Rattle.axp_top.specs.Texts.{Lines, header_text, record_lines, right_header, tail}
 use Rattle.axp_summary.specs.Summaries.{summary_of}
+use Rattle.axp_elf.specs.Executables as executables
+use Rattle.axp_elf.specs.Faults as elf_faults
+use Rattle.axp_top.specs.ImageFiles.{elf_answer, elf_answer_by, source_answer, source_ask}
 use Rattle.axp_top.specs.SummaryTexts.{all_count_lines, events_text, summary_answer, title_text}
-use Rattle.axp_top.specs.Words.{Gen, ImageOrder, Order, Over, Replay, Seed}
+use Rattle.axp_top.specs.Words.{Elf, From, Gen, ImageOrder, Order, Over, Replay, Seed, SourceOrder}
 
 -- ---- answers
 
@@ -205,12 +208,20 @@ answer_is order first (Some image) bytes = with_is order image bytes
 summary_is : (number : ℕ) → IsAnswer (summary_answer number)
 summary_is number = record { differs = no_fault status.Done refl; some = headed (title_text number (summary_of number)) (all_count_lines (summary_of number)) (events_text (summary_of number) ∷ []) }
 
+elf_is : (f : Option elf_faults.Fault) (c : Contents) → IsAnswer (elf_answer_by f c)
+elf_is (Some f) c = one_is (status.BadElf f.0 f.1) _ refl
+elf_is None c = record { differs = no_fault status.Done refl; some = omega arith }
+
+pub source_is : (source : SourceOrder) (bytes : List ℕ) → IsAnswer (source_answer source bytes)
+source_is (Elf path memory stack table) bytes = by_length (nat_lt MAX_IMAGE_BYTES (length bytes)) (elf_answer bytes memory stack table) (elf_is (elf_faults.first_fault bytes memory) (executables.image_in bytes memory stack table))
+
 usage_is : IsAnswer usage
 usage_is = one_is status.Usage _ refl
 
 pub over_is : (order : Option Order) (first trace : List ℕ) → IsAnswer (answer_over order first trace)
 over_is None first trace = usage_is
 over_is (Some (Gen number)) first trace = summary_is number
+over_is (Some (From source)) first trace = source_is source first
 over_is (Some (Over order)) first trace = answer_is order first (image_in first) trace
 
 -- ---- the text
@@ -378,4 +389,5 @@ turn_by b n order bytes (Some image) trace s h = turn_all b n (answer_with order
 pub asks_in_turn : (b n : Outside) (order : Option Order) (image trace : List ℕ) (s : Status) → Course b n (answer_over order image trace) (asks_by order (image_over order image)) s → AsksInTurn b.desk.asks n.desk.asks (asks_of order) s
 asks_in_turn b n None image trace s h = turn_all b n usage [] s usage_is h
 asks_in_turn b n (Some (Gen number)) image trace s h = turn_all b n (summary_answer number) [] s (summary_is number) h
+asks_in_turn b n (Some (From source)) image trace s h = turn_all b n (source_answer source image) (source_ask source ∷ []) s (source_is source image) h
 asks_in_turn b n (Some (Over order)) image trace s h = turn_by b n order image (image_in image) trace s h

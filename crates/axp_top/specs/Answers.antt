@@ -1,5 +1,5 @@
 -- What the program answers, by its words and the lists that the desk tells.
-use Rattle.std.specs.Prelude.{ℕ, nat_lt, List, [], ◌∷◌, length, Option, Some, None, if◌then◌else◌}
+use Rattle.std.specs.Prelude.{ℕ, nat_lt, List, [], ◌∷◌, length, Option, Some, None, option_map, if◌then◌else◌}
 use Rattle.axp_image.specs.Contents.{Contents}
 use Rattle.axp_image.specs.Faults.{Fault, first_fault, kind_name}
 use Rattle.axp_image.specs.Grammar.{image_of}
@@ -9,9 +9,10 @@ use Rattle.axp_trace.specs.Lines.{bad_image_line, read_fault_line, too_long_line
 use Rattle.axp_top.specs.declared.status.Status.TheVariants as status
 use Rattle.axp_top.specs.declared.limits.TheConstants.{MAX_IMAGE_BYTES, MAX_TRACE_BYTES}
 use Rattle.axp_top.specs.Replays.{Answer, answer_in_one_line, answer_of_lines}
+use Rattle.axp_top.specs.ImageFiles.{source_answer, source_ask, source_name}
 use Rattle.axp_top.specs.SeededRuns.{seeded_answer}
 use Rattle.axp_top.specs.SummaryTexts.{summary_answer}
-use Rattle.axp_top.specs.Words.{Gen, ImageOrder, Order, Over, Replay, Seed}
+use Rattle.axp_top.specs.Words.{From, Gen, ImageOrder, Order, Over, Replay, Seed}
 
 abbrev pub usage : Answer
 usage = answer_in_one_line status.Usage usage_line
@@ -55,6 +56,7 @@ answer_by order first (Some image) trace = answer_with order image trace
 abbrev pub answer_over : Option Order → List ℕ → List ℕ → Answer
 answer_over None first trace = usage
 answer_over (Some (Gen number)) first trace = summary_answer number
+answer_over (Some (From source)) first trace = source_answer source first
 answer_over (Some (Over order)) first trace = answer_by order first (image_in first) trace
 
 -- the second file of a command that has one, None where the desk does not tell it
@@ -77,10 +79,11 @@ abbrev pub image_name : ImageOrder → List ℕ
 image_name (Replay image trace) = image
 image_name (Seed image cpus budget seed) = image
 
--- what the desk tells under the names of a command's files
+-- what the desk tells under the name of a command's first file, an image or a source
 abbrev pub image_told : Option Order → (List ℕ → Option (List ℕ)) → Option (List ℕ)
 image_told None told = None
 image_told (Some (Gen number)) told = None
+image_told (Some (From source)) told = told (source_name source)
 image_told (Some (Over order)) told = told (image_name order)
 
 abbrev pub trace_told_by : ImageOrder → (List ℕ → Option (List ℕ)) → Option (List ℕ)
@@ -90,12 +93,14 @@ trace_told_by (Seed image cpus budget seed) told = None
 abbrev pub trace_told : Option Order → (List ℕ → Option (List ℕ)) → Option (List ℕ)
 trace_told None told = None
 trace_told (Some (Gen number)) told = None
+trace_told (Some (From source)) told = None
 trace_told (Some (Over order)) told = trace_told_by order told
 
 -- the answer; None where a list that it needs is not told
 abbrev pub answer_of : Option Order → (List ℕ → Option (List ℕ)) → Option Answer
 answer_of None told = Some usage
 answer_of (Some (Gen number)) told = Some (summary_answer number)
+answer_of (Some (From source)) told = option_map (source_answer source) (told (source_name source))
 answer_of (Some (Over order)) told = answer_of_files order (told (image_name order)) (trace_told_by order told)
 
 -- ---- what is asked of the desk, in order
@@ -109,6 +114,7 @@ more_asks (Seed image cpus budget seed) = []
 abbrev pub asks_of : Option Order → List Ask
 asks_of None = []
 asks_of (Some (Gen number)) = []
+asks_of (Some (From source)) = source_ask source ∷ []
 asks_of (Some (Over order)) = (image_name order, MAX_IMAGE_BYTES) ∷ more_asks order
 
 -- what it asks for by the image that the first file is: the second is of use only behind an image
@@ -119,4 +125,5 @@ asks_by_image order (Some contents) = more_asks order
 abbrev pub asks_by : Option Order → Option Contents → List Ask
 asks_by None image = []
 asks_by (Some (Gen number)) image = []
+asks_by (Some (From source)) image = source_ask source ∷ []
 asks_by (Some (Over order)) image = (image_name order, MAX_IMAGE_BYTES) ∷ asks_by_image order image

@@ -23,9 +23,10 @@ use Rattle.axp_base.specs.declared.processors.TheConstants.{MAX_CPUS}
 use Rattle.axp_gen.specs.Shapes.{shape_of}
 use Rattle.axp_seed.specs.Seeds.{end_of, seeded_start}
 use Rattle.axp_summary.specs.Rounds.{IsWholeRun, end_of_round}
+use Rattle.axp_top.specs.ImageFiles.{image_answer}
 use Rattle.axp_top.specs.SeededRuns.{whole_answer}
 use Rattle.axp_top.specs.SummaryTexts.{summary_answer}
-use Rattle.axp_top.specs.Words.{Gen, ImageOrder, Order, Over, Replay, Seed}
+use Rattle.axp_top.specs.Words.{From, Gen, ImageOrder, Order, Over, Replay, Seed}
 
 -- the event that a line shows, of a list or of a trace
 abbrev pub event_shown : Option TraceLine → Option Event
@@ -123,6 +124,7 @@ is_at_once status.Usage = true
 is_at_once (status.BadImage kind offset) = true
 is_at_once (status.BadTrace n) = n == 1
 is_at_once status.TooLong = true
+is_at_once (status.BadElf field offset) = true
 is_at_once _ = false
 
 abbrev pub RefusesAll : Answer → Type 0
@@ -156,10 +158,15 @@ pub record ShowsSummary (number : ℕ) (answer : Answer) : Type 0 where
   pub shown : answer ≡ summary_answer number
   pub rounds : (round : ℕ) → IsWholeRun (shape_of number) (end_of_round number round)
 
+-- the answer is the file of an image, or refuses all; it shows no run
+abbrev pub ShowsImage : Answer → Type 0
+ShowsImage answer = RefusesAll answer ⊎ ((c : Contents) × (answer ≡ image_answer c))
+
 -- where a command needs an image and there is none the answer refuses
 abbrev pub IsLawful : Option Order → Option Contents → List FileLine → Answer → Type 0
 IsLawful None image ls answer = RefusesAll answer
 IsLawful (Some (Gen number)) image ls answer = ShowsSummary number answer
+IsLawful (Some (From source)) image ls answer = ShowsImage answer
 IsLawful (Some (Over order)) None ls answer = RefusesAll answer
 IsLawful (Some (Over order)) (Some image) ls answer = IsLawfulOver order image ls answer
 
@@ -176,4 +183,5 @@ lines_of_file (Some bytes) = lines_of bytes
 abbrev pub image_over : Option Order → List ℕ → Option Contents
 image_over None bytes = None
 image_over (Some (Gen number)) bytes = None
+image_over (Some (From source)) bytes = None
 image_over (Some (Over order)) bytes = image_in bytes

@@ -10,3 +10,4 @@ pub mod Statuses
 pub mod Serving
 pub mod SeededRuns
 pub mod SummaryTexts
+pub mod ImageFiles

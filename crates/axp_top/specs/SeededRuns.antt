@@ -1,5 +1,6 @@
 -- What `seed` prints: the run that a seed defines, whole.
 use Rattle.std.specs.Prelude.{ℕ, ◌++◌, ◌≤◌, Option, Some}
+use Rattle.axp_elf.specs.Executables.{IsSetting}
 use Rattle.axp_image.specs.Contents.{Contents}
 use Rattle.axp_base.specs.declared.processors.TheConstants.{MAX_BUDGET, MAX_CPUS, MIN_CPUS}
 use Rattle.axp_machine.specs.Runs.{Seen}
@@ -23,7 +24,8 @@ pub record AreInRange (cpus budget : ℕ) : Type 0 where
   pub least_budget : 1 ≤ budget
   pub most_budget : budget ≤ MAX_BUDGET
 
--- those of a command that has them
+-- the numbers of a command that has them
 abbrev pub IsInRange : Option words.Order → Type 0
 IsInRange (Some (words.Seed image cpus budget seed)) = AreInRange cpus budget
+IsInRange (Some (words.Elf file memory stack table)) = IsSetting memory stack table
 IsInRange _ = Unit {0}

@@ -137,3 +137,4 @@ number_of_status (status.Differs n) = 7
 number_of_status (status.Incomplete n) = 9
 number_of_status status.TooLong = 10
 number_of_status status.Memory = 11
+number_of_status (status.BadElf field offset) = 14

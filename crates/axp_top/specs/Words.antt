@@ -9,9 +9,15 @@ pub data ImageOrder : Type 0 where
   -- the trace of the run that a seed defines: how many processors, the budget of steps of each, and the seed
   Seed : List ℕ → ℕ → ℕ → ℕ → ImageOrder
 
+-- a command that turns a source, which is one file, into an image file
+pub data SourceOrder : Type 0 where
+  -- an executable: its name, the size of memory, the stack word and the page of the page table
+  Elf : List ℕ → ℕ → ℕ → ℕ → SourceOrder
+
 -- a command
 pub data Order : Type 0 where
   Over : ImageOrder → Order
+  From : SourceOrder → Order
   -- the summary of the seeded runs that a number defines
   Gen : ℕ → Order
 
@@ -20,6 +26,7 @@ order_in None = None
 order_in (Some (words.Replay image trace)) = Some (Over (Replay image trace))
 order_in (Some (words.Seed image cpus budget seed)) = Some (Over (Seed image cpus budget seed))
 order_in (Some (words.Gen number)) = Some (Gen number)
+order_in (Some (words.Elf file memory stack table)) = Some (From (Elf file memory stack table))
 
 -- the command that the words are
 abbrev pub order_of : List (List ℕ) → Option Order

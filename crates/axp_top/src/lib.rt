@@ -3,6 +3,7 @@
 #![tactic(auto)]
 
 mod events;
+mod executables;
 mod file_tail;
 mod laws;
 mod limits;

@@ -1,4 +1,5 @@
 ghost use Rattle.std.specs.Prelude.{IfSome, Some};
+ghost use Rattle.axp_elf.specs.Executables.{IsSetting};
 ghost use Rattle.axp_image.specs.Contents.{AreBytes};
 ghost use Rattle.axp_top.specs.declared.limits.TheConstants.{MAX_TRACE_BYTES};
 ghost use Rattle.axp_top.specs.Answers.{answer_of, asks_by, asks_of, bad_image, read_fault};
@@ -12,9 +13,10 @@ ghost use Rattle.axp_words.specs.Commands as commands;
 ghost use Rattle.axp_top.specs.Statuses.{AsksInTurn, AsksNeeded, DeskCount, PutsEach, SinkCount};
 ghost use Rattle.axp_top.specs.Statuses.{Settles, SettlesLawfully, SettlesSome};
 ghost use Rattle.axp_top.specs.SeededRuns.{AreInRange, IsInRange};
-ghost use Rattle.axp_top.specs.Words.{Over, Replay, Seed, order_in, order_of};
+ghost use Rattle.axp_top.specs.Words.{Elf, From, Over, Replay, Seed, order_in, order_of};
 
 use crate::Status;
+use crate::executables::print_executable;
 use crate::limits::{MAX_IMAGE_BYTES, MAX_TRACE_BYTES};
 use crate::printing::refuse;
 use crate::replay::replay;
@@ -29,7 +31,7 @@ use std::alloc::Global;
 /// Does what the words say, and answers how it ended.
 ///
 /// The words are `replay IMAGE TRACE`, where TRACE names an event list or a trace, `seed IMAGE CPUS
-/// BUDGET SEED` or `gen NUMBER`. An image is fetched and read before a second file is asked for;
+/// BUDGET SEED`, `gen NUMBER` or `elf FILE MEMORY STACK TABLE`. An image is fetched and read before a second file is asked for;
 /// each line with its line feed is one put. What each status means is [`Status`]'s to say, and
 /// `docs/FORMATS.md` has the command line, the forms of the files and of the text.
 pub fn serve_plain<D: Desk, K: Sink>(
@@ -98,6 +100,14 @@ fn serve_command<D: Desk, K: Sink>(
             },
         ) => seed_file(alloc, desk, sink, image, (cpus, budget, seed)),
         Ok(Command::Gen { number }) => print_summary(alloc, sink, number),
+        Ok(
+            Command::Elf {
+                file,
+                memory,
+                stack,
+                table,
+            },
+        ) => elf_file(alloc, desk, sink, file, (memory, stack, table)),
         Err(Usage) => refuse_usage(alloc, sink),
     }
 }
@@ -147,6 +157,28 @@ fn seed_file<D: Desk, K: Sink>(
             Err(ImageError::Bad { kind, offset }) => refuse_image(alloc, sink, kind, offset),
             Err(ImageError::Memory) => Status::Memory,
         },
+        Err(FetchFault::Failed) => refuse_read_fault(alloc, sink),
+        Err(FetchFault::TooLong) => refuse_long(alloc, sink),
+        Err(FetchFault::Memory) => Status::Memory,
+    }
+}
+
+/// Prints the image of the executable of a name: the numbers are the size of memory, the stack word,
+/// and the page of the page table.
+fn elf_file<D: Desk, K: Sink>(
+    alloc: Global,
+    desk: &mut D,
+    sink: &mut K,
+    file: &str,
+    numbers: (u64, u64, u64),
+) -> Status
+    requires { IsSetting numbers.0 numbers.1 numbers.2 }
+    ensures { let at = outside_at D.faults D.asks K.taken K.faults K.puts in
+        Serves (D.told desk.old) (Some (From (Elf file.now numbers.0 numbers.1 numbers.2)))
+        (at desk.old sink.old) (at desk.new sink.new) result }
+{
+    match desk.fetch(alloc, file, MAX_IMAGE_BYTES) {
+        Ok(bytes) => print_executable(alloc, sink, bytes.as_slice(), numbers),
         Err(FetchFault::Failed) => refuse_read_fault(alloc, sink),
         Err(FetchFault::TooLong) => refuse_long(alloc, sink),
         Err(FetchFault::Memory) => Status::Memory,

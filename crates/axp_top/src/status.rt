@@ -1,5 +1,6 @@
 ghost use Rattle.std.specs.Prelude.{◌≡◌};
 
+use axp_elf::ElfField;
 use axp_image::ImageKind;
 
 /// How the work ended, and the number that the process ends with (docs/FORMATS.md, "The status").
@@ -49,6 +50,14 @@ pub enum Status {
     },
     /// A file is longer than it may be; the line `axp: too long` was taken, and nothing before it.
     TooLong,
+    /// The file is no executable that can be loaded; a line with this was taken, and nothing before
+    /// it.
+    BadElf {
+        /// What its first fault is.
+        field: ElfField,
+        /// Where that lies, in bytes from the file's start.
+        offset: u64,
+    },
     /// Memory was not found; what was taken is a front of the text or, where the desk had failed,
     /// of the line of a read fault.
     Memory,
@@ -73,6 +82,7 @@ impl Status {
             Status::Incomplete { .. } => 9,
             Status::TooLong => 10,
             Status::Memory => 11,
+            Status::BadElf { .. } => 14,
         }
     }
 }

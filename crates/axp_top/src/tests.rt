@@ -5,6 +5,7 @@ use std::alloc::Global;
 use std::test::Fail;
 
 mod entries;
+mod executables;
 mod locks;
 mod seeds;
 mod shared_memory;

@@ -1,4 +1,5 @@
 pub mod Digits
+pub mod Executables
 pub mod Fields
 pub mod Files
 pub mod Lines

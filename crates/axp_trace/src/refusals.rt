@@ -1,9 +1,10 @@
 //! The lines that say why nothing more is printed, without their line feeds (`docs/FORMATS.md`, "Where
 //! the trace ends early").
-ghost use Rattle.std.specs.Prelude.{◌≡◌, ◌+◌, ◌≤◌, ◌<◌, ◌++◌, decimal, length, IfOk};
+ghost use Rattle.std.specs.Prelude.{◌≡◌, ◌+◌, ◌≤◌, ◌<◌, ◌++◌, codes, decimal, length, IfOk};
 ghost use Rattle.arrayvec.specs.ArrayVec.{array_vec_len};
 ghost use Rattle.axp_trace.specs.declared.lines.TheConstants.{LINE_ROOM};
 ghost use Rattle.axp_trace.specs.declared.refusals.TheConstants.{MOST_KIND};
+ghost use Rattle.axp_trace.specs.Executables.{bad_elf_line};
 ghost use Rattle.axp_trace.specs.Lines.{usage_line, read_fault_line, too_long_line, bad_image_line};
 ghost use Rattle.axp_trace.specs.Lines.{bad_trace_line, not_legal_line, incomplete_line};
 ghost use Rattle.axp_trace.specs.Lines.{differs_line, given_line, right_line};
@@ -43,6 +44,21 @@ fn numbered(words: &[u8], number: u32) -> LineText
     line
 }
 
+/// A line that names a fault and where it lies.
+fn located(words: &[u8], name: &[u8], offset: u64) -> LineText
+    requires words { length words.now ≤ MOST_WORDS }
+    requires name { length name.now ≤ MOST_KIND }
+    ensures text { result.items ≡ words.now ++ name.now ++ codes " at " ++ decimal offset }
+    ensures short { array_vec_len result < LINE_ROOM }
+{
+    let mut line = LineText::new();
+    push_all(&mut line, words);
+    push_all(&mut line, name);
+    push_all(&mut line, b" at ");
+    push_long(&mut line, offset);
+    line
+}
+
 /// The line for words of the command line that have no meaning.
 #[tactic(auto, unfolding(crate::specs::Lines::usage_line))]
 pub fn write_usage() -> LineText
@@ -78,12 +94,18 @@ pub fn write_bad_image(kind: &[u8], offset: u64) -> LineText
     ensures text { result.items ≡ bad_image_line kind.now offset }
     ensures short { array_vec_len result < LINE_ROOM }
 {
-    let mut line = LineText::new();
-    push_all(&mut line, b"axp: bad image ");
-    push_all(&mut line, kind);
-    push_all(&mut line, b" at ");
-    push_long(&mut line, offset);
-    line
+    located(b"axp: bad image ", kind, offset)
+}
+
+/// The line of an executable with this field at fault, of which the name is given, in at most
+/// [`MOST_KIND`] bytes, at this offset in bytes.
+#[tactic(auto, unfolding(crate::specs::Executables::bad_elf_line))]
+pub fn write_bad_elf(field: &[u8], offset: u64) -> LineText
+    requires { length field.now ≤ MOST_KIND }
+    ensures text { result.items ≡ bad_elf_line field.now offset }
+    ensures short { array_vec_len result < LINE_ROOM }
+{
+    located(b"axp: bad elf ", field, offset)
 }
 
 /// The line of a list or a trace whose line of this number, from 1, is outside the grammar.

@@ -1,12 +1,13 @@
 -- Which words are which command.
-use Rattle.std.proofs.Common.{◌≡◌, ◌≢◌, ℕ, suc, ◌-◌, ◌^◌, ◌<◌, ◌≤◌, Bool, true, false, cond, List, [], ◌∷◌, length, Option, Some, None, refl, sym, ap, subst, ◌∙◌, arith}
+use Rattle.std.proofs.Common.{◌≡◌, ◌≢◌, ℕ, suc, ◌-◌, ◌/◌, ◌%◌, ◌^◌, ◌<◌, ◌≤◌, Bool, true, false, cond, eqb, List, [], ◌∷◌, length, Option, Some, None, refl, sym, ap, subst, ◌∙◌, arith}
 use Rattle.std.specs.Prelude.{codes, decimal}
 use Rattle.std.specs.Str.{bytes_eq}
-use Rattle.std.proofs.lemmas.Bool.{ne_eqb}
+use Rattle.std.proofs.lemmas.Bool.{eq-eqb, eqb-true, ne_eqb}
 use Rattle.std.proofs.lemmas.Slice.Eq.{bytes_eq-Decides}
 use Rattle.axp_base.specs.declared.processors.TheConstants.{MIN_CPUS, MAX_CPUS, MAX_BUDGET}
+use Rattle.axp_image.specs.declared.limits.TheConstants.{MAX_MEMORY, PAGE_BYTES}
 use Rattle.axp_words.specs.Numbers.{number_in}
-use Rattle.axp_words.specs.Words.{Order, Seed, Replay, Gen, ◌>>=◌, path_of, any_number, seed_of, replay_of, gen_of, order_of}
+use Rattle.axp_words.specs.Words.{Order, Seed, Replay, Gen, Elf, ◌>>=◌, path_of, any_number, memory_in, seed_of, replay_of, gen_of, elf_of, order_of}
 use Rattle.axp_words.proofs.NumberLemmas.{decimals}
 
 -- the words of a command, in the subject's terms
@@ -15,6 +16,8 @@ Spells words (Seed image cpus budget seed) = (words ≡ codes "seed" ∷ image �
     × (image ≢ []) × (MIN_CPUS ≤ cpus) × (cpus ≤ MAX_CPUS) × (1 ≤ budget) × (budget ≤ MAX_BUDGET) × (seed < 2 ^ 64)
 Spells words (Replay image trace) = (words ≡ codes "replay" ∷ image ∷ trace ∷ []) × (image ≢ []) × (trace ≢ [])
 Spells words (Gen number) = (words ≡ codes "gen" ∷ decimal number ∷ []) × (number < 2 ^ 64)
+Spells words (Elf file memory stack table) = (words ≡ codes "elf" ∷ file ∷ decimal memory ∷ decimal stack ∷ decimal table ∷ [])
+    × (file ≢ []) × (memory % PAGE_BYTES ≡ 0) × (PAGE_BYTES ≤ memory) × (memory ≤ MAX_MEMORY) × (stack < 2 ^ 64) × (table < memory / PAGE_BYTES)
 
 bind_some : {A B : Type 0} (o : Option A) (f : A → Option B) (y : B) → (o >>= f) ≡ Some y → (x : A) × (o ≡ Some x) × (f x ≡ Some y)
 bind_some None f y h = absurd cc
@@ -87,6 +90,67 @@ seed_says image cpus budget seed o h =
     let same : Seed image c.0 b.0 s.0 ≡ Seed i.0 c.0 b.0 s.0 = ap (λ (x : List ℕ). Seed x c.0 b.0 s.0) path.0 in
     subst (Spells words) (same ∙ some_is (Seed i.0 c.0 b.0 s.0) o s.2) shown
 
+-- a size of memory in whole pages
+sized_says : (size m : ℕ) → cond (eqb (size % PAGE_BYTES) 0) (Some size) None ≡ Some m → (size ≡ m) × (size % PAGE_BYTES ≡ 0)
+sized_says size m h =
+    let is = guard_some (eqb (size % PAGE_BYTES) 0) (Some size) m h in
+    (some_is size m is.1, eqb-true (size % PAGE_BYTES) 0 is.0)
+
+record SaysMemory (word : List ℕ) (m : ℕ) : Type 0 where
+  pub spelled : word ≡ decimal m
+  pub pages : m % PAGE_BYTES ≡ 0
+  pub least : PAGE_BYTES ≤ m
+  pub most : m ≤ MAX_MEMORY
+
+memory_says : (word : List ℕ) (m : ℕ) → memory_in word ≡ Some m → SaysMemory word m
+memory_says word m h =
+    let n = bind_some (number_in PAGE_BYTES MAX_MEMORY word) (λ size. cond (eqb (size % PAGE_BYTES) 0) (Some size) None) m h in
+    let is = (decimals PAGE_BYTES MAX_MEMORY n.0 word (omega arith)).0 n.1 in
+    let sized = sized_says n.0 m n.2 in
+    subst (SaysMemory word) sized.0 (record { spelled = is.0; pages = sized.1; least = is.1; most = is.2 })
+
+memory_has : (m : ℕ) → m % PAGE_BYTES ≡ 0 → PAGE_BYTES ≤ m → m ≤ MAX_MEMORY → memory_in (decimal m) ≡ Some m
+memory_has m pages least most = rw ((decimals PAGE_BYTES MAX_MEMORY m (decimal m) (omega arith)).1 (refl, least, most), eq-eqb (m % PAGE_BYTES) 0 pages) refl
+
+pages_some : (m : ℕ) → PAGE_BYTES ≤ m → 1 ≤ m / PAGE_BYTES
+pages_some m least = omega (arith, least)
+
+below : (table pages : ℕ) → 1 ≤ pages → table ≤ pages - 1 → table < pages
+below table pages some most = omega (arith, some, most)
+
+at_most : (table pages : ℕ) → table < pages → table ≤ pages - 1
+at_most table pages below = omega (arith, below)
+
+few_pages : (m : ℕ) → m ≤ MAX_MEMORY → m / PAGE_BYTES - 1 < 2 ^ 64
+few_pages m most = omega (arith, most)
+
+elf_says : (file memory stack table : List ℕ) (o : Order) → elf_of file memory stack table ≡ Some o → Spells (codes "elf" ∷ file ∷ memory ∷ stack ∷ table ∷ []) o
+elf_says file memory stack table o h =
+    let words = codes "elf" ∷ file ∷ memory ∷ stack ∷ table ∷ [] in
+    let f = bind_some (path_of file) (λ x. memory_in memory >>= λ m. any_number stack >>= λ s. number_in 0 (m / PAGE_BYTES - 1) table >>= λ t. Some (Elf x m s t)) o h in
+    let m = bind_some (memory_in memory) (λ m. any_number stack >>= λ s. number_in 0 (m / PAGE_BYTES - 1) table >>= λ t. Some (Elf f.0 m s t)) o f.2 in
+    let s = bind_some (any_number stack) (λ s. number_in 0 (m.0 / PAGE_BYTES - 1) table >>= λ t. Some (Elf f.0 m.0 s t)) o m.2 in
+    let t = bind_some (number_in 0 (m.0 / PAGE_BYTES - 1) table) (λ t. Some (Elf f.0 m.0 s.0 t)) o s.2 in
+    let path = path_says file f.0 f.1 in
+    let size = memory_says memory m.0 m.1 in
+    let start = any_says stack s.0 s.1 in
+    let page = (decimals 0 (m.0 / PAGE_BYTES - 1) t.0 table (few_pages m.0 size.most)).0 t.1 in
+    let spelled : words ≡ codes "elf" ∷ file ∷ decimal m.0 ∷ decimal s.0 ∷ decimal t.0 ∷ [] =
+    ap (λ (w : List ℕ). codes "elf" ∷ file ∷ w ∷ stack ∷ table ∷ []) size.spelled
+    ∙ ap (λ (w : List ℕ). codes "elf" ∷ file ∷ decimal m.0 ∷ w ∷ table ∷ []) start.0
+    ∙ ap (λ (w : List ℕ). codes "elf" ∷ file ∷ decimal m.0 ∷ decimal s.0 ∷ w ∷ []) page.0 in
+    let shown : Spells words (Elf file m.0 s.0 t.0) = (spelled, path.1, size.pages, size.least, size.most, start.1, below t.0 (m.0 / PAGE_BYTES) (pages_some m.0 size.least) page.2) in
+    let same : Elf file m.0 s.0 t.0 ≡ Elf f.0 m.0 s.0 t.0 = ap (λ (x : List ℕ). Elf x m.0 s.0 t.0) path.0 in
+    subst (Spells words) (same ∙ some_is (Elf f.0 m.0 s.0 t.0) o t.2) shown
+
+four_says : (verb first second third fourth : List ℕ) (o : Order) (is_seed : Bool) → bytes_eq verb (codes "seed") ≡ is_seed
+    → cond is_seed (seed_of first second third fourth) (cond (bytes_eq verb (codes "elf")) (elf_of first second third fourth) None) ≡ Some o → Spells (verb ∷ first ∷ second ∷ third ∷ fourth ∷ []) o
+four_says verb first second third fourth o true is h =
+    subst (λ (v : List ℕ). Spells (v ∷ first ∷ second ∷ third ∷ fourth ∷ []) o) (sym (same_bytes verb (codes "seed") is)) (seed_says first second third fourth o h)
+four_says verb first second third fourth o false is h =
+    let read = guard_some (bytes_eq verb (codes "elf")) (elf_of first second third fourth) o h in
+    subst (λ (v : List ℕ). Spells (v ∷ first ∷ second ∷ third ∷ fourth ∷ []) o) (sym (same_bytes verb (codes "elf") read.0)) (elf_says first second third fourth o read.1)
+
 -- ---- both ways
 
 pub order_says : (words : List (List ℕ)) (o : Order) → order_of words ≡ Some o → Spells words o
@@ -100,9 +164,7 @@ order_says (verb ∷ image ∷ trace ∷ []) o h =
     let read = guard_some (bytes_eq verb (codes "replay")) (replay_of image trace) o h in
     subst (λ (v : List ℕ). Spells (v ∷ image ∷ trace ∷ []) o) (sym (same_bytes verb (codes "replay") read.0)) (replay_says image trace o read.1)
 order_says (a ∷ b ∷ c ∷ d ∷ []) o h = absurd cc
-order_says (verb ∷ image ∷ cpus ∷ budget ∷ seed ∷ []) o h =
-    let read = guard_some (bytes_eq verb (codes "seed")) (seed_of image cpus budget seed) o h in
-    subst (λ (v : List ℕ). Spells (v ∷ image ∷ cpus ∷ budget ∷ seed ∷ []) o) (sym (same_bytes verb (codes "seed") read.0)) (seed_says image cpus budget seed o read.1)
+order_says (verb ∷ first ∷ second ∷ third ∷ fourth ∷ []) o h = four_says verb first second third fourth o (bytes_eq verb (codes "seed")) refl h
 order_says (a ∷ b ∷ c ∷ d ∷ e ∷ f ∷ more) o h = absurd cc
 
 pub order_has : (words : List (List ℕ)) (o : Order) → Spells words o → order_of words ≡ Some o
@@ -113,6 +175,14 @@ order_has words (Seed image cpus budget seed) is =
       (decimals MIN_CPUS MAX_CPUS cpus (decimal cpus) (omega arith)).1 (refl, is.2, is.3),
       (decimals 1 MAX_BUDGET budget (decimal budget) (omega arith)).1 (refl, is.4, is.5),
       any_has seed is.6,
+    ) refl in
+    ap order_of is.0 ∙ read
+order_has words (Elf file memory stack table) is =
+    let read : elf_of file (decimal memory) (decimal stack) (decimal table) ≡ Some (Elf file memory stack table) = rw (
+      path_has file is.1,
+      memory_has memory is.2 is.3 is.4,
+      any_has stack is.5,
+      (decimals 0 (memory / PAGE_BYTES - 1) table (decimal table) (few_pages memory is.4)).1 (refl, omega arith, at_most table (memory / PAGE_BYTES) is.6),
     ) refl in
     ap order_of is.0 ∙ read
 order_has words (Replay image trace) is =

@@ -1,7 +1,8 @@
 -- The command grammar: which lists of words are which command.
-use Rattle.std.specs.Prelude.{ℕ, ◌-◌, ◌^◌, ◌==◌, List, [], ◌∷◌, length, codes, Option, Some, None, option_and_then, if◌then◌else◌}
+use Rattle.std.specs.Prelude.{ℕ, ◌-◌, ◌/◌, ◌%◌, ◌^◌, ◌==◌, List, [], ◌∷◌, length, codes, Option, Some, None, option_and_then, if◌then◌else◌}
 use Rattle.std.specs.Str.{bytes_eq}
 use Rattle.axp_base.specs.declared.processors.TheConstants.{MIN_CPUS, MAX_CPUS, MAX_BUDGET}
+use Rattle.axp_image.specs.declared.limits.TheConstants.{MAX_MEMORY, PAGE_BYTES}
 use Rattle.axp_words.specs.Numbers.{number_in}
 
 -- a command, without where its words lie
@@ -12,6 +13,8 @@ pub data Order : Type 0 where
   Replay : List ℕ → List ℕ → Order
   -- a summary of many seeded runs
   Gen : ℕ → Order
+  -- the image file of an executable, for a size of memory, a stack word and a page of the page table
+  Elf : List ℕ → ℕ → ℕ → ℕ → Order
 
 -- what follows a word is read where the word was
 infixl 10 ◌>>=◌
@@ -40,14 +43,34 @@ replay_of image trace = do
   list ← path_of trace
   Some (Replay path list)
 
+-- the size of memory in whole pages that a word writes
+abbrev pub memory_in : List ℕ → Option ℕ
+memory_in word = do
+  size ← number_in PAGE_BYTES MAX_MEMORY word
+  if size % PAGE_BYTES == 0 then Some size else None
+
+abbrev pub elf_of : List ℕ → List ℕ → List ℕ → List ℕ → Option Order
+elf_of file memory stack table = do
+  path ← path_of file
+  size ← memory_in memory
+  start ← any_number stack
+  page ← number_in 0 (size / PAGE_BYTES - 1) table
+  Some (Elf path size start page)
+
 abbrev pub gen_of : List ℕ → Option Order
 gen_of number = do
   n ← any_number number
   Some (Gen n)
 
+-- the command of a verb and four words
+abbrev pub order_of_four : List ℕ → List ℕ → List ℕ → List ℕ → List ℕ → Option Order
+order_of_four verb first second third fourth =
+    if bytes_eq verb (codes "seed") then seed_of first second third fourth
+    else if bytes_eq verb (codes "elf") then elf_of first second third fourth else None
+
 -- the command that the words are
 unfoldable pub order_of : List (List ℕ) → Option Order
 order_of (verb ∷ number ∷ []) = if bytes_eq verb (codes "gen") then gen_of number else None
 order_of (verb ∷ image ∷ trace ∷ []) = if bytes_eq verb (codes "replay") then replay_of image trace else None
-order_of (verb ∷ image ∷ cpus ∷ budget ∷ seed ∷ []) = if bytes_eq verb (codes "seed") then seed_of image cpus budget seed else None
+order_of (verb ∷ first ∷ second ∷ third ∷ fourth ∷ []) = order_of_four verb first second third fourth
 order_of _ = None

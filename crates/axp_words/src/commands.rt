@@ -1,11 +1,14 @@
-ghost use Rattle.std.specs.Prelude.{◌≡◌, codes, if◌then◌else◌, None};
+ghost use Rattle.std.specs.Prelude.{◌≡◌, ◌≤◌, ◌/◌, codes, if◌then◌else◌, None, IfSome};
 ghost use Rattle.std.specs.Str.{bytes_eq};
 ghost use Rattle.axp_words.specs.Commands.{order_by, order_read};
-ghost use Rattle.axp_words.specs.Words.{gen_of, order_of, replay_of, seed_of};
+ghost use Rattle.axp_image.specs.declared.limits.TheConstants.{PAGE_BYTES};
+ghost use Rattle.axp_words.specs.Words.{elf_of, gen_of, memory_in, order_of, order_of_four, replay_of};
+ghost use Rattle.axp_words.specs.Words.{seed_of};
 
 use crate::numbers::read_number_in;
 use crate::words::Word;
 use axp_base::{MAX_BUDGET, MAX_CPUS, MIN_CPUS};
+use axp_image::{MAX_MEMORY, PAGE_BYTES};
 
 /// A command of the program. `docs/FORMATS.md` has their words under "The command line".
 #[derive(Clone, Copy, Debug, PartialEq, Eq)]
@@ -27,6 +30,15 @@ pub enum Command<'a> {
     /// A summary of many seeded runs; the number chooses the image and the seeds.
     Gen {
         number: u64,
+    },
+    /// The image file of an executable: its path, the size of memory in bytes, a whole number of
+    /// pages from [`PAGE_BYTES`] to [`MAX_MEMORY`], the stack word, and the page of the page table,
+    /// below the number of pages.
+    Elf {
+        file: &'a str,
+        memory: u64,
+        stack: u64,
+        table: u64,
     },
 }
 
@@ -62,6 +74,56 @@ fn read_replay<'a>(image: &'a str, trace: &'a str) -> Option<Command<'a>>
     Some(Command::Replay { image, trace })
 }
 
+/// The size of memory that a word writes, where it is one.
+fn read_memory(word: &str) -> Option<u64>
+    ensures value { result ≡ memory_in word.now }
+    ensures pages { IfSome result (λ size. 1 ≤ size / PAGE_BYTES) }
+{
+    let size = read_number_in(word, PAGE_BYTES, MAX_MEMORY)?;
+    if size % PAGE_BYTES == 0 {
+        Some(size)
+    } else {
+        None
+    }
+}
+
+/// The command of `elf` and four words.
+fn read_elf<'a>(file: &'a str, memory: &str, stack: &str, table: &str) -> Option<Command<'a>>
+    ensures { order_read result ≡ elf_of file.now memory.now stack.now table.now }
+{
+    if file.is_empty() {
+        return None;
+    }
+    let memory = read_memory(memory)?;
+    let stack = read_number_in(stack, 0, u64::MAX)?;
+    let table = read_number_in(table, 0, memory / PAGE_BYTES - 1)?;
+    Some(Command::Elf {
+        file,
+        memory,
+        stack,
+        table,
+    })
+}
+
+/// The command of a verb and four words.
+fn read_four<'a>(
+    verb: &str,
+    first: &'a str,
+    second: &str,
+    third: &str,
+    fourth: &str,
+) -> Option<Command<'a>>
+    ensures { order_read result ≡ order_of_four verb.now first.now second.now third.now fourth.now }
+{
+    if verb == "seed" {
+        read_seed(first, second, third, fourth)
+    } else if verb == "elf" {
+        read_elf(first, second, third, fourth)
+    } else {
+        None
+    }
+}
+
 /// The command of `gen` and a word.
 fn read_gen(number: &str) -> Option<Command<'static>>
     ensures { order_read result ≡ gen_of number.now }
@@ -90,18 +152,13 @@ fn read(words: &[Word]) -> Option<Command<'_>>
                 None
             }
         }
-        [verb, image, cpus, budget, seed] => {
-            if verb.as_str() == "seed" {
-                read_seed(
-                    image.as_str(),
-                    cpus.as_str(),
-                    budget.as_str(),
-                    seed.as_str(),
-                )
-            } else {
-                None
-            }
-        }
+        [verb, first, second, third, fourth] => read_four(
+            verb.as_str(),
+            first.as_str(),
+            second.as_str(),
+            third.as_str(),
+            fourth.as_str(),
+        ),
         _ => None,
     }
 }

@@ -1,9 +1,10 @@
 //! Laws of the command grammar, each proved as the contract of a function that does nothing.
-ghost use Rattle.std.specs.Prelude.{ℕ, List, ◌≡◌, ◌≢◌, ◌↔◌, ◌<◌, ◌≤◌, ◌^◌, Some, ◌∷◌, []};
+ghost use Rattle.std.specs.Prelude.{ℕ, List, ◌≡◌, ◌≢◌, ◌↔◌, ◌<◌, ◌≤◌, ◌/◌, ◌%◌, ◌^◌, Some, ◌∷◌, []};
 ghost use Rattle.std.specs.Prelude.{codes, decimal};
 ghost use Rattle.axp_base.specs.declared.processors.TheConstants.{MIN_CPUS, MAX_CPUS, MAX_BUDGET};
+ghost use Rattle.axp_image.specs.declared.limits.TheConstants.{MAX_MEMORY, PAGE_BYTES};
 ghost use Rattle.axp_words.specs.Numbers.{number_in};
-ghost use Rattle.axp_words.specs.Words.{Gen, Replay, Seed, order_of};
+ghost use Rattle.axp_words.specs.Words.{Elf, Gen, Replay, Seed, order_of};
 
 /// A word writes a number of a range exactly where it is the number's decimal text.
 pub fn numbers_are_their_decimals()
@@ -25,6 +26,16 @@ pub fn seed_is_these_five_words()
         ↔ ((words ≡ codes "seed" ∷ image ∷ decimal cpus ∷ decimal budget ∷ decimal seed ∷ [])
         × (image ≢ []) × (MIN_CPUS ≤ cpus) × (cpus ≤ MAX_CPUS) × (1 ≤ budget) × (budget ≤ MAX_BUDGET)
         × (seed < 2 ^ 64)) }
+{}
+
+/// The words are an executable's image exactly where they are the word `elf`, a path and three
+/// numbers in decimal: a size of memory in whole pages, a stack word, and a page of this memory.
+pub fn elf_is_these_five_words()
+    ensures { (words : List (List ℕ)) (file : List ℕ) (memory stack table : ℕ)
+        → (order_of words ≡ Some (Elf file memory stack table))
+        ↔ ((words ≡ codes "elf" ∷ file ∷ decimal memory ∷ decimal stack ∷ decimal table ∷ [])
+        × (file ≢ []) × (memory % PAGE_BYTES ≡ 0) × (PAGE_BYTES ≤ memory) × (memory ≤ MAX_MEMORY)
+        × (stack < 2 ^ 64) × (table < memory / PAGE_BYTES)) }
 {}
 
 /// The words are a summary of runs exactly where they are the word `gen` and a number in decimal.

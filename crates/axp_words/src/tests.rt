@@ -36,10 +36,20 @@ fn words_in_the_grammar_are_their_command(rt: HostRuntime) -> Result<(), Fail> {
         image: "k.img",
         trace: "-",
     };
-    let rows: [(&[&str], Command<'_>); 6] = [
+    let elf = Command::Elf {
+        file: "a.out",
+        memory: 16_777_216,
+        stack: u64::MAX,
+        table: 2_047,
+    };
+    let rows: [(&[&str], Command<'_>); 7] = [
         (&["seed", "s.img", "2", "1", "0"], least),
         (&["seed", "a b", "8", "32768", "18446744073709551615"], most),
         (&["replay", "k.img", "-"], replay),
+        (
+            &["elf", "a.out", "16777216", "18446744073709551615", "2047"],
+            elf,
+        ),
         (&["gen", "0"], Command::Gen { number: 0 }),
         (&["gen", "10"], Command::Gen { number: 10 }),
         (
@@ -56,7 +66,7 @@ fn words_in_the_grammar_are_their_command(rt: HostRuntime) -> Result<(), Fail> {
 
 #[test]
 fn other_words_are_no_command(rt: HostRuntime) -> Result<(), Fail> {
-    let rows: [&[&str]; 27] = [
+    let rows: [&[&str]; 34] = [
         &[],
         &["replay"],
         &["replay", "k.img"],
@@ -84,6 +94,13 @@ fn other_words_are_no_command(rt: HostRuntime) -> Result<(), Fail> {
         &["gen", "0x1"],
         &["gen", "18446744073709551616"],
         &["gen", "1", "2"],
+        &["elf", "", "8192", "0", "0"],
+        &["elf", "a.out", "8192", "0"],
+        &["elf", "a.out", "0", "0", "0"],
+        &["elf", "a.out", "12288", "0", "0"],
+        &["elf", "a.out", "16785408", "0", "0"],
+        &["elf", "a.out", "8192", "0", "1"],
+        &["elf", "a.out", "8192", "-1", "0"],
     ];
     for texts in rows {
         let words = words_of(rt.alloc(), texts)?;
