@@ -2,6 +2,7 @@ ghost use Rattle.std.specs.Prelude.{◌≤◌, length};
 
 use super::*;
 use axp_base::{Bytes, NoMemory};
+use axp_elf::ElfField;
 use axp_image::{Image, ImageKind, KSEG, write_image};
 use axp_io::TableDesk;
 use axp_top::Status;
@@ -345,5 +346,24 @@ fn a_seeded_run_has_a_line_for_its_image_alone(rt: HostRuntime) -> Result<(), Fa
     let text =
         "axp: image: the file ends after 0 bytes, inside of a field, a record or the segments' bytes\n";
     assert!(rt; line.as_slice() == text.as_bytes());
+    Ok(())
+}
+
+#[test]
+fn tells_the_field_of_an_executable(rt: HostRuntime) -> Result<(), Fail> {
+    let alloc = rt.alloc();
+    let mut words = Vec::new(alloc);
+    for text in ["elf", "a.out", "8192", "0", "0"] {
+        words.push(Word::new(alloc, text)?)?;
+    }
+    let mut desk = TableDesk::new(alloc, &[])?;
+    let status = Status::BadElf {
+        field: ElfField::Machine,
+        offset: 18,
+    };
+    let line = b"axp: a.out: the machine is not 9026 hexadecimal, that of Alpha\n";
+    let text = explain(alloc, words.as_slice(), &mut desk, status)?.ok_or("no line")?;
+    assert!(rt; text.as_slice() == line.as_slice());
+    assert!(rt; desk.asks().is_empty());
     Ok(())
 }
