@@ -16,6 +16,7 @@ pub use laws::{
     lines_are_worked_out, lines_of_statements_are_whole, names_are_told_apart,
     statements_are_their_lines,
 };
+pub use numbers::BRANCH_HALF;
 pub use reading::read_statement;
 pub use statements::{Directive, Statement};
 pub use texts::{write_directive, write_instruction};

@@ -13,7 +13,7 @@ use itoa::Buffer;
 pub(crate) const MEMORY_HALF: u32 = 1 << 15;
 
 /// Half of the range of a displacement of the branch format.
-pub(crate) const BRANCH_HALF: u32 = 1 << 20;
+pub const BRANCH_HALF: u32 = 1 << 20;
 
 /// The most decimal digits of a number of 64 bits.
 const LONG_DIGITS: usize = 20;
