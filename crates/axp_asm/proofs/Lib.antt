@@ -1,1 +1,6 @@
 mod EndLemmas
+mod FieldLemmas
+mod FillLemmas
+mod ListedLemmas
+mod RoundTripLemmas
+mod ListingLemmas

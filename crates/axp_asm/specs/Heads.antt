@@ -1,5 +1,5 @@
 -- The first four lines of a source: the size of memory, the entry address, the stack word, and the page of the page table.
-use Rattle.std.specs.Prelude.{ℕ, ◌/◌, nat_lt, if◌then◌else◌, List, [], ◌∷◌, Option, Some, None, Result, Ok, Err}
+use Rattle.std.specs.Prelude.{ℕ, ◌/◌, nat_lt, if◌then◌else◌, [], Some, None, Result, Ok, Err}
 use Rattle.axp_image.specs.declared.limits.TheConstants.{PAGE_BYTES}
 use Rattle.axp_image.specs.Contents.{Contents, contents}
 use Rattle.axp_image.specs.Grammar.{is_memory_size, is_entry}

@@ -35,12 +35,7 @@ fn first_formless(text: &[u8]) -> Option<u32>
 
 /// The image of a draft and the lines behind the first four.
 #[tactic(auto, unfolding(crate::specs::Lines::said_in))]
-fn fill(
-    alloc: Global,
-    labels: &LabelList<'_>,
-    start: Draft,
-    body: &[u8],
-) -> Result<Image, AsmError>
+fn fill(alloc: Global, labels: &LabelList<'_>, start: Draft, body: &[u8]) -> Result<Image, AsmError>
     requires { length body.now ≤ MAX_SOURCE }
     ensures image { IfOk result
         (λ image. image_behind labels.now BODY_LINE start (said_in body.now) ≡ Ok image) }

@@ -236,9 +236,10 @@ impl Draft {
             Directive::At(address) => self.with_start(alloc, rest, u64::from(address)),
             Directive::Byte(byte) => self.with_bytes(alloc, &[byte]),
             Directive::Word(word) => self.with_word(alloc, word),
-            Directive::Memory(_) | Directive::Entry(_) | Directive::Stack(_) | Directive::Table(_) => {
-                Ok(None)
-            }
+            Directive::Memory(_)
+            | Directive::Entry(_)
+            | Directive::Stack(_)
+            | Directive::Table(_) => { Ok(None) }
         }
     }
 

@@ -39,7 +39,9 @@ fn is_entry(size: u64, address: u64) -> bool
     requires { size ≤ MAX_MEMORY }
     ensures { result ≡ is_entry size address }
 {
-    address % INSTRUCTION_BYTES == 0 && KSEG <= address && address <= KSEG + size - INSTRUCTION_BYTES
+    address % INSTRUCTION_BYTES == 0
+        && KSEG <= address
+        && address <= KSEG + size - INSTRUCTION_BYTES
 }
 
 /// The size of memory that the first line says.
