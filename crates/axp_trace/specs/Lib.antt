@@ -5,6 +5,7 @@ pub mod Files
 pub mod Lines
 pub mod Reading
 pub mod Records
+pub mod Sources
 pub mod Summaries
 pub mod Tails
 pub mod TraceLines

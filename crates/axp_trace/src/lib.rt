@@ -22,8 +22,9 @@ pub use headers::{Header, headers_are_their_texts, read_header, write_header};
 pub use lines::{LINE_ROOM, LineText, TraceLine, limits_are_these, lines_are_read_back, read_line};
 pub use records::{records_are_their_texts, write_event};
 pub use refusals::{
-    MOST_KIND, write_bad_elf, write_bad_image, write_bad_trace, write_differs, write_given,
-    write_incomplete, write_not_legal, write_read_fault, write_right, write_too_long, write_usage,
+    MOST_KIND, write_bad_elf, write_bad_image, write_bad_source, write_bad_trace, write_differs,
+    write_given, write_incomplete, write_not_legal, write_read_fault, write_right, write_too_long,
+    write_usage,
 };
 pub use summaries::{MOST_LABEL, write_count, write_events, write_summary_header};
 pub use tails::{tails_are_their_texts, write_tail};

@@ -8,6 +8,7 @@ ghost use Rattle.axp_trace.specs.Executables.{bad_elf_line};
 ghost use Rattle.axp_trace.specs.Lines.{usage_line, read_fault_line, too_long_line, bad_image_line};
 ghost use Rattle.axp_trace.specs.Lines.{bad_trace_line, not_legal_line, incomplete_line};
 ghost use Rattle.axp_trace.specs.Lines.{differs_line, given_line, right_line};
+ghost use Rattle.axp_trace.specs.Sources.{bad_source_line};
 
 use crate::LineText;
 use crate::digits::{push_all, push_decimal, push_long};
@@ -106,6 +107,15 @@ pub fn write_bad_elf(field: &[u8], offset: u64) -> LineText
     ensures short { array_vec_len result < LINE_ROOM }
 {
     located(b"axp: bad elf ", field, offset)
+}
+
+/// The line of an assembler source whose line of this number, from 1, is at fault.
+#[tactic(auto, unfolding(crate::specs::Sources::bad_source_line))]
+pub fn write_bad_source(line: u32) -> LineText
+    ensures text { result.items ≡ bad_source_line line }
+    ensures short { array_vec_len result < LINE_ROOM }
+{
+    numbered(b"axp: bad source at line ", line)
 }
 
 /// The line of a list or a trace whose line of this number, from 1, is outside the grammar.

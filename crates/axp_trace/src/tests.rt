@@ -240,7 +240,7 @@ fn other_acts_have_their_text(rt: HostRuntime) {
 
 #[test]
 fn other_lines_have_their_text(rt: HostRuntime) {
-    let lines: [(LineText, &[u8]); 12] = [
+    let lines: [(LineText, &[u8]); 13] = [
         (
             write_header(2, 20, 65_536),
             b"axp-trace 1 cpus 2 budget 20 memory 65536",
@@ -254,6 +254,7 @@ fn other_lines_have_their_text(rt: HostRuntime) {
             b"axp: bad image segment at 18446744073709551615",
         ),
         (write_bad_elf(b"machine", 18), b"axp: bad elf machine at 18"),
+        (write_bad_source(5), b"axp: bad source at line 5"),
         (write_bad_trace(11), b"axp: bad trace at line 11"),
         (write_not_legal(7), b"axp: not legal at event 7"),
         (write_incomplete(0), b"axp: incomplete after event 0"),

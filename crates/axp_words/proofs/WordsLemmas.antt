@@ -7,7 +7,7 @@ use Rattle.std.proofs.lemmas.Slice.Eq.{bytes_eq-Decides}
 use Rattle.axp_base.specs.declared.processors.TheConstants.{MIN_CPUS, MAX_CPUS, MAX_BUDGET}
 use Rattle.axp_image.specs.declared.limits.TheConstants.{MAX_MEMORY, PAGE_BYTES}
 use Rattle.axp_words.specs.Numbers.{number_in}
-use Rattle.axp_words.specs.Words.{Order, Seed, Replay, Gen, Elf, ◌>>=◌, path_of, any_number, memory_in, seed_of, replay_of, gen_of, elf_of, order_of}
+use Rattle.axp_words.specs.Words.{Order, Seed, Replay, Gen, Elf, Asm, Listing, ◌>>=◌, path_of, any_number, memory_in, seed_of, replay_of, gen_of, elf_of, asm_of, listing_of, order_of_one, order_of}
 use Rattle.axp_words.proofs.NumberLemmas.{decimals}
 
 -- the words of a command, in the subject's terms
@@ -18,6 +18,8 @@ Spells words (Replay image trace) = (words ≡ codes "replay" ∷ image ∷ trac
 Spells words (Gen number) = (words ≡ codes "gen" ∷ decimal number ∷ []) × (number < 2 ^ 64)
 Spells words (Elf file memory stack table) = (words ≡ codes "elf" ∷ file ∷ decimal memory ∷ decimal stack ∷ decimal table ∷ [])
     × (file ≢ []) × (memory % PAGE_BYTES ≡ 0) × (PAGE_BYTES ≤ memory) × (memory ≤ MAX_MEMORY) × (stack < 2 ^ 64) × (table < memory / PAGE_BYTES)
+Spells words (Asm file) = (words ≡ codes "asm" ∷ file ∷ []) × (file ≢ [])
+Spells words (Listing image) = (words ≡ codes "list" ∷ image ∷ []) × (image ≢ [])
 
 bind_some : {A B : Type 0} (o : Option A) (f : A → Option B) (y : B) → (o >>= f) ≡ Some y → (x : A) × (o ≡ Some x) × (f x ≡ Some y)
 bind_some None f y h = absurd cc
@@ -151,15 +153,33 @@ four_says verb first second third fourth o false is h =
     let read = guard_some (bytes_eq verb (codes "elf")) (elf_of first second third fourth) o h in
     subst (λ (v : List ℕ). Spells (v ∷ first ∷ second ∷ third ∷ fourth ∷ []) o) (sym (same_bytes verb (codes "elf") read.0)) (elf_says first second third fourth o read.1)
 
+-- a command of a path alone
+path_order_says : (verb word : List ℕ) (order : List ℕ → Order) → ((path : List ℕ) → path ≢ [] → Spells (verb ∷ path ∷ []) (order path))
+    → (o : Order) → (path_of word >>= λ path. Some (order path)) ≡ Some o → Spells (verb ∷ word ∷ []) o
+path_order_says verb word order spelled o h =
+    let p = bind_some (path_of word) (λ path. Some (order path)) o h in
+    let is = path_says word p.0 p.1 in
+    subst (Spells (verb ∷ word ∷ [])) (ap order is.0 ∙ some_is (order p.0) o p.2) (spelled word is.1)
+
+one_says : (verb word : List ℕ) (o : Order) (is_gen is_asm : Bool) → bytes_eq verb (codes "gen") ≡ is_gen → bytes_eq verb (codes "asm") ≡ is_asm
+    → cond is_gen (gen_of word) (cond is_asm (asm_of word) (cond (bytes_eq verb (codes "list")) (listing_of word) None)) ≡ Some o → Spells (verb ∷ word ∷ []) o
+one_says verb word o true is_asm gen asm h =
+    subst (λ (v : List ℕ). Spells (v ∷ word ∷ []) o) (sym (same_bytes verb (codes "gen") gen)) (gen_says word o h)
+one_says verb word o false true gen asm h =
+    subst (λ (v : List ℕ). Spells (v ∷ word ∷ []) o) (sym (same_bytes verb (codes "asm") asm))
+    (path_order_says (codes "asm") word Asm (λ path some. (refl, some)) o h)
+one_says verb word o false false gen asm h =
+    let read = guard_some (bytes_eq verb (codes "list")) (listing_of word) o h in
+    subst (λ (v : List ℕ). Spells (v ∷ word ∷ []) o) (sym (same_bytes verb (codes "list") read.0))
+    (path_order_says (codes "list") word Listing (λ path some. (refl, some)) o read.1)
+
 -- ---- both ways
 
 pub order_says : (words : List (List ℕ)) (o : Order) → order_of words ≡ Some o → Spells words o
 unfolding order_of
 order_says [] o h = absurd cc
 order_says (a ∷ []) o h = absurd cc
-order_says (verb ∷ number ∷ []) o h =
-    let read = guard_some (bytes_eq verb (codes "gen")) (gen_of number) o h in
-    subst (λ (v : List ℕ). Spells (v ∷ number ∷ []) o) (sym (same_bytes verb (codes "gen") read.0)) (gen_says number o read.1)
+order_says (verb ∷ word ∷ []) o h = one_says verb word o (bytes_eq verb (codes "gen")) (bytes_eq verb (codes "asm")) refl refl h
 order_says (verb ∷ image ∷ trace ∷ []) o h =
     let read = guard_some (bytes_eq verb (codes "replay")) (replay_of image trace) o h in
     subst (λ (v : List ℕ). Spells (v ∷ image ∷ trace ∷ []) o) (sym (same_bytes verb (codes "replay") read.0)) (replay_says image trace o read.1)
@@ -189,3 +209,7 @@ order_has words (Replay image trace) is =
     ap order_of is.0 ∙ rw (path_has image is.1, path_has trace is.2) refl
 order_has words (Gen number) is =
     ap order_of is.0 ∙ rw (any_has number is.1) refl
+order_has words (Asm file) is =
+    ap order_of is.0 ∙ rw (path_has file is.1) refl
+order_has words (Listing image) is =
+    ap order_of is.0 ∙ rw (path_has image is.1) refl

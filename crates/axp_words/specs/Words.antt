@@ -15,6 +15,10 @@ pub data Order : Type 0 where
   Gen : ℕ → Order
   -- the image file of an executable, for a size of memory, a stack word and a page of the page table
   Elf : List ℕ → ℕ → ℕ → ℕ → Order
+  -- the image file of an assembler source
+  Asm : List ℕ → Order
+  -- the listing of an image
+  Listing : List ℕ → Order
 
 -- what follows a word is read where the word was
 infixl 10 ◌>>=◌
@@ -62,6 +66,23 @@ gen_of number = do
   n ← any_number number
   Some (Gen n)
 
+abbrev pub asm_of : List ℕ → Option Order
+asm_of file = do
+  path ← path_of file
+  Some (Asm path)
+
+abbrev pub listing_of : List ℕ → Option Order
+listing_of image = do
+  path ← path_of image
+  Some (Listing path)
+
+-- the command of a verb and one word
+abbrev pub order_of_one : List ℕ → List ℕ → Option Order
+order_of_one verb word =
+    if bytes_eq verb (codes "gen") then gen_of word
+    else if bytes_eq verb (codes "asm") then asm_of word
+    else if bytes_eq verb (codes "list") then listing_of word else None
+
 -- the command of a verb and four words
 abbrev pub order_of_four : List ℕ → List ℕ → List ℕ → List ℕ → List ℕ → Option Order
 order_of_four verb first second third fourth =
@@ -70,7 +91,7 @@ order_of_four verb first second third fourth =
 
 -- the command that the words are
 unfoldable pub order_of : List (List ℕ) → Option Order
-order_of (verb ∷ number ∷ []) = if bytes_eq verb (codes "gen") then gen_of number else None
+order_of (verb ∷ word ∷ []) = order_of_one verb word
 order_of (verb ∷ image ∷ trace ∷ []) = if bytes_eq verb (codes "replay") then replay_of image trace else None
 order_of (verb ∷ first ∷ second ∷ third ∷ fourth ∷ []) = order_of_four verb first second third fourth
 order_of _ = None

@@ -2,8 +2,8 @@ ghost use Rattle.std.specs.Prelude.{◌≡◌, ◌≤◌, ◌/◌, codes, if◌t
 ghost use Rattle.std.specs.Str.{bytes_eq};
 ghost use Rattle.axp_words.specs.Commands.{order_by, order_read};
 ghost use Rattle.axp_image.specs.declared.limits.TheConstants.{PAGE_BYTES};
-ghost use Rattle.axp_words.specs.Words.{elf_of, gen_of, memory_in, order_of, order_of_four, replay_of};
-ghost use Rattle.axp_words.specs.Words.{seed_of};
+ghost use Rattle.axp_words.specs.Words.{asm_of, elf_of, gen_of, listing_of, memory_in, order_of};
+ghost use Rattle.axp_words.specs.Words.{order_of_four, order_of_one, replay_of, seed_of};
 
 use crate::numbers::read_number_in;
 use crate::words::Word;
@@ -39,6 +39,14 @@ pub enum Command<'a> {
         memory: u64,
         stack: u64,
         table: u64,
+    },
+    /// The image file of an assembler source.
+    Asm {
+        file: &'a str,
+    },
+    /// The listing of an image, which is a source that gives it.
+    List {
+        image: &'a str,
     },
 }
 
@@ -132,19 +140,48 @@ fn read_gen(number: &str) -> Option<Command<'static>>
     Some(Command::Gen { number })
 }
 
+/// The command of `asm` and a word.
+fn read_asm(file: &str) -> Option<Command<'_>>
+    ensures { order_read result ≡ asm_of file.now }
+{
+    if file.is_empty() {
+        return None;
+    }
+    Some(Command::Asm { file })
+}
+
+/// The command of `list` and a word.
+fn read_list(image: &str) -> Option<Command<'_>>
+    ensures { order_read result ≡ listing_of image.now }
+{
+    if image.is_empty() {
+        return None;
+    }
+    Some(Command::List { image })
+}
+
+/// The command of a verb and one word.
+fn read_one<'a>(verb: &str, word: &'a str) -> Option<Command<'a>>
+    ensures { order_read result ≡ order_of_one verb.now word.now }
+{
+    if verb == "gen" {
+        read_gen(word)
+    } else if verb == "asm" {
+        read_asm(word)
+    } else if verb == "list" {
+        read_list(word)
+    } else {
+        None
+    }
+}
+
 /// The command that the words are, if they are one.
 #[tactic(auto, unfolding(crate::specs::Words::order_of))]
 fn read(words: &[Word]) -> Option<Command<'_>>
     ensures { order_read result ≡ order_of words.now }
 {
     match words {
-        [verb, number] => {
-            if verb.as_str() == "gen" {
-                read_gen(number.as_str())
-            } else {
-                None
-            }
-        }
+        [verb, word] => read_one(verb.as_str(), word.as_str()),
         [verb, image, trace] => {
             if verb.as_str() == "replay" {
                 read_replay(image.as_str(), trace.as_str())

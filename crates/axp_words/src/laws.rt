@@ -4,7 +4,7 @@ ghost use Rattle.std.specs.Prelude.{codes, decimal};
 ghost use Rattle.axp_base.specs.declared.processors.TheConstants.{MIN_CPUS, MAX_CPUS, MAX_BUDGET};
 ghost use Rattle.axp_image.specs.declared.limits.TheConstants.{MAX_MEMORY, PAGE_BYTES};
 ghost use Rattle.axp_words.specs.Numbers.{number_in};
-ghost use Rattle.axp_words.specs.Words.{Elf, Gen, Replay, Seed, order_of};
+ghost use Rattle.axp_words.specs.Words.{Asm, Elf, Gen, Listing, Replay, Seed, order_of};
 
 /// A word writes a number of a range exactly where it is the number's decimal text.
 pub fn numbers_are_their_decimals()
@@ -42,4 +42,16 @@ pub fn elf_is_these_five_words()
 pub fn gen_is_these_two_words()
     ensures { (words : List (List ℕ)) (number : ℕ) → (order_of words ≡ Some (Gen number))
         ↔ ((words ≡ codes "gen" ∷ decimal number ∷ []) × (number < 2 ^ 64)) }
+{}
+
+/// The words are a source's image exactly where they are the word `asm` and a path.
+pub fn asm_is_these_two_words()
+    ensures { (words : List (List ℕ)) (file : List ℕ) → (order_of words ≡ Some (Asm file))
+        ↔ ((words ≡ codes "asm" ∷ file ∷ []) × (file ≢ [])) }
+{}
+
+/// The words are a listing exactly where they are the word `list` and a path.
+pub fn list_is_these_two_words()
+    ensures { (words : List (List ℕ)) (image : List ℕ) → (order_of words ≡ Some (Listing image))
+        ↔ ((words ≡ codes "list" ∷ image ∷ []) × (image ≢ [])) }
 {}

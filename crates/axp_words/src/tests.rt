@@ -42,7 +42,7 @@ fn words_in_the_grammar_are_their_command(rt: HostRuntime) -> Result<(), Fail> {
         stack: u64::MAX,
         table: 2_047,
     };
-    let rows: [(&[&str], Command<'_>); 7] = [
+    let rows: [(&[&str], Command<'_>); 9] = [
         (&["seed", "s.img", "2", "1", "0"], least),
         (&["seed", "a b", "8", "32768", "18446744073709551615"], most),
         (&["replay", "k.img", "-"], replay),
@@ -56,6 +56,8 @@ fn words_in_the_grammar_are_their_command(rt: HostRuntime) -> Result<(), Fail> {
             &["gen", "18446744073709551615"],
             Command::Gen { number: u64::MAX },
         ),
+        (&["asm", "program.s"], Command::Asm { file: "program.s" }),
+        (&["list", "list"], Command::List { image: "list" }),
     ];
     for (texts, command) in rows {
         let words = words_of(rt.alloc(), texts)?;
@@ -66,7 +68,7 @@ fn words_in_the_grammar_are_their_command(rt: HostRuntime) -> Result<(), Fail> {
 
 #[test]
 fn other_words_are_no_command(rt: HostRuntime) -> Result<(), Fail> {
-    let rows: [&[&str]; 34] = [
+    let rows: [&[&str]; 40] = [
         &[],
         &["replay"],
         &["replay", "k.img"],
@@ -101,6 +103,12 @@ fn other_words_are_no_command(rt: HostRuntime) -> Result<(), Fail> {
         &["elf", "a.out", "16785408", "0", "0"],
         &["elf", "a.out", "8192", "0", "1"],
         &["elf", "a.out", "8192", "-1", "0"],
+        &["asm"],
+        &["asm", ""],
+        &["asm", "program.s", "more"],
+        &["list", ""],
+        &["list", "image", "more"],
+        &["listing", "image"],
     ];
     for texts in rows {
         let words = words_of(rt.alloc(), texts)?;
