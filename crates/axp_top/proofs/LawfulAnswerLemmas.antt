@@ -10,6 +10,7 @@ use Rattle.axp_access.specs.declared.Outcome.{Outcome}
 use Rattle.axp_access.specs.declared.Record.{Record}
 use Rattle.axp_access.specs.declared.tail_items.TailItem.{TailItem}
 use Rattle.axp_cpu.specs.declared.refusals.NotLegal.{NotLegal}
+use Rattle.axp_asm.specs.Sources.{assembled}
 use Rattle.axp_image.specs.Contents.{AreBytes, Contents, IsValid}
 use Rattle.axp_image.specs.Faults.{Fault, first_fault}
 use Rattle.axp_image.specs.Grammar.{image_of}
@@ -38,10 +39,10 @@ use Rattle.axp_top.specs.Lawful.{AreRight, EventsEnd, IsCause, IsLawful, IsLawfu
 use Rattle.axp_top.specs.Replays.{Answer, FileLine, Front, LineResult, OfTail, Recorded, Refused, answer_of_front, answer_of_header, answer_of_lines, answer_of_run, bad_trace, complete_ending, differs, ending_by, event_result, front_of, incomplete, is_in_order, is_other_memory, is_tail_line, next_line, not_legal, or_else, other_memory, refused_line, refused_or_whole, result_by, result_of, shown_result, tail_refusal}
 use Rattle.axp_elf.specs.Executables as executables
 use Rattle.axp_elf.specs.Faults as elf_faults
-use Rattle.axp_top.specs.ImageFiles.{elf_answer, elf_answer_by, source_answer, source_name, too_long_source}
+use Rattle.axp_top.specs.ImageFiles.{answer_of_source, asm_answer_by, elf_answer_by, source_answer, source_limit, source_name, too_long_source}
 use Rattle.axp_summary.proofs.RoundLemmas.{whole_run}
 use Rattle.axp_top.specs.SummaryTexts.{summary_answer}
-use Rattle.axp_top.specs.Words.{Elf, From, Gen, ImageOrder, Order, Over, Replay, Seed, SourceOrder}
+use Rattle.axp_top.specs.Words.{Asm, Elf, From, Gen, ImageOrder, Listing, Order, Over, Replay, Seed, SourceOrder}
 
 -- ---- a line whose event is done
 
@@ -369,12 +370,20 @@ elf_lawful : (f : Option elf_faults.Fault) (c : Contents) → ShowsImage (elf_an
 elf_lawful (Some f) c = inl refl
 elf_lawful None c = inr (c, refl)
 
+asm_lawful : (r : Result Contents ℕ) → ShowsImage (asm_answer_by r)
+asm_lawful (Ok c) = inr (c, refl)
+asm_lawful (Err line) = inl refl
+
+of_source_lawful : (source : SourceOrder) (bytes : List ℕ) → ShowsImage (answer_of_source source bytes)
+of_source_lawful (Elf path memory stack table) bytes = elf_lawful (elf_faults.first_fault bytes memory) (executables.image_in bytes memory stack table)
+of_source_lawful (Asm path) bytes = asm_lawful (assembled bytes)
+
 long_or : (long : Bool) (a : Answer) → ShowsImage a → ShowsImage (cond long too_long_source a)
 long_or true a is = inl refl
 long_or false a is = is
 
 source_lawful : (source : SourceOrder) (bytes : List ℕ) → ShowsImage (source_answer source bytes)
-source_lawful (Elf path memory stack table) bytes = long_or (nat_lt MAX_IMAGE_BYTES (length bytes)) (elf_answer bytes memory stack table) (elf_lawful (elf_faults.first_fault bytes memory) (executables.image_in bytes memory stack table))
+source_lawful source bytes = long_or (nat_lt (source_limit source) (length bytes)) (answer_of_source source bytes) (of_source_lawful source bytes)
 
 source_told_lawful : (source : SourceOrder) (told : Option (List ℕ)) → IfSome (option_map (source_answer source) told) ShowsImage
 source_told_lawful source None = tt
@@ -387,6 +396,7 @@ summary_lawful number = record { shown = refl; rounds = whole_run number }
 with_lawful : (order : ImageOrder) (image : Contents) (bytes : List ℕ) → IsValid image → IsLawful (Some (Over order)) (Some image) (lines_of bytes) (answer_with order image bytes)
 with_lawful (Replay i t) image bytes valid = trace_lawful image bytes valid
 with_lawful (Seed i cpus budget seed) image bytes valid = λ few. seeded_lawful image cpus budget seed valid few
+with_lawful (Listing i) image bytes valid = refl
 
 by_lawful : (order : ImageOrder) (first : List ℕ) (image : Option Contents) (bytes : List ℕ) → IfSome image IsValid → IsLawful (Some (Over order)) image (lines_of bytes) (answer_by order first image bytes)
 by_lawful order first None bytes valid = no_image_at_once first
@@ -418,6 +428,7 @@ told_if_lawful : (order : ImageOrder) (image : Contents) (trace : Option (List �
 told_if_lawful (Replay i t) image None valid = tt
 told_if_lawful (Replay i t) image (Some bytes) valid = trace_lawful image bytes valid
 told_if_lawful (Seed i cpus budget seed) image trace valid = λ few. seeded_lawful image cpus budget seed valid few
+told_if_lawful (Listing i) image trace valid = refl
 
 image_lawful : (order : ImageOrder) (first : List ℕ) (image : Option Contents) (trace : Option (List ℕ)) → IfSome image IsValid → IfSome (answer_of_image order first image trace) (IsLawful (Some (Over order)) image (lines_of_file trace))
 image_lawful order first None trace valid = no_image_at_once first

@@ -14,6 +14,8 @@ in_range ws = by_order (order_of ws) refl where
       record { least_cpus = says.2; most_cpus = says.3; least_budget = says.4; most_budget = says.5 }
   by_order (Some (words.Replay image trace)) is = tt
   by_order (Some (words.Gen number)) is = tt
+  by_order (Some (words.Asm file)) is = tt
+  by_order (Some (words.Listing image)) is = tt
   by_order (Some (words.Elf file memory stack table)) is =
       let says = order_says ws (words.Elf file memory stack table) is in
       record { whole_pages = says.2; least_memory = says.3; most_memory = says.4; stack_word = says.5; table_page = says.6 }

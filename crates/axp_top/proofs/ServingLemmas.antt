@@ -3,6 +3,11 @@ use Rattle.std.proofs.Common.{◌≡◌, ◌⊎◌, ℕ, zero, suc, ◌+◌, ◌
 use Rattle.std.specs.Prelude.{slice_index, nat_lt, option_map, replicate}
 use Rattle.std.proofs.lemmas.Bool.{lt-ltb, le-ltb, ltb-true}
 use Rattle.std.proofs.lemmas.List.{length-replicate}
+use Rattle.std.specs.List.{flat_map}
+use Rattle.axp_asm.specs.Listings.{line_of, listing}
+use Rattle.axp_source.specs.Items.{Item}
+use Rattle.axp_source.specs.Texts.{item_text}
+use Rattle.axp_trace.specs.declared.files.TheConstants.{LINE_FEED}
 use Rattle.axp_image.specs.Contents.{AreBytes, Contents, IsValid}
 use Rattle.axp_image.proofs.NoFaultLemmas.{fault_is_no_image}
 use Rattle.axp_image.specs.Faults.{Fault, first_fault}
@@ -15,17 +20,16 @@ use Rattle.axp_trace.specs.Files.{lines_of}
 use Rattle.axp_top.specs.declared.limits.TheConstants.{MAX_IMAGE_BYTES, MAX_TRACE_BYTES}
 use Rattle.axp_top.specs.declared.status.Status.{Status}
 use Rattle.axp_top.specs.declared.status.Status.TheVariants as status
-use Rattle.axp_top.specs.SeededRuns.{seeded_answer}
-use Rattle.axp_top.specs.Answers.{answer_by, answer_if_told, answer_of, answer_of_files, answer_of_image, answer_of_trace, answer_over, answer_with, image_name, trace_told_by, asks_by, asks_of, bad_image, image_in, image_told, no_image, read_fault, too_long, trace_told, usage}
+use Rattle.axp_top.specs.Answers.{answer_by, answer_if_told, answer_of, answer_of_files, answer_of_image, answer_of_trace, answer_over, answer_with, image_name, more_asks, trace_told_by, asks_by, asks_of, bad_image, image_in, image_told, no_image, read_fault, too_long, trace_told, usage}
 use Rattle.axp_top.specs.Lawful.{IsLawful, image_of_file, image_over, lines_of_file}
-use Rattle.axp_top.specs.Outside.{DeskState, Outside}
+use Rattle.axp_top.specs.Outside.{DeskState, Outside, SinkState}
 use Rattle.axp_top.specs.Printing.{Ends}
 use Rattle.axp_top.specs.Replays.{Answer, answer_of_lines}
-use Rattle.axp_top.specs.Serving.{Course, Serves, ServesTrace}
+use Rattle.axp_top.specs.Serving.{Course, IsFetched, Serves, ServesTrace}
 use Rattle.axp_top.specs.Statuses.{AsksFailed, AsksFront, AsksInTurn, AsksNeeded, DeskCount, PutsEach, Settles, SettlesLawfully, SettlesSome, SinkCount}
-use Rattle.axp_top.specs.ImageFiles.{elf_answer, source_answer, source_ask, source_name}
+use Rattle.axp_top.specs.ImageFiles.{answer_of_source, source_answer, source_ask, source_limit, source_name}
 use Rattle.axp_top.specs.SummaryTexts.{summary_answer}
-use Rattle.axp_top.specs.Words.{Elf, From, Gen, ImageOrder, Order, Over, Replay, Seed, SourceOrder}
+use Rattle.axp_top.specs.Words.{From, Gen, ImageOrder, Listing, Order, Over, Replay, Seed, SourceOrder}
 use Rattle.axp_top.proofs.LawfulAnswerLemmas.{over_lawful, told_lawful, valid_in}
 use Rattle.axp_top.proofs.StatusLemmas.{IsAnswer, answer_is, asks_in_turn, asks_needed, desk_count, over_is, puts_each, settles, sink_count, source_is, trace_is, with_is}
 
@@ -167,6 +171,18 @@ pub image_has_bytes : (file : List ℕ) (c : Contents) → image_of file ≡ Som
 image_has_bytes [] c is = absurd (let never : None ≡ Some c = sym none_is_no_image ∙ is in cc)
 image_has_bytes (b ∷ file) c is = omega arith
 
+-- the listing of an image has a byte: a line feed stands behind its first line
+listed_byte : (item : Item) (items : List Item) → 0 < length (flat_map line_of (item ∷ items))
+listed_byte item items = some_byte (item_text item) (flat_map line_of items)
+  where
+    some_byte : (front back : List ℕ) → 0 < length ((front ++ LINE_FEED ∷ []) ++ back)
+    some_byte [] back = omega arith
+    some_byte (b ∷ front) back = omega arith
+
+pub listing_has_bytes : (text : List ℕ) (c : Contents) → text ≡ listing c → 0 < length text
+unfolding listing
+listing_has_bytes text c is = subst (λ (t : List ℕ). 0 < length t) (sym is) (listed_byte _ _)
+
 pub files_long : (told : List ℕ → Option (List ℕ)) (b n : Outside) (order : ImageOrder) (s : Status) (f : FetchFault) → f ≡ fetch.TooLong → IfSome (told (image_name order)) (λ t. FetchTold t MAX_IMAGE_BYTES (Err f)) → FetchCount b.desk.faults n.desk.faults (Err f)
     → FetchAsks b.desk.asks n.desk.asks (image_name order, MAX_IMAGE_BYTES) (Err f) → Ends b.sink n.sink too_long s → Serves told (Some (Over order)) b n s
 files_long told b n order s fetch.TooLong is long count asks ends =
@@ -217,26 +233,34 @@ files_unfound_first told b n order fetch.TooLong is same count asks = cc
 pub files_unfound_image : (told : List ℕ → Option (List ℕ)) (b n : Outside) (order : ImageOrder) → n.sink ≡ b.sink → n.desk.faults ≡ b.desk.faults → n.desk.asks ≡ b.desk.asks ++ (image_name order, MAX_IMAGE_BYTES) ∷ [] → Serves told (Some (Over order)) b n status.Memory
 files_unfound_image told b n order same count asks = files_unfound told b n order same count (all_front b.desk.asks n.desk.asks _ asks)
 
--- the run that a seed defines, over the image
-pub seed_served : (told : List ℕ → Option (List ℕ)) (b n : Outside) (first : List ℕ) (cpus budget seed : ℕ) (bytes : List ℕ) (image : Contents) (s : Status) → IfSome (told first) (λ t. FetchTold t MAX_IMAGE_BYTES (Ok bytes)) → length bytes ≤ MAX_IMAGE_BYTES
-    → Some image ≡ image_of bytes → IsValid image → n.desk.faults ≡ b.desk.faults → n.desk.asks ≡ b.desk.asks ++ (first, MAX_IMAGE_BYTES) ∷ [] → Ends b.sink n.sink (seeded_answer image cpus budget seed) s
-    → Serves told (Some (Over (Seed first cpus budget seed))) b n s
-seed_served told b n first cpus budget seed bytes image s is short reads valid count asks ends =
-    let image_is : image_in bytes ≡ Some image = rw (le-ltb MAX_IMAGE_BYTES (length bytes) short) (sym reads) in
+-- the image was handed over
+pub image_fetched : (told : List ℕ → Option (List ℕ)) (b n : Outside) (name bytes : List ℕ) (image : Contents) → IfSome (told name) (λ t. FetchTold t MAX_IMAGE_BYTES (Ok bytes)) → length bytes ≤ MAX_IMAGE_BYTES → Some image ≡ image_of bytes → IsValid image
+    → n.sink ≡ b.sink → n.desk.faults ≡ b.desk.faults → n.desk.asks ≡ b.desk.asks ++ (name, MAX_IMAGE_BYTES) ∷ [] → IsFetched told name b n image
+image_fetched told b n name bytes image is short reads valid same count asks = record {
+  file = bytes;
+  is_told = handed_is (told name) bytes MAX_IMAGE_BYTES is;
+  read = rw (le-ltb MAX_IMAGE_BYTES (length bytes) short) (sym reads);
+  valid = valid;
+  sink = same;
+  count = count;
+  asks = asks;
+}
+
+-- a command over one image alone, of which the file is all that is asked for
+pub alone_served : (told : List ℕ → Option (List ℕ)) (b between : Outside) (sink : SinkState) (order : ImageOrder) (image : Contents) (s : Status) → more_asks order ≡ [] → trace_told_by order told ≡ None → IsFetched told (image_name order) b between image
+    → Ends between.sink sink (answer_with order image []) s → Serves told (Some (Over order)) b (record { sink = sink; desk = between.desk }) s
+alone_served told b between sink order image s alone none h ends =
+    let now : Outside = record { sink = sink; desk = between.desk } in
     record {
-      image = bytes;
+      image = h.file;
       trace = [];
-      image_is_told = handed_is (told first) bytes MAX_IMAGE_BYTES is;
-      trace_is_told = tt;
-      course = rw image_is (handed_course b n (seeded_answer image cpus budget seed) (first, MAX_IMAGE_BYTES) s count asks ends);
-      sure = inl (rw image_is valid);
+      image_is_told = h.is_told;
+      trace_is_told = rw none tt;
+      course = rw (h.read, alone) (handed_course b now (answer_with order image []) (image_name order, MAX_IMAGE_BYTES) s h.count h.asks (subst (λ (x : SinkState). Ends x sink (answer_with order image []) s) h.sink ends));
+      sure = inl (rw h.read h.valid);
     }
 
 -- ---- the second file behind the first
-
--- once the first was fetched
-abbrev with_desk : Outside → DeskState → Outside
-with_desk b desk = record { sink = b.sink; desk = desk }
 
 then_front : (before between now : List Ask) (ask : Ask) (more : List Ask) → between ≡ before ++ ask ∷ [] → AsksFront between now more → AsksFront before now (ask ∷ more)
 then_front before between now ask more is h = (ask ∷ h.0, h.1, ap (λ (xs : List Ask). ask ∷ xs) h.2, h.3 ∙ ap (λ (xs : List Ask). xs ++ h.0) is ∙ append_assoc before (ask ∷ []) h.0)
@@ -253,57 +277,54 @@ then_failed before between now ask more is h = record {
 then_all : (before between now : List Ask) (ask : Ask) (more : List Ask) → between ≡ before ++ ask ∷ [] → now ≡ between ++ more → now ≡ before ++ ask ∷ more
 then_all before between now ask more is all = all ∙ ap (λ (xs : List Ask). xs ++ more) is ∙ append_assoc before (ask ∷ []) more
 
-then_course : (b n : Outside) (desk : DeskState) (a : Answer) (ask : Ask) (more : List Ask) (s : Status) → desk.faults ≡ b.desk.faults → desk.asks ≡ b.desk.asks ++ ask ∷ [] → Course (with_desk b desk) n a more s → Course b n a (ask ∷ more) s
-then_course b n desk a ask more s count asks (inl h) = inl (record {
-  ends = h.ends;
+then_course : (b between n : Outside) (a : Answer) (ask : Ask) (more : List Ask) (s : Status) → between.sink ≡ b.sink → between.desk.faults ≡ b.desk.faults → between.desk.asks ≡ b.desk.asks ++ ask ∷ [] → Course between n a more s → Course b n a (ask ∷ more) s
+then_course b between n a ask more s same count asks (inl h) = inl (record {
+  ends = subst (λ (x : SinkState). Ends x n.sink a s) same h.ends;
   count = h.count ∙ count;
-  some = then_front b.desk.asks desk.asks n.desk.asks ask more asks h.some;
-  all = λ unless. then_all b.desk.asks desk.asks n.desk.asks ask more asks (h.all unless);
+  some = then_front b.desk.asks between.desk.asks n.desk.asks ask more asks h.some;
+  all = λ unless. then_all b.desk.asks between.desk.asks n.desk.asks ask more asks (h.all unless);
 })
-then_course b n desk a ask more s count asks (inr h) = inr (record {
-  ends = h.ends;
+then_course b between n a ask more s same count asks (inr h) = inr (record {
+  ends = subst (λ (x : SinkState). Ends x n.sink read_fault s) same h.ends;
   count = h.count ∙ ap (λ k. raised k 1) count;
-  failed = then_failed b.desk.asks desk.asks n.desk.asks ask more asks h.failed;
+  failed = then_failed b.desk.asks between.desk.asks n.desk.asks ask more asks h.failed;
 })
 
 -- the second file's name is told the same after the first fetch
 told_before : (now before : Option (List ℕ)) (bytes : List ℕ) → now ≡ before → IfSome now (λ t. bytes ≡ t) → IfSome before (λ t. bytes ≡ t)
 told_before now before bytes same is = subst (λ (o : Option (List ℕ)). IfSome o (λ t. bytes ≡ t)) same is
 
-pub files_served : (told told' : List ℕ → Option (List ℕ)) (b n : Outside) (desk : DeskState) (first second bytes : List ℕ) (image : Contents) (s : Status) → IfSome (told first) (λ t. FetchTold t MAX_IMAGE_BYTES (Ok bytes)) → length bytes ≤ MAX_IMAGE_BYTES
-    → Some image ≡ image_of bytes → IsValid image → desk.faults ≡ b.desk.faults → desk.asks ≡ b.desk.asks ++ (first, MAX_IMAGE_BYTES) ∷ [] → ((name : List ℕ) → told' name ≡ told name)
-    → ServesTrace (told' second) (second, MAX_TRACE_BYTES) image (with_desk b desk) n s → Serves told (Some (Over (Replay first second))) b n s
-files_served told told' b n desk first second bytes image s is short reads valid count asks stays h =
-    let image_is : image_in bytes ≡ Some image = rw (le-ltb MAX_IMAGE_BYTES (length bytes) short) (sym reads) in
-    record {
-      image = bytes;
-      trace = h.list;
-      image_is_told = handed_is (told first) bytes MAX_IMAGE_BYTES is;
-      trace_is_told = told_before (told' second) (told second) h.list (stays second) h.is_told;
-      course = rw image_is (then_course b n desk (answer_of_trace image h.list) (first, MAX_IMAGE_BYTES) ((second, MAX_TRACE_BYTES) ∷ []) s count asks h.course);
-      sure = inl (rw image_is valid);
-    }
+pub files_served : (told told' : List ℕ → Option (List ℕ)) (b between n : Outside) (first second : List ℕ) (image : Contents) (s : Status) → IsFetched told first b between image → ((name : List ℕ) → told' name ≡ told name)
+    → ServesTrace (told' second) (second, MAX_TRACE_BYTES) image between n s → Serves told (Some (Over (Replay first second))) b n s
+files_served told told' b between n first second image s fetched stays h = record {
+  image = fetched.file;
+  trace = h.list;
+  image_is_told = fetched.is_told;
+  trace_is_told = told_before (told' second) (told second) h.list (stays second) h.is_told;
+  course = rw fetched.read (then_course b between n (answer_of_trace image h.list) (first, MAX_IMAGE_BYTES) ((second, MAX_TRACE_BYTES) ∷ []) s fetched.sink fetched.count fetched.asks h.course);
+  sure = inl (rw fetched.read fetched.valid);
+}
 
 -- ---- a source: one file alone
 
 source_serves : (told : List ℕ → Option (List ℕ)) (b n : Outside) (source : SourceOrder) (bytes : List ℕ) (s : Status) → IfSome (told (source_name source)) (λ t. bytes ≡ t) → Course b n (source_answer source bytes) (source_ask source ∷ []) s → Serves told (Some (From source)) b n s
 source_serves told b n source bytes s is h = record { image = bytes; trace = []; image_is_told = is; trace_is_told = tt; course = h; sure = inl tt }
 
-pub elf_served : (told : List ℕ → Option (List ℕ)) (b n : Outside) (name : List ℕ) (memory stack table : ℕ) (bytes slice : List ℕ) (s : Status) → slice ≡ bytes → IfSome (told name) (λ t. FetchTold t MAX_IMAGE_BYTES (Ok bytes)) → length bytes ≤ MAX_IMAGE_BYTES → n.desk.faults ≡ b.desk.faults
-    → n.desk.asks ≡ b.desk.asks ++ (name, MAX_IMAGE_BYTES) ∷ [] → Ends b.sink n.sink (elf_answer slice memory stack table) s → Serves told (Some (From (Elf name memory stack table))) b n s
-elf_served told b n name memory stack table bytes slice s same is short count asks ends =
-    let within : nat_lt MAX_IMAGE_BYTES (length bytes) ≡ false = le-ltb MAX_IMAGE_BYTES (length bytes) short in
-    source_serves told b n (Elf name memory stack table) bytes s (handed_is (told name) bytes MAX_IMAGE_BYTES is)
-    (rw within (handed_course b n (elf_answer bytes memory stack table) (name, MAX_IMAGE_BYTES) s count asks (subst (λ (x : List ℕ). Ends b.sink n.sink (elf_answer x memory stack table) s) same ends)))
+pub source_served : (told : List ℕ → Option (List ℕ)) (b n : Outside) (source : SourceOrder) (bytes slice : List ℕ) (s : Status) → slice ≡ bytes → IfSome (told (source_name source)) (λ t. FetchTold t (source_limit source) (Ok bytes)) → length bytes ≤ source_limit source → n.desk.faults ≡ b.desk.faults
+    → n.desk.asks ≡ b.desk.asks ++ source_ask source ∷ [] → Ends b.sink n.sink (answer_of_source source slice) s → Serves told (Some (From source)) b n s
+source_served told b n source bytes slice s same is short count asks ends =
+    let within : nat_lt (source_limit source) (length bytes) ≡ false = le-ltb (source_limit source) (length bytes) short in
+    source_serves told b n source bytes s (handed_is (told (source_name source)) bytes (source_limit source) is)
+    (rw within (handed_course b n (answer_of_source source bytes) (source_ask source) s count asks (subst (λ (x : List ℕ). Ends b.sink n.sink (answer_of_source source x) s) same ends)))
 
-pub elf_long : (told : List ℕ → Option (List ℕ)) (b n : Outside) (name : List ℕ) (memory stack table : ℕ) (s : Status) (f : FetchFault) → f ≡ fetch.TooLong → IfSome (told name) (λ t. FetchTold t MAX_IMAGE_BYTES (Err f)) → FetchCount b.desk.faults n.desk.faults (Err f)
-    → FetchAsks b.desk.asks n.desk.asks (name, MAX_IMAGE_BYTES) (Err f) → Ends b.sink n.sink too_long s → Serves told (Some (From (Elf name memory stack table))) b n s
-elf_long told b n name memory stack table s fetch.TooLong is long count asks ends =
-    let list = told_or_long MAX_IMAGE_BYTES (told name) in
-    let over : nat_lt MAX_IMAGE_BYTES (length list) ≡ true = lt-ltb MAX_IMAGE_BYTES (length list) (is_longer MAX_IMAGE_BYTES (told name) long) in
-    source_serves told b n (Elf name memory stack table) list s (told_long_is MAX_IMAGE_BYTES (told name)) (rw over (handed_course b n too_long (name, MAX_IMAGE_BYTES) s count asks ends))
-elf_long told b n name memory stack table s fetch.Failed is long count asks ends = cc
-elf_long told b n name memory stack table s fetch.Memory is long count asks ends = cc
+pub source_long : (told : List ℕ → Option (List ℕ)) (b n : Outside) (source : SourceOrder) (s : Status) (f : FetchFault) → f ≡ fetch.TooLong → IfSome (told (source_name source)) (λ t. FetchTold t (source_limit source) (Err f)) → FetchCount b.desk.faults n.desk.faults (Err f)
+    → FetchAsks b.desk.asks n.desk.asks (source_ask source) (Err f) → Ends b.sink n.sink too_long s → Serves told (Some (From source)) b n s
+source_long told b n source s fetch.TooLong is long count asks ends =
+    let list = told_or_long (source_limit source) (told (source_name source)) in
+    let over : nat_lt (source_limit source) (length list) ≡ true = lt-ltb (source_limit source) (length list) (is_longer (source_limit source) (told (source_name source)) long) in
+    source_serves told b n source list s (told_long_is (source_limit source) (told (source_name source))) (rw over (handed_course b n too_long (source_ask source) s count asks ends))
+source_long told b n source s fetch.Failed is long count asks ends = cc
+source_long told b n source s fetch.Memory is long count asks ends = cc
 
 pub source_failed : (told : List ℕ → Option (List ℕ)) (b n : Outside) (source : SourceOrder) (s : Status) (f : FetchFault) → f ≡ fetch.Failed → FetchCount b.desk.faults n.desk.faults (Err f) → FetchAsks b.desk.asks n.desk.asks (source_ask source) (Err f)
     → Ends b.sink n.sink read_fault s → Serves told (Some (From source)) b n s
@@ -350,6 +371,7 @@ told_if_served : (b n : Outside) (asks : List Ask) (s : Status) (order : ImageOr
 told_if_served b n asks s (Replay i t) image trace None is h = tt
 told_if_served b n asks s (Replay i t) image trace (Some list) is h = subst (λ (x : List ℕ). IsServed b n s (answer_of_trace image x)) is (record { is = trace_is image trace; asks = asks; course = h })
 told_if_served b n asks s (Seed i cpus budget seed) image trace told is h = record { is = with_is (Seed i cpus budget seed) image trace; asks = asks; course = h }
+told_if_served b n asks s (Listing i) image trace told is h = record { is = with_is (Listing i) image trace; asks = asks; course = h }
 
 image_served : (b n : Outside) (asks : List Ask) (s : Status) (order : ImageOrder) (bytes : List ℕ) (image : Option Contents) (trace : List ℕ) (told : Option (List ℕ)) → IfSome told (λ t. trace ≡ t) → Course b n (answer_by order bytes image trace) asks s → IfSome (answer_of_image order bytes image told) (IsServed b n s)
 image_served b n asks s order bytes None trace told is h = record { is = answer_is order bytes None trace; asks = asks; course = h }

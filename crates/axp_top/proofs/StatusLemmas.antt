@@ -9,7 +9,10 @@ use Rattle.axp_access.specs.declared.Outcome.{Outcome}
 use Rattle.axp_access.specs.declared.Record.{Record}
 use Rattle.axp_access.specs.declared.tail_items.TailItem.{TailItem}
 use Rattle.axp_cpu.specs.declared.refusals.NotLegal.{NotLegal}
+use Rattle.axp_asm.specs.Listings.{listing}
+use Rattle.axp_asm.specs.Sources.{assembled}
 use Rattle.axp_image.specs.Contents.{Contents}
+use Rattle.axp_image.specs.Spelling.{spelling}
 use Rattle.axp_image.specs.Faults.{Fault, first_fault}
 use Rattle.axp_io.specs.Causes.{AppendsFront, Ask, Rose, raised}
 use Rattle.axp_io.proofs.Fronts.{front_none, rose_by_one}
@@ -39,9 +42,9 @@ use Rattle.axp_top.specs.Texts.{Lines, header_text, record_lines, right_header, 
 use Rattle.axp_summary.specs.Summaries.{summary_of}
 use Rattle.axp_elf.specs.Executables as executables
 use Rattle.axp_elf.specs.Faults as elf_faults
-use Rattle.axp_top.specs.ImageFiles.{elf_answer, elf_answer_by, source_answer, source_ask}
+use Rattle.axp_top.specs.ImageFiles.{answer_of_source, asm_answer_by, elf_answer_by, source_answer, source_ask, source_limit}
 use Rattle.axp_top.specs.SummaryTexts.{all_count_lines, events_text, summary_answer, title_text}
-use Rattle.axp_top.specs.Words.{Elf, From, Gen, ImageOrder, Order, Over, Replay, Seed, SourceOrder}
+use Rattle.axp_top.specs.Words.{Asm, Elf, From, Gen, ImageOrder, Listing, Order, Over, Replay, Seed, SourceOrder}
 
 -- ---- answers
 
@@ -197,9 +200,14 @@ no_image_is bytes = by_length (nat_lt MAX_IMAGE_BYTES (length bytes)) (first_bad
 whole_is : (m : Seen) → IsAnswer (whole_answer m)
 whole_is m = record { differs = no_fault status.Done refl; some = headed (header_text m) (record_lines m.records) (tail m) }
 
+-- one piece, and all is done
+piece_is : (piece : List ℕ) → IsAnswer (record { status = status.Done; lines = piece ∷ [] })
+piece_is piece = record { differs = no_fault status.Done refl; some = omega arith }
+
 pub with_is : (order : ImageOrder) (image : Contents) (bytes : List ℕ) → IsAnswer (answer_with order image bytes)
 with_is (Replay i t) image bytes = trace_is image bytes
 with_is (Seed i cpus budget seed) image bytes = whole_is (end_of (seeded_start image cpus budget seed))
+with_is (Listing i) image bytes = piece_is (listing image)
 
 pub answer_is : (order : ImageOrder) (first : List ℕ) (image : Option Contents) (bytes : List ℕ) → IsAnswer (answer_by order first image bytes)
 answer_is order first None bytes = no_image_is first
@@ -210,10 +218,18 @@ summary_is number = record { differs = no_fault status.Done refl; some = headed 
 
 elf_is : (f : Option elf_faults.Fault) (c : Contents) → IsAnswer (elf_answer_by f c)
 elf_is (Some f) c = one_is (status.BadElf f.0 f.1) _ refl
-elf_is None c = record { differs = no_fault status.Done refl; some = omega arith }
+elf_is None c = piece_is (spelling c)
+
+asm_is : (r : Result Contents ℕ) → IsAnswer (asm_answer_by r)
+asm_is (Ok c) = piece_is (spelling c)
+asm_is (Err line) = one_is (status.BadSource line) _ refl
+
+of_source_is : (source : SourceOrder) (bytes : List ℕ) → IsAnswer (answer_of_source source bytes)
+of_source_is (Elf path memory stack table) bytes = elf_is (elf_faults.first_fault bytes memory) (executables.image_in bytes memory stack table)
+of_source_is (Asm path) bytes = asm_is (assembled bytes)
 
 pub source_is : (source : SourceOrder) (bytes : List ℕ) → IsAnswer (source_answer source bytes)
-source_is (Elf path memory stack table) bytes = by_length (nat_lt MAX_IMAGE_BYTES (length bytes)) (elf_answer bytes memory stack table) (elf_is (elf_faults.first_fault bytes memory) (executables.image_in bytes memory stack table))
+source_is source bytes = by_length (nat_lt (source_limit source) (length bytes)) (answer_of_source source bytes) (of_source_is source bytes)
 
 usage_is : IsAnswer usage
 usage_is = one_is status.Usage _ refl

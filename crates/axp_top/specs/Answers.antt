@@ -9,10 +9,10 @@ use Rattle.axp_trace.specs.Lines.{bad_image_line, read_fault_line, too_long_line
 use Rattle.axp_top.specs.declared.status.Status.TheVariants as status
 use Rattle.axp_top.specs.declared.limits.TheConstants.{MAX_IMAGE_BYTES, MAX_TRACE_BYTES}
 use Rattle.axp_top.specs.Replays.{Answer, answer_in_one_line, answer_of_lines}
-use Rattle.axp_top.specs.ImageFiles.{source_answer, source_ask, source_name}
+use Rattle.axp_top.specs.ImageFiles.{listing_answer, source_answer, source_ask, source_name}
 use Rattle.axp_top.specs.SeededRuns.{seeded_answer}
 use Rattle.axp_top.specs.SummaryTexts.{summary_answer}
-use Rattle.axp_top.specs.Words.{From, Gen, ImageOrder, Order, Over, Replay, Seed}
+use Rattle.axp_top.specs.Words.{From, Gen, ImageOrder, Listing, Order, Over, Replay, Seed}
 
 abbrev pub usage : Answer
 usage = answer_in_one_line status.Usage usage_line
@@ -42,10 +42,11 @@ image_in bytes = if nat_lt MAX_IMAGE_BYTES (length bytes) then None else image_o
 abbrev pub answer_of_trace : Contents → List ℕ → Answer
 answer_of_trace image bytes = if nat_lt MAX_TRACE_BYTES (length bytes) then too_long else answer_of_lines image (lines_of bytes)
 
--- what a command answers over an image, by the second file; a seeded run has none
+-- what a command answers over an image, by the second file; a seeded run and a listing have none
 abbrev pub answer_with : ImageOrder → Contents → List ℕ → Answer
 answer_with (Replay image trace) contents list = answer_of_trace contents list
 answer_with (Seed image cpus budget seed) contents list = seeded_answer contents cpus budget seed
+answer_with (Listing image) contents list = listing_answer contents
 
 -- by the first file, the image that it is, and the second file
 abbrev pub answer_by : ImageOrder → List ℕ → Option Contents → List ℕ → Answer
@@ -64,6 +65,7 @@ abbrev pub answer_if_told : ImageOrder → Contents → Option (List ℕ) → Op
 answer_if_told (Replay image trace) contents None = None
 answer_if_told (Replay image trace) contents (Some list) = Some (answer_of_trace contents list)
 answer_if_told (Seed image cpus budget seed) contents list = Some (seeded_answer contents cpus budget seed)
+answer_if_told (Listing image) contents list = Some (listing_answer contents)
 
 -- by the first file, the image that it is, and the second
 abbrev pub answer_of_image : ImageOrder → List ℕ → Option Contents → Option (List ℕ) → Option Answer
@@ -78,6 +80,7 @@ answer_of_files order (Some first) trace = answer_of_image order first (image_in
 abbrev pub image_name : ImageOrder → List ℕ
 image_name (Replay image trace) = image
 image_name (Seed image cpus budget seed) = image
+image_name (Listing image) = image
 
 -- what the desk tells under the name of a command's first file, an image or a source
 abbrev pub image_told : Option Order → (List ℕ → Option (List ℕ)) → Option (List ℕ)
@@ -89,6 +92,7 @@ image_told (Some (Over order)) told = told (image_name order)
 abbrev pub trace_told_by : ImageOrder → (List ℕ → Option (List ℕ)) → Option (List ℕ)
 trace_told_by (Replay image trace) told = told trace
 trace_told_by (Seed image cpus budget seed) told = None
+trace_told_by (Listing image) told = None
 
 abbrev pub trace_told : Option Order → (List ℕ → Option (List ℕ)) → Option (List ℕ)
 trace_told None told = None
@@ -109,6 +113,7 @@ answer_of (Some (Over order)) told = answer_of_files order (told (image_name ord
 abbrev pub more_asks : ImageOrder → List Ask
 more_asks (Replay image trace) = (trace, MAX_TRACE_BYTES) ∷ []
 more_asks (Seed image cpus budget seed) = []
+more_asks (Listing image) = []
 
 -- all that a command may ask for; a summary and words outside the grammar ask for nothing
 abbrev pub asks_of : Option Order → List Ask

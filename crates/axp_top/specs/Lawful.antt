@@ -23,10 +23,10 @@ use Rattle.axp_base.specs.declared.processors.TheConstants.{MAX_CPUS}
 use Rattle.axp_gen.specs.Shapes.{shape_of}
 use Rattle.axp_seed.specs.Seeds.{end_of, seeded_start}
 use Rattle.axp_summary.specs.Rounds.{IsWholeRun, end_of_round}
-use Rattle.axp_top.specs.ImageFiles.{image_answer}
+use Rattle.axp_top.specs.ImageFiles.{image_answer, listing_answer}
 use Rattle.axp_top.specs.SeededRuns.{whole_answer}
 use Rattle.axp_top.specs.SummaryTexts.{summary_answer}
-use Rattle.axp_top.specs.Words.{From, Gen, ImageOrder, Order, Over, Replay, Seed}
+use Rattle.axp_top.specs.Words.{From, Gen, ImageOrder, Listing, Order, Over, Replay, Seed}
 
 -- the event that a line shows, of a list or of a trace
 abbrev pub event_shown : Option TraceLine → Option Event
@@ -125,6 +125,7 @@ is_at_once (status.BadImage kind offset) = true
 is_at_once (status.BadTrace n) = n == 1
 is_at_once status.TooLong = true
 is_at_once (status.BadElf field offset) = true
+is_at_once (status.BadSource n) = true
 is_at_once _ = false
 
 abbrev pub RefusesAll : Answer → Type 0
@@ -147,10 +148,11 @@ pub record ShowsSeeded (image : Contents) (cpus budget seed : ℕ) (answer : Ans
   pub run : IsRun machine
   pub constraints : KeepsConstraints machine
 
--- by the command, over an image
+-- by the command, over an image; a listing shows no run
 abbrev pub IsLawfulOver : ImageOrder → Contents → List FileLine → Answer → Type 0
 IsLawfulOver (Replay i t) image ls answer = IsLawfulReplay image ls answer
 IsLawfulOver (Seed i cpus budget seed) image ls answer = cpus ≤ MAX_CPUS → ShowsSeeded image cpus budget seed answer
+IsLawfulOver (Listing i) image ls answer = answer ≡ listing_answer image
 
 -- The answer is the summary of a number. The machine at the end of each of its rounds is complete, and the records keep
 -- the constraints of shared memory.

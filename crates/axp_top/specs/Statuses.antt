@@ -138,3 +138,4 @@ number_of_status (status.Incomplete n) = 9
 number_of_status status.TooLong = 10
 number_of_status status.Memory = 11
 number_of_status (status.BadElf field offset) = 14
+number_of_status (status.BadSource n) = 15

@@ -8,11 +8,15 @@ pub data ImageOrder : Type 0 where
   Replay : List ℕ → List ℕ → ImageOrder
   -- the trace of the run that a seed defines: how many processors, the budget of steps of each, and the seed
   Seed : List ℕ → ℕ → ℕ → ℕ → ImageOrder
+  -- the listing of the image
+  Listing : List ℕ → ImageOrder
 
 -- a command that turns a source, which is one file, into an image file
 pub data SourceOrder : Type 0 where
   -- an executable: its name, the size of memory, the stack word and the page of the page table
   Elf : List ℕ → ℕ → ℕ → ℕ → SourceOrder
+  -- an assembler source: its name
+  Asm : List ℕ → SourceOrder
 
 -- a command
 pub data Order : Type 0 where
@@ -27,6 +31,8 @@ order_in (Some (words.Replay image trace)) = Some (Over (Replay image trace))
 order_in (Some (words.Seed image cpus budget seed)) = Some (Over (Seed image cpus budget seed))
 order_in (Some (words.Gen number)) = Some (Gen number)
 order_in (Some (words.Elf file memory stack table)) = Some (From (Elf file memory stack table))
+order_in (Some (words.Asm file)) = Some (From (Asm file))
+order_in (Some (words.Listing image)) = Some (Over (Listing image))
 
 -- the command that the words are
 abbrev pub order_of : List (List ℕ) → Option Order

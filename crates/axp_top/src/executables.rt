@@ -1,31 +1,16 @@
 //! The image of an executable: its file, or the line of the executable's first fault.
 ghost use Rattle.axp_elf.specs.Executables.{IsSetting};
-ghost use Rattle.axp_top.specs.ImageFiles.{bad_elf, elf_answer, image_answer};
+ghost use Rattle.axp_top.specs.ImageFiles.{bad_elf, elf_answer};
 ghost use Rattle.axp_top.specs.Outside.{sink_state};
 ghost use Rattle.axp_top.specs.Printing.{Ends};
 
 use crate::Status;
-use crate::printing::{print, refuse};
+use crate::image_files::print_image;
+use crate::printing::refuse;
 use axp_elf::{ElfError, ElfField, read_elf};
-use axp_image::{Image, write_image};
 use axp_io::Sink;
 use axp_trace::write_bad_elf;
 use std::alloc::Global;
-
-/// Prints the file of an image, as one piece.
-#[tactic(auto, using(crate::proofs::ServingLemmas::image_has_bytes))]
-fn print_image<K: Sink>(alloc: Global, sink: &mut K, image: &Image) -> Status
-    ensures { let seen = sink_state K.taken K.faults K.puts in
-        Ends (seen sink.old) (seen sink.new) (image_answer image.now) result }
-{
-    let Ok(file) = write_image(alloc, image) else {
-        return Status::Memory;
-    };
-    match print(alloc, sink, file.as_slice()) {
-        Ok(()) => Status::Done,
-        Err(stop) => stop.status(),
-    }
-}
 
 /// Refuses an executable with this first fault.
 fn refuse_elf<K: Sink>(alloc: Global, sink: &mut K, field: ElfField, offset: u64) -> Status

@@ -5,6 +5,7 @@
 mod events;
 mod executables;
 mod file_tail;
+mod image_files;
 mod laws;
 mod limits;
 mod printing;
@@ -12,6 +13,7 @@ mod refusals;
 mod replay;
 mod seeds;
 mod serve;
+mod sources;
 mod status;
 mod summaries;
 mod tail;

@@ -1,4 +1,4 @@
-ghost use Rattle.std.specs.Prelude.{IfSome, Some};
+ghost use Rattle.std.specs.Prelude.{ℕ, List, ◌≡◌, IfErr, IfOk, IfSome, Some};
 ghost use Rattle.axp_elf.specs.Executables.{IsSetting};
 ghost use Rattle.axp_image.specs.Contents.{AreBytes};
 ghost use Rattle.axp_top.specs.declared.limits.TheConstants.{MAX_TRACE_BYTES};
@@ -8,12 +8,13 @@ ghost use Rattle.axp_top.specs.Answers.{image_in, image_told, trace_told};
 ghost use Rattle.axp_top.specs.Lawful.{image_of_file, lines_of_file};
 ghost use Rattle.axp_top.specs.Outside.{desk_state, outside_at, sink_state};
 ghost use Rattle.axp_top.specs.Printing.{Ends};
-ghost use Rattle.axp_top.specs.Serving.{Serves, ServesTrace};
+ghost use Rattle.axp_top.specs.Serving.{IsFetched, Serves, ServesEach, ServesTrace};
 ghost use Rattle.axp_words.specs.Commands as commands;
 ghost use Rattle.axp_top.specs.Statuses.{AsksInTurn, AsksNeeded, DeskCount, PutsEach, SinkCount};
 ghost use Rattle.axp_top.specs.Statuses.{Settles, SettlesLawfully, SettlesSome};
 ghost use Rattle.axp_top.specs.SeededRuns.{AreInRange, IsInRange};
-ghost use Rattle.axp_top.specs.Words.{Elf, From, Over, Replay, Seed, order_in, order_of};
+ghost use Rattle.axp_top.specs.Words.{Asm, Elf, From, Listing, Over, Replay, Seed};
+ghost use Rattle.axp_top.specs.Words.{order_in, order_of};
 
 use crate::Status;
 use crate::executables::print_executable;
@@ -21,7 +22,9 @@ use crate::limits::{MAX_IMAGE_BYTES, MAX_TRACE_BYTES};
 use crate::printing::refuse;
 use crate::replay::replay;
 use crate::seeds::print_seed;
+use crate::sources::{print_assembled, print_listing};
 use crate::summaries::print_summary;
+use axp_asm::MAX_SOURCE;
 use axp_image::{Image, ImageError, ImageKind, read_image};
 use axp_io::{Desk, FetchFault, Sink};
 use axp_trace::{write_bad_image, write_read_fault, write_too_long, write_usage};
@@ -31,8 +34,9 @@ use std::alloc::Global;
 /// Does what the words say, and answers how it ended.
 ///
 /// The words are `replay IMAGE TRACE`, where TRACE names an event list or a trace, `seed IMAGE CPUS
-/// BUDGET SEED`, `gen NUMBER` or `elf FILE MEMORY STACK TABLE`. An image is fetched and read before a second file is asked for;
-/// each line with its line feed is one put. What each status means is [`Status`]'s to say, and
+/// BUDGET SEED`, `gen NUMBER`, `elf FILE MEMORY STACK TABLE`, `asm FILE` or `list IMAGE`. An image is
+/// fetched and read before a second file is asked for. Each line with its line feed is one put; an
+/// image file and a listing are one put each. What each status means is [`Status`]'s to say, and
 /// `docs/FORMATS.md` has the command line, the forms of the files and of the text.
 pub fn serve_plain<D: Desk, K: Sink>(
     alloc: Global,
@@ -108,7 +112,35 @@ fn serve_command<D: Desk, K: Sink>(
                 table,
             },
         ) => elf_file(alloc, desk, sink, file, (memory, stack, table)),
+        Ok(Command::Asm { file }) => asm_file(alloc, desk, sink, file),
+        Ok(Command::List { image }) => list_file(alloc, desk, sink, image),
         Err(Usage) => refuse_usage(alloc, sink),
+    }
+}
+
+/// Fetches and reads the image of a name. Where there is none, the work is done: it ended with this
+/// status.
+fn fetch_image<D: Desk, K: Sink>(
+    alloc: Global,
+    desk: &mut D,
+    sink: &mut K,
+    name: &str,
+) -> Result<Image, Status>
+    ensures fetched { let at = outside_at D.faults D.asks K.taken K.faults K.puts in
+        IfOk result (IsFetched (D.told desk.old) name.now (at desk.old sink.old) (at desk.new sink.new)) }
+    ensures stays { (name : List ℕ) → D.told desk.new name ≡ D.told desk.old name }
+    ensures served { let at = outside_at D.faults D.asks K.taken K.faults K.puts in
+        IfErr result (ServesEach (D.told desk.old) name.now (at desk.old sink.old) (at desk.new sink.new)) }
+{
+    match desk.fetch(alloc, name, MAX_IMAGE_BYTES) {
+        Ok(bytes) => match read_image(alloc, bytes.as_slice()) {
+            Ok(image) => Ok(image),
+            Err(ImageError::Bad { kind, offset }) => Err(refuse_image(alloc, sink, kind, offset)),
+            Err(ImageError::Memory) => Err(Status::Memory),
+        },
+        Err(FetchFault::Failed) => Err(refuse_read_fault(alloc, sink)),
+        Err(FetchFault::TooLong) => Err(refuse_long(alloc, sink)),
+        Err(FetchFault::Memory) => Err(Status::Memory),
     }
 }
 
@@ -124,15 +156,9 @@ fn replay_files<D: Desk, K: Sink>(
         Serves (D.told desk.old) (Some (Over (Replay image.now trace.now)))
         (at desk.old sink.old) (at desk.new sink.new) result }
 {
-    match desk.fetch(alloc, image, MAX_IMAGE_BYTES) {
-        Ok(bytes) => match read_image(alloc, bytes.as_slice()) {
-            Ok(image) => replay_file(alloc, desk, sink, &image, trace),
-            Err(ImageError::Bad { kind, offset }) => refuse_image(alloc, sink, kind, offset),
-            Err(ImageError::Memory) => Status::Memory,
-        },
-        Err(FetchFault::Failed) => refuse_read_fault(alloc, sink),
-        Err(FetchFault::TooLong) => refuse_long(alloc, sink),
-        Err(FetchFault::Memory) => Status::Memory,
+    match fetch_image(alloc, desk, sink, image) {
+        Ok(image) => replay_file(alloc, desk, sink, &image, trace),
+        Err(status) => status,
     }
 }
 
@@ -151,15 +177,21 @@ fn seed_file<D: Desk, K: Sink>(
         (at desk.old sink.old) (at desk.new sink.new) result }
 {
     let (cpus, budget, seed) = numbers;
-    match desk.fetch(alloc, image, MAX_IMAGE_BYTES) {
-        Ok(bytes) => match read_image(alloc, bytes.as_slice()) {
-            Ok(image) => print_seed(alloc, sink, &image, cpus, budget, seed),
-            Err(ImageError::Bad { kind, offset }) => refuse_image(alloc, sink, kind, offset),
-            Err(ImageError::Memory) => Status::Memory,
-        },
-        Err(FetchFault::Failed) => refuse_read_fault(alloc, sink),
-        Err(FetchFault::TooLong) => refuse_long(alloc, sink),
-        Err(FetchFault::Memory) => Status::Memory,
+    match fetch_image(alloc, desk, sink, image) {
+        Ok(image) => print_seed(alloc, sink, &image, cpus, budget, seed),
+        Err(status) => status,
+    }
+}
+
+/// Prints the listing of the image of a name.
+fn list_file<D: Desk, K: Sink>(alloc: Global, desk: &mut D, sink: &mut K, image: &str) -> Status
+    ensures { let at = outside_at D.faults D.asks K.taken K.faults K.puts in
+        Serves (D.told desk.old) (Some (Over (Listing image.now)))
+        (at desk.old sink.old) (at desk.new sink.new) result }
+{
+    match fetch_image(alloc, desk, sink, image) {
+        Ok(image) => print_listing(alloc, sink, &image),
+        Err(status) => status,
     }
 }
 
@@ -179,6 +211,20 @@ fn elf_file<D: Desk, K: Sink>(
 {
     match desk.fetch(alloc, file, MAX_IMAGE_BYTES) {
         Ok(bytes) => print_executable(alloc, sink, bytes.as_slice(), numbers),
+        Err(FetchFault::Failed) => refuse_read_fault(alloc, sink),
+        Err(FetchFault::TooLong) => refuse_long(alloc, sink),
+        Err(FetchFault::Memory) => Status::Memory,
+    }
+}
+
+/// Prints the image of the assembler source of a name.
+fn asm_file<D: Desk, K: Sink>(alloc: Global, desk: &mut D, sink: &mut K, file: &str) -> Status
+    ensures { let at = outside_at D.faults D.asks K.taken K.faults K.puts in
+        Serves (D.told desk.old) (Some (From (Asm file.now)))
+        (at desk.old sink.old) (at desk.new sink.new) result }
+{
+    match desk.fetch(alloc, file, MAX_SOURCE) {
+        Ok(text) => print_assembled(alloc, sink, text.as_slice()),
         Err(FetchFault::Failed) => refuse_read_fault(alloc, sink),
         Err(FetchFault::TooLong) => refuse_long(alloc, sink),
         Err(FetchFault::Memory) => Status::Memory,

@@ -58,6 +58,12 @@ pub enum Status {
         /// Where that lies, in bytes from the file's start.
         offset: u64,
     },
+    /// The file is no assembler source that gives an image: the line of this number, from 1, is at
+    /// fault. A line with this was taken, and nothing before it.
+    BadSource {
+        /// The number of the line.
+        line: u32,
+    },
     /// Memory was not found; what was taken is a front of the text or, where the desk had failed,
     /// of the line of a read fault.
     Memory,
@@ -83,6 +89,7 @@ impl Status {
             Status::TooLong => 10,
             Status::Memory => 11,
             Status::BadElf { .. } => 14,
+            Status::BadSource { .. } => 15,
         }
     }
 }

@@ -1,11 +1,11 @@
 use Rattle.std.proofs.Common.{refl}
-use Rattle.axp_top.proofs.ServingLemmas.{elf_long, elf_served, source_failed, source_unfound}
+use Rattle.axp_top.proofs.ServingLemmas.{source_failed, source_long, source_served, source_unfound}
 use Rattle.axp_top.specs.Words.{Elf}
 use Rattle.axp_top.proofs.serve.elf_file.Goals as goal
 
 pub returns-in-Ok : goal.returns-in-Ok
 returns-in-Ok g c =
-    elf_served _ _ _ c.args.file.now c.args.numbers.0 c.args.numbers.1 c.args.numbers.2 c.in-Ok.bytes c.as_slice.result.now c.print_executable.result c.as_slice.ensures c.in-Ok.ensures.told c.in-Ok.ensures.most c.in-Ok.ensures.count c.in-Ok.ensures.asks c.print_executable.ensures
+    source_served _ _ _ (Elf c.args.file.now c.args.numbers.0 c.args.numbers.1 c.args.numbers.2) c.in-Ok.bytes c.as_slice.result.now c.print_executable.result c.as_slice.ensures c.in-Ok.ensures.told c.in-Ok.ensures.most c.in-Ok.ensures.count c.in-Ok.ensures.asks c.print_executable.ensures
 
 pub returns-in-Err-Failed : goal.returns-in-Err-Failed
 returns-in-Err-Failed g c =
@@ -13,7 +13,7 @@ returns-in-Err-Failed g c =
 
 pub returns-in-Err-TooLong : goal.returns-in-Err-TooLong
 returns-in-Err-TooLong g c =
-    elf_long _ _ _ c.args.file.now c.args.numbers.0 c.args.numbers.1 c.args.numbers.2 c.refuse_long.result c.in-Err-TooLong.field-0 c.in-Err-TooLong.field-0-is c.in-Err-TooLong.ensures.told c.in-Err-TooLong.ensures.count c.in-Err-TooLong.ensures.asks c.refuse_long.ensures
+    source_long _ _ _ (Elf c.args.file.now c.args.numbers.0 c.args.numbers.1 c.args.numbers.2) c.refuse_long.result c.in-Err-TooLong.field-0 c.in-Err-TooLong.field-0-is c.in-Err-TooLong.ensures.told c.in-Err-TooLong.ensures.count c.in-Err-TooLong.ensures.asks c.refuse_long.ensures
 
 pub returns-in-Err-Memory : goal.returns-in-Err-Memory
 returns-in-Err-Memory g c =

@@ -1,0 +1,3 @@
+use Rattle.std.proofs.Common.{refl}
+use Rattle.axp_top.proofs.ServingLemmas.{alone_served}
+use Rattle.axp_top.proofs.serve.list_file.Goals as goal
