@@ -1,5 +1,5 @@
 -- An image as it is filled, statement by statement.
-use Rattle.std.specs.Prelude.{ℕ, ◌+◌, ◌==◌, Bool, false, ◌&&◌, nat_le, nat_lt, if◌then◌else◌, List, [], ◌∷◌, ◌++◌, length, Option, Some, None, is_some, option_and_then}
+use Rattle.std.specs.Prelude.{ℕ, ◌+◌, ◌==◌, Bool, true, false, ◌&&◌, ◌||◌, nat_le, nat_lt, if◌then◌else◌, List, [], ◌∷◌, ◌++◌, length, Option, Some, None, is_some, option_and_then}
 use Rattle.std.specs.Option.{option_map_or}
 use Rattle.std.specs.Int.{w32, to_le_bytes}
 use Rattle.axp_image.specs.declared.limits.TheConstants.{MAX_SEGMENTS, INSTRUCTION_BYTES}
@@ -35,12 +35,16 @@ with_last image (Some s) = if length s.bytes == 0 then image else with_segment i
 abbrev pub closed : Draft → Contents
 closed d = with_last d.image d.last
 
--- the first statement that is no label has bytes
+-- a statement begins a segment
+abbrev pub is_start : Item → Bool
+is_start (Directs (directive.At x)) = true
+is_start _ = false
+
+-- some statement has bytes before the next that begins a segment
 abbrev pub have_bytes : List (Option Item) → Bool
 have_bytes [] = false
 have_bytes (None ∷ rest) = false
-have_bytes (Some (Label name) ∷ rest) = have_bytes rest
-have_bytes (Some item ∷ rest) = nat_lt 0 (size_of item)
+have_bytes (Some item ∷ rest) = if is_start item then false else (nat_lt 0 (size_of item) || have_bytes rest)
 
 -- a segment at an address may follow, of which these are the lines
 abbrev pub may_begin : List (Option Item) → Draft → ℕ → Bool

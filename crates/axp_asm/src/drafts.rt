@@ -6,7 +6,7 @@ ghost use Rattle.axp_image.specs.declared.limits.TheConstants.{MAX_MEMORY};
 ghost use Rattle.axp_decode.specs.Format.{word_of};
 ghost use Rattle.axp_source.specs.Items.{item_in};
 ghost use Rattle.axp_asm.specs.Lines.{said_in};
-ghost use Rattle.axp_asm.specs.Drafts.{closed, draft, displacement_to, end_of_draft, have_bytes};
+ghost use Rattle.axp_asm.specs.Drafts.{closed, draft, displacement_to, end_of_draft, have_bytes, is_start};
 ghost use Rattle.axp_asm.specs.Drafts.{is_on, with_branch, with_bytes, with_directive, with_item};
 ghost use Rattle.axp_asm.specs.Drafts.{with_label, with_last, with_start, with_word};
 ghost use Rattle.axp_asm.specs.Seen.{IsFilled};
@@ -53,18 +53,43 @@ impl Model for Draft {
     ghost invariant = { λ d. IsFilled (seen.draft d.image d.last) };
 }
 
-/// Whether the first statement of a text that is no label has bytes.
+/// Whether a statement begins a segment.
+fn is_start(statement: &Statement<'_>) -> bool
+    ensures { result ≡ is_start (item_in statement.now) }
+{
+    match *statement {
+        Statement::Directive(Directive::At(_)) => true,
+        Statement::Directive(
+            Directive::Memory(_)
+            | Directive::Entry(_)
+            | Directive::Stack(_)
+            | Directive::Table(_)
+            | Directive::Byte(_)
+            | Directive::Word(_),
+        )
+        | Statement::Label(_)
+        | Statement::Instruction(_)
+        | Statement::BranchTo { .. } => false,
+    }
+}
+
+/// Whether some statement of a text has bytes before the next that begins a segment.
 #[tactic(auto, unfolding(crate::specs::Lines::said_in))]
 fn have_bytes(text: &[u8]) -> bool
     ensures { result ≡ have_bytes (said_in text.now) }
 {
     let mut rest = text;
     while let Some((line, more)) = first_line(rest) {
-        match read_statement(line) {
-            Some(Statement::Label(_)) => rest = more,
-            Some(statement) => return 0 < size_of(&statement),
-            None => return false,
+        let Some(statement) = read_statement(line) else {
+            return false;
+        };
+        if is_start(&statement) {
+            return false;
         }
+        if 0 < size_of(&statement) {
+            return true;
+        }
+        rest = more;
     }
     false
 }
