@@ -25,8 +25,8 @@ use Rattle.axp_source.specs.Reading.{directive_if, directive_by, instr_if, memor
 use Rattle.axp_source.specs.declared.numbers.TheConstants.{MEMORY_HALF, BRANCH_HALF}
 use Rattle.axp_source.specs.declared.statements.Directive.{Directive}
 use Rattle.axp_source.specs.declared.statements.Directive.TheVariants as directive
-use Rattle.axp_source.proofs.FieldLemmas.{other_signed, other_operand, other_bracketed, first_cut, not_cut, other_label, label_begins, signed_no_label, register_back, register_closed, register_bracketed, signed_back, operand_back}
-use Rattle.axp_source.proofs.NameLemmas.{IsFront, memory_front, branch_front, operate_front, misc_front, jump_front, branch_found, memory_found, misc_found, operate_found, jump_found, pal_found}
+use Rattle.axp_source.proofs.FieldLemmas.{other_signed, other_operand, other_bracketed, first_cut, not_cut, other_label, signed_no_label, register_back, register_closed, register_bracketed, signed_back, operand_back}
+use Rattle.axp_source.proofs.NameLemmas.{is_above, high_memory, high_branch, high_operate, high_misc, high_jump, other_above, begins_other, branch_found, memory_found, misc_found, operate_found, jump_found, pal_found}
 use Rattle.axp_source.proofs.NumberLemmas.{number_back, hex_in_back}
 
 -- ---- directives
@@ -44,25 +44,25 @@ directive_back (directive.Word n) h = ap (λ x. directive_if (codes ".word " ++ 
 -- ---- instructions
 
 -- a line of a name and what stands behind it
-plain_back : (name rest : List ℕ) → IsFront name → item_of (name ++ 32 ∷ rest) ≡ operands_in (name ++ 32 ∷ rest) name (cut_at 44 rest)
+plain_back : (name rest : List ℕ) → is_above 46 name ≡ true → item_of (name ++ 32 ∷ rest) ≡ operands_in (name ++ 32 ∷ rest) name (cut_at 44 rest)
 unfolding item_of
-plain_back name rest front =
-    ap (λ t. if t then directive_by (name ++ 32 ∷ rest) (cut_at 32 (name ++ 32 ∷ rest)) else plain_by (name ++ 32 ∷ rest) (cut_at 32 (name ++ 32 ∷ rest))) (front.plain rest)
-    ∙ ap (plain_by (name ++ 32 ∷ rest)) (front.cut rest)
+plain_back name rest high =
+    ap (λ t. if t then directive_by (name ++ 32 ∷ rest) (cut_at 32 (name ++ 32 ∷ rest)) else plain_by (name ++ 32 ∷ rest) (cut_at 32 (name ++ 32 ∷ rest))) (begins_other 46 32 name rest refl (other_above 46 46 name (omega arith) high))
+    ∙ ap (plain_by (name ++ 32 ∷ rest)) (cut_at-begin 32 name rest (other_above 32 46 name (omega arith) high))
 
-written : (i : Instr) (line : List ℕ) → line ≡ instr_text i → instr_if line (Some i) ≡ Some (Instruction i)
-written i line is = ap (λ l. instr_if l (Some i)) is ∙ ap (λ t. if t then Some (Instruction i) else None) (same_bytes (instr_text i))
+text_back : (i : Instr) (line : List ℕ) → line ≡ instr_text i → instr_if line (Some i) ≡ Some (Instruction i)
+text_back i line is = ap (λ l. instr_if l (Some i)) is ∙ ap (λ t. if t then Some (Instruction i) else None) (same_bytes (instr_text i))
 
 -- an instruction that is no branch, by its name, register Ra and what stands behind the comma
-other_back : (i : Instr) (name : List ℕ) (a : ℕ) (rest : List ℕ) → IsFront name → branch_named name ≡ None → a < 2 ^ 5 → instr_text i ≡ name ++ 32 ∷ (register_text a ++ 44 ∷ rest) → named_by (memory_named name) name a rest ≡ Some i → item_of (instr_text i) ≡ Some (Instruction i)
-other_back i name a rest front none small text meant =
+other_back : (i : Instr) (name : List ℕ) (a : ℕ) (rest : List ℕ) → is_above 46 name ≡ true → branch_named name ≡ None → a < 2 ^ 5 → instr_text i ≡ name ++ 32 ∷ (register_text a ++ 44 ∷ rest) → named_by (memory_named name) name a rest ≡ Some i → item_of (instr_text i) ≡ Some (Instruction i)
+other_back i name a rest high none small text meant =
     ap item_of text
-    ∙ plain_back name (register_text a ++ 44 ∷ rest) front
+    ∙ plain_back name (register_text a ++ 44 ∷ rest) high
     ∙ ap (operands_in (name ++ 32 ∷ (register_text a ++ 44 ∷ rest)) name) (first_cut a rest)
     ∙ ap (λ b. operands_by (name ++ 32 ∷ (register_text a ++ 44 ∷ rest)) b name (register_text a) rest) none
     ∙ ap (λ n. instr_if (name ++ 32 ∷ (register_text a ++ 44 ∷ rest)) (named_by (memory_named name) name n rest)) (register_back a small)
     ∙ ap (instr_if (name ++ 32 ∷ (register_text a ++ 44 ∷ rest))) meant
-    ∙ written i (name ++ 32 ∷ (register_text a ++ 44 ∷ rest)) (sym text)
+    ∙ text_back i (name ++ 32 ∷ (register_text a ++ 44 ∷ rest)) (sym text)
 
 memory_back : (op : MemOp) (a b disp : ℕ) → FieldsFit (instr.Memory op a b disp) → item_of (instr_text (instr.Memory op a b disp)) ≡ Some (Instruction (instr.Memory op a b disp))
 unfolding instr_text
@@ -70,7 +70,7 @@ memory_back op a b disp h =
     let found = memory_found op in
     let disp_fits : disp < 2 * MEMORY_HALF = h.2 in
     let cut : cut_at 40 (signed_text MEMORY_HALF disp ++ 40 ∷ (register_text b ++ 41 ∷ [])) ≡ Some (signed_text MEMORY_HALF disp, register_text b ++ 41 ∷ []) = cut_at-begin 40 (signed_text MEMORY_HALF disp) (register_text b ++ 41 ∷ []) (other_signed 40 MEMORY_HALF disp (omega arith)) in
-    other_back (instr.Memory op a b disp) (memory_name op) a (signed_text MEMORY_HALF disp ++ 40 ∷ (register_text b ++ 41 ∷ [])) (memory_front op) found.0 h.0 refl
+    other_back (instr.Memory op a b disp) (memory_name op) a (signed_text MEMORY_HALF disp ++ 40 ∷ (register_text b ++ 41 ∷ [])) (high_memory op) found.0 h.0 refl
     (ap (λ o. named_by o (memory_name op) a (signed_text MEMORY_HALF disp ++ 40 ∷ (register_text b ++ 41 ∷ []))) found.1
     ∙ ap (memory_by op a) cut
     ∙ ap (λ n. Some (instr.Memory op a n (signed_in MEMORY_HALF (signed_text MEMORY_HALF disp)))) (register_closed b h.1)
@@ -80,7 +80,7 @@ misc_back : (op : MiscOp) (a b : ℕ) → FieldsFit (instr.Misc op a b) → item
 unfolding instr_text
 misc_back op a b h =
     let found = misc_found op in
-    other_back (instr.Misc op a b) (misc_name op) a (register_text b) (misc_front op) found.0 h.0 refl
+    other_back (instr.Misc op a b) (misc_name op) a (register_text b) (high_misc op) found.0 h.0 refl
     (ap (λ o. named_by o (misc_name op) a (register_text b)) found.1
     ∙ ap (λ o. misc_by o (misc_name op) a (register_text b)) found.2
     ∙ ap (λ n. Some (instr.Misc op a n)) (register_back b h.1))
@@ -90,7 +90,7 @@ unfolding instr_text
 operate_back op a b c h w =
     let found = operate_found op in
     let cut : cut_at 44 (operand_text b ++ 44 ∷ register_text c) ≡ Some (operand_text b, register_text c) = cut_at-begin 44 (operand_text b) (register_text c) (other_operand 44 b (λ e. absurd (omega arith)) (omega arith)) in
-    other_back (instr.Operate op a b c) (operate_name op) a (operand_text b ++ 44 ∷ register_text c) (operate_front op) found.0 h.0 refl
+    other_back (instr.Operate op a b c) (operate_name op) a (operand_text b ++ 44 ∷ register_text c) (high_operate op) found.0 h.0 refl
     (ap (λ o. named_by o (operate_name op) a (operand_text b ++ 44 ∷ register_text c)) found.1
     ∙ ap (λ o. misc_by o (operate_name op) a (operand_text b ++ 44 ∷ register_text c)) found.2
     ∙ ap (three_in (operate_name op) a) cut
@@ -103,7 +103,7 @@ unfolding instr_text
 jump_back kind a b hint h =
     let found = jump_found kind h.0 in
     let cut : cut_at 44 (40 ∷ (register_text b ++ 41 ∷ []) ++ 44 ∷ decimal hint) ≡ Some (40 ∷ (register_text b ++ 41 ∷ []), decimal hint) = cut_at-begin 44 (40 ∷ (register_text b ++ 41 ∷ [])) (decimal hint) (other_bracketed 44 b (λ e. absurd (omega arith)) (λ e. absurd (omega arith)) (omega arith)) in
-    other_back (instr.Jump kind a b hint) (jump_name kind) a (40 ∷ (register_text b ++ 41 ∷ []) ++ 44 ∷ decimal hint) (jump_front kind h.0) found.branch h.1 refl
+    other_back (instr.Jump kind a b hint) (jump_name kind) a (40 ∷ (register_text b ++ 41 ∷ []) ++ 44 ∷ decimal hint) (high_jump kind) found.branch h.1 refl
     (ap (λ o. named_by o (jump_name kind) a (40 ∷ (register_text b ++ 41 ∷ []) ++ 44 ∷ decimal hint)) found.memory
     ∙ ap (λ o. misc_by o (jump_name kind) a (40 ∷ (register_text b ++ 41 ∷ []) ++ 44 ∷ decimal hint)) found.misc
     ∙ ap (three_in (jump_name kind) a) cut
@@ -115,7 +115,7 @@ jump_back kind a b hint h =
 -- a line of a branch
 branch_line : (op : BranchOp) (a : ℕ) (target : List ℕ) → item_of (branch_name op ++ 32 ∷ (register_text a ++ 44 ∷ target)) ≡ branch_in (branch_name op ++ 32 ∷ (register_text a ++ 44 ∷ target)) op (register_text a) target
 branch_line op a target =
-    plain_back (branch_name op) (register_text a ++ 44 ∷ target) (branch_front op)
+    plain_back (branch_name op) (register_text a ++ 44 ∷ target) (high_branch op)
     ∙ ap (operands_in (branch_name op ++ 32 ∷ (register_text a ++ 44 ∷ target)) (branch_name op)) (first_cut a target)
     ∙ ap (λ b. operands_by (branch_name op ++ 32 ∷ (register_text a ++ 44 ∷ target)) b (branch_name op) (register_text a) target) (branch_found op)
 
@@ -127,7 +127,7 @@ branch_back op a disp h =
     ∙ ap (λ t. if t then branch_to op (register_text a) (signed_text BRANCH_HALF disp) else instr_if (branch_name op ++ 32 ∷ (register_text a ++ 44 ∷ signed_text BRANCH_HALF disp)) (Some (instr.Branch op (register_in (register_text a)) (signed_in BRANCH_HALF (signed_text BRANCH_HALF disp))))) (signed_no_label BRANCH_HALF disp)
     ∙ ap (λ n. instr_if (branch_name op ++ 32 ∷ (register_text a ++ 44 ∷ signed_text BRANCH_HALF disp)) (Some (instr.Branch op n (signed_in BRANCH_HALF (signed_text BRANCH_HALF disp))))) (register_back a h.0)
     ∙ ap (λ d. instr_if (branch_name op ++ 32 ∷ (register_text a ++ 44 ∷ signed_text BRANCH_HALF disp)) (Some (instr.Branch op a d))) (signed_back BRANCH_HALF disp disp_fits (omega arith))
-    ∙ written (instr.Branch op a disp) (branch_name op ++ 32 ∷ (register_text a ++ 44 ∷ signed_text BRANCH_HALF disp)) refl
+    ∙ text_back (instr.Branch op a disp) (branch_name op ++ 32 ∷ (register_text a ++ 44 ∷ signed_text BRANCH_HALF disp)) refl
 
 pal_back : (op : PalOp) → item_of (instr_text (instr.Pal op)) ≡ Some (Instruction (instr.Pal op))
 unfolding item_of instr_text
@@ -161,7 +161,7 @@ branch_to_back op a label small h =
 label_back : (name : List ℕ) → is_label name ≡ true → item_of (label_text name) ≡ Some (Label name)
 unfolding item_of label_text
 label_back name h =
-    ap (λ t. if t then directive_by (name ++ 58 ∷ []) (cut_at 32 (name ++ 58 ∷ [])) else plain_by (name ++ 58 ∷ []) (cut_at 32 (name ++ 58 ∷ []))) (label_begins 46 name (58 ∷ []) refl h)
+    ap (λ t. if t then directive_by (name ++ 58 ∷ []) (cut_at 32 (name ++ 58 ∷ [])) else plain_by (name ++ 58 ∷ []) (cut_at 32 (name ++ 58 ∷ []))) (begins_other 46 58 name [] refl (other_label 46 name refl h))
     ∙ ap (plain_by (name ++ 58 ∷ [])) (not_cut 32 (name ++ 58 ∷ []) free)
     ∙ ap (word_by (name ++ 58 ∷ [])) (cut_at-begin 58 name [] (other_label 58 name refl h))
     ∙ ap (λ t. if t then Some (Label name) else None) h

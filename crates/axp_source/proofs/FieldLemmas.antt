@@ -65,11 +65,6 @@ other_name c (b ∷ bs) other h =
 pub other_label : (c : ℕ) (name : List ℕ) → is_ascii_alphanumeric c ≡ false → is_label name ≡ true → All (λ b. b ≢ c) name
 other_label c name other h = other_name c name other (and_parts (begins_with_letter name) (list_all is_ascii_alphanumeric name) h).1
 
--- a label with something behind it begins with no other byte
-pub label_begins : (c : ℕ) (name rest : List ℕ) → is_ascii_alphanumeric c ≡ false → is_label name ≡ true → begins c (name ++ rest) ≡ false
-label_begins c [] rest other h = cc
-label_begins c (b ∷ bs) rest other h = ne_eqb b c (All-head (λ x. x ≢ c) b bs (other_label c (b ∷ bs) other h))
-
 low_letter : (c : ℕ) → c < 58 → is_ascii_alphabetic c ≡ false
 low_letter c low =
     let below : c < 65 = omega arith in

@@ -5,7 +5,8 @@ use Rattle.std.specs.Str.{all_ascii_digits}
 use Rattle.std.proofs.lemmas.Bool.{le-leb}
 use Rattle.std.proofs.lemmas.Fmt.{digits_value-decimal}
 use Rattle.std.proofs.lemmas.Str.Parse.{IsNumeralModel, numerals_by_fold, tells_all_ascii_digits}
-use Rattle.std.proofs.Math.Nat.{mod-add-mod, mod-eq_of_lt}
+use Rattle.std.proofs.Math.Nat.{mod-add-mod, mod-eq_of_lt, mod-mod}
+use Rattle.std.proofs.lemmas.List.{drop_all}
 use Rattle.std.proofs.lemmas.Nat.{mul-mod_first, mod_below}
 use Rattle.axp_trace.specs.Digits.{hex, hex_digit_value, hex_value_after}
 use Rattle.axp_trace.proofs.DigitLemmas.{length-hex, hex_back}
@@ -18,12 +19,6 @@ place_mod a b k d m h =
     sym (mod-add-mod (a * k) m d)
     ∙ ap (λ x. (x + d) % m) (sym (mul-mod_first a k m) ∙ ap (λ x. (x * k) % m) h ∙ mul-mod_first b k m)
     ∙ mod-add-mod (b * k) m d
-
-mod_mod : (a m : ℕ) → a % m % m ≡ a % m
-mod_mod a m =
-    let more : a % m + 0 ≡ a % m = omega arith in
-    let none : a + 0 ≡ a = omega arith in
-    ap (λ x. x % m) (sym more) ∙ mod-add-mod a m 0 ∙ ap (λ x. x % m) none
 
 same_digits : (a b m : ℕ) (cs : List ℕ) → a % m ≡ b % m → digits_behind a cs % m ≡ digits_behind b cs % m
 same_digits a b m [] h = h
@@ -42,29 +37,22 @@ same_hex a b m (c ∷ cs) h = same_hex (a * 16 + hex_digit_value c) (b * 16 + he
 pub number_turn : (xs : List ℕ) (i v d all : ℕ) → i < length xs → d ≡ digit_behind v (get_or xs i 0) % 2 ^ 64 → digits_behind v (drop i xs) % 2 ^ 64 ≡ all → (digits_behind d (drop (i + 1) xs) % 2 ^ 64 ≡ all) × (d < 2 ^ 64)
 number_turn xs i v d all below is h =
     let cell : drop i xs ≡ get_or xs i 0 ∷ drop (suc i) xs = drop-cons xs i 0 below in
-    let same : d % 2 ^ 64 ≡ digit_behind v (get_or xs i 0) % 2 ^ 64 = ap (λ x. x % 2 ^ 64) is ∙ mod_mod (digit_behind v (get_or xs i 0)) (2 ^ 64) in
+    let same : d % 2 ^ 64 ≡ digit_behind v (get_or xs i 0) % 2 ^ 64 = ap (λ x. x % 2 ^ 64) is ∙ mod-mod (digit_behind v (get_or xs i 0)) (2 ^ 64) in
     let step : digits_behind d (drop (suc i) xs) % 2 ^ 64 ≡ all = same_digits d (digit_behind v (get_or xs i 0)) (2 ^ 64) (drop (suc i) xs) same ∙ sym (ap (λ cs. digits_behind v cs % 2 ^ 64) cell) ∙ h in
     (rw add-one step, omega (arith, is, mod_below (digit_behind v (get_or xs i 0)) (2 ^ 64) (omega arith)))
 
 pub hex_turn : (xs : List ℕ) (i v d all : ℕ) → i < length xs → d ≡ (v * 16 + hex_digit_value (get_or xs i 0)) % 2 ^ 64 → hex_value_after v (drop i xs) % 2 ^ 64 ≡ all → (hex_value_after d (drop (i + 1) xs) % 2 ^ 64 ≡ all) × (d < 2 ^ 64)
 hex_turn xs i v d all below is h =
     let cell : drop i xs ≡ get_or xs i 0 ∷ drop (suc i) xs = drop-cons xs i 0 below in
-    let same : d % 2 ^ 64 ≡ (v * 16 + hex_digit_value (get_or xs i 0)) % 2 ^ 64 = ap (λ x. x % 2 ^ 64) is ∙ mod_mod (v * 16 + hex_digit_value (get_or xs i 0)) (2 ^ 64) in
+    let same : d % 2 ^ 64 ≡ (v * 16 + hex_digit_value (get_or xs i 0)) % 2 ^ 64 = ap (λ x. x % 2 ^ 64) is ∙ mod-mod (v * 16 + hex_digit_value (get_or xs i 0)) (2 ^ 64) in
     let step : hex_value_after d (drop (suc i) xs) % 2 ^ 64 ≡ all = same_hex d (v * 16 + hex_digit_value (get_or xs i 0)) (2 ^ 64) (drop (suc i) xs) same ∙ sym (ap (λ cs. hex_value_after v cs % 2 ^ 64) cell) ∙ h in
     (rw add-one step, omega (arith, is, mod_below (v * 16 + hex_digit_value (get_or xs i 0)) (2 ^ 64) (omega arith)))
 
-none_left : (xs : List ℕ) (i : ℕ) → length xs ≤ i → drop i xs ≡ []
-none_left xs i h = empty (drop i xs) (omega (arith, length-drop i xs))
-  where
-    empty : (ys : List ℕ) → length ys ≤ 0 → ys ≡ []
-    empty [] h = refl
-    empty (y ∷ ys) h = absurd (omega arith)
-
 pub number_end : (xs : List ℕ) (i v : ℕ) → digits_behind v (drop i xs) % 2 ^ 64 ≡ digits_behind 0 xs % 2 ^ 64 → length xs ≤ i → v < 2 ^ 64 → v ≡ digits_behind 0 xs % 2 ^ 64
-number_end xs i v h past small = sym (mod-eq_of_lt small) ∙ sym (ap (λ cs. digits_behind v cs % 2 ^ 64) (none_left xs i past)) ∙ h
+number_end xs i v h past small = sym (mod-eq_of_lt small) ∙ sym (ap (λ cs. digits_behind v cs % 2 ^ 64) (drop_all i xs past)) ∙ h
 
 pub hex_end : (xs : List ℕ) (i v : ℕ) → hex_value_after v (drop i xs) % 2 ^ 64 ≡ hex_value_after 0 xs % 2 ^ 64 → length xs ≤ i → v < 2 ^ 64 → v ≡ hex_value_after 0 xs % 2 ^ 64
-hex_end xs i v h past small = sym (mod-eq_of_lt small) ∙ sym (ap (λ cs. hex_value_after v cs % 2 ^ 64) (none_left xs i past)) ∙ h
+hex_end xs i v h past small = sym (mod-eq_of_lt small) ∙ sym (ap (λ cs. hex_value_after v cs % 2 ^ 64) (drop_all i xs past)) ∙ h
 
 -- ---- the last digits of 16
 
@@ -84,11 +72,11 @@ value_tail xs k n few is =
 
 -- ---- what is written is read
 
-counted : (n c : ℕ) → 48 ≤ c → c ≤ 57 → digit_behind n c ≡ n * 10 + (c - 48)
-counted n c low high = rw (le-leb 48 c low, le-leb c 57 high) refl
+digit_adds : (n c : ℕ) → 48 ≤ c → c ≤ 57 → digit_behind n c ≡ n * 10 + (c - 48)
+digit_adds n c low high = rw (le-leb 48 c low, le-leb c 57 high) refl
 
 numbers : IsNumeralModel (λ ds. all_ascii_digits ds ≡ true) (digits_behind 0)
-numbers = numerals_by_fold _ tells_all_ascii_digits digits_behind (record { empty = λ n. refl; more = λ n c cs h. ap (λ m. digits_behind m cs) (counted n c h.0 h.1) })
+numbers = numerals_by_fold _ tells_all_ascii_digits digits_behind (record { empty = λ n. refl; more = λ n c cs h. ap (λ m. digits_behind m cs) (digit_adds n c h.0 h.1) })
 
 digits_behind-append : (n : ℕ) (xs ys : List ℕ) → digits_behind n (xs ++ ys) ≡ digits_behind (digits_behind n xs) ys
 digits_behind-append n [] ys = refl
@@ -99,28 +87,28 @@ pub number_back : (n : ℕ) → n < 2 ^ 64 → number_in (decimal n) ≡ n
 unfolding number_in
 number_back n small = ap (λ x. x % 2 ^ 64) (digits_value-decimal numbers n small) ∙ mod-eq_of_lt small
 
-passed : (n c : ℕ) → is_ascii_digit c ≡ false → digit_behind n c ≡ n
-passed n c other = ap (λ t. if t then n * 10 + (c - 48) else n) other
+other_adds_nothing : (n c : ℕ) → is_ascii_digit c ≡ false → digit_behind n c ≡ n
+other_adds_nothing n c other = ap (λ t. if t then n * 10 + (c - 48) else n) other
 
 -- also before a byte that is none
-closed : (d n : ℕ) → is_ascii_digit d ≡ false → n < 2 ^ 64 → digits_behind 0 (decimal n ++ d ∷ []) % 2 ^ 64 ≡ n
-closed d n behind small =
-    ap (λ x. x % 2 ^ 64) (digits_behind-append 0 (decimal n) (d ∷ []) ∙ passed (digits_behind 0 (decimal n)) d behind ∙ digits_value-decimal numbers n small) ∙ mod-eq_of_lt small
+decimal_before : (d n : ℕ) → is_ascii_digit d ≡ false → n < 2 ^ 64 → digits_behind 0 (decimal n ++ d ∷ []) % 2 ^ 64 ≡ n
+decimal_before d n behind small =
+    ap (λ x. x % 2 ^ 64) (digits_behind-append 0 (decimal n) (d ∷ []) ∙ other_adds_nothing (digits_behind 0 (decimal n)) d behind ∙ digits_value-decimal numbers n small) ∙ mod-eq_of_lt small
 
 pub marked_back : (c n : ℕ) → is_ascii_digit c ≡ false → n < 2 ^ 64 → number_in (c ∷ decimal n) ≡ n
 unfolding number_in
 marked_back c n other small =
-    ap (λ m. digits_behind m (decimal n) % 2 ^ 64) (passed 0 c other) ∙ ap (λ x. x % 2 ^ 64) (digits_value-decimal numbers n small) ∙ mod-eq_of_lt small
+    ap (λ m. digits_behind m (decimal n) % 2 ^ 64) (other_adds_nothing 0 c other) ∙ ap (λ x. x % 2 ^ 64) (digits_value-decimal numbers n small) ∙ mod-eq_of_lt small
 
 pub closed_back : (c d n : ℕ) → is_ascii_digit c ≡ false → is_ascii_digit d ≡ false → n < 2 ^ 64 → number_in (c ∷ (decimal n ++ d ∷ [])) ≡ n
 unfolding number_in
 closed_back c d n before behind small =
-    ap (λ m. digits_behind m (decimal n ++ d ∷ []) % 2 ^ 64) (passed 0 c before) ∙ closed d n behind small
+    ap (λ m. digits_behind m (decimal n ++ d ∷ []) % 2 ^ 64) (other_adds_nothing 0 c before) ∙ decimal_before d n behind small
 
 pub bracketed_back : (b c d n : ℕ) → is_ascii_digit b ≡ false → is_ascii_digit c ≡ false → is_ascii_digit d ≡ false → n < 2 ^ 64 → number_in (b ∷ c ∷ (decimal n ++ d ∷ [])) ≡ n
 unfolding number_in
 bracketed_back b c d n first before behind small =
-    ap (λ m. digits_behind m (decimal n ++ d ∷ []) % 2 ^ 64) (ap (λ m. digit_behind m c) (passed 0 b first) ∙ passed 0 c before) ∙ closed d n behind small
+    ap (λ m. digits_behind m (decimal n ++ d ∷ []) % 2 ^ 64) (ap (λ m. digit_behind m c) (other_adds_nothing 0 b first) ∙ other_adds_nothing 0 c before) ∙ decimal_before d n behind small
 
 pub hex_in_back : (k n : ℕ) → n < 2 ^ (4 * k) → n < 2 ^ 64 → hex_in (hex k n) ≡ n
 unfolding hex_in

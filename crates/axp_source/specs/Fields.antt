@@ -1,5 +1,5 @@
 -- The fields of a line, read. What a word would mean is guessed without regard to its spelling, and is always in the
--- range of its field: the line is spelled again and compared.
+-- range of its field: the line is spelled again and compared. 35 is a number sign, 45 a minus sign, and 48 the digit 0.
 use Rattle.std.specs.Prelude.{ℕ, ◌+◌, ◌-◌, ◌*◌, ◌%◌, ◌^◌, ◌==◌, Bool, false, if◌then◌else◌, List, [], ◌∷◌}
 use Rattle.std.specs.Char.{is_ascii_digit}
 use Rattle.axp_trace.specs.Digits.{hex_value}
@@ -10,6 +10,7 @@ use Rattle.axp_decode.specs.declared.instructions.Operand.TheVariants.{Reg, Lite
 abbrev pub digit_behind : ℕ → ℕ → ℕ
 digit_behind n c = if is_ascii_digit c then n * 10 + (c - 48) else n
 
+-- the same of more bytes
 abbrev pub digits_behind : ℕ → List ℕ → ℕ
 digits_behind n [] = n
 digits_behind n (c ∷ cs) = digits_behind (digit_behind n c) cs

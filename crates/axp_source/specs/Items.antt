@@ -1,4 +1,4 @@
--- A statement in the code stands for one without where its names lie.
+-- What a line says. A statement in the code has its name by a slice of the line, an item by its bytes.
 use Rattle.std.specs.Prelude.{◌≡◌, ◌<◌, ℕ, ◌^◌, ◌==◌, Bool, true, false, ◌&&◌, List, [], ◌∷◌, Option, Some, None}
 use Rattle.std.specs.List.{list_all}
 use Rattle.std.specs.Char.{is_ascii_alphabetic, is_ascii_alphanumeric}
@@ -23,6 +23,7 @@ pub data Item : Type 0 where
   -- a branch on register Ra to a label
   BranchTo : BranchOp → ℕ → List ℕ → Item
 
+-- what a statement in the code says
 abbrev pub item_in : Statement → Item
 item_in (code.Directive d) = Directs d
 item_in (code.Label name) = Label name.now
@@ -36,6 +37,7 @@ item_read (Some s) = Some (item_in s)
 
 -- ---- what has a line
 
+-- the first byte is a letter
 abbrev pub begins_with_letter : List ℕ → Bool
 begins_with_letter [] = false
 begins_with_letter (c ∷ cs) = is_ascii_alphabetic c
@@ -56,6 +58,7 @@ is_written (instr.Floating word) = false
 is_written (instr.Reserved word) = false
 is_written _ = true
 
+-- the number of a directive fits in its digits or in 64 bits
 abbrev pub DirectiveFits : Directive → Type 0
 DirectiveFits (directive.Memory m) = m < 2 ^ 64
 DirectiveFits (directive.Entry x) = x < 2 ^ 64

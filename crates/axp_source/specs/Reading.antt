@@ -1,4 +1,5 @@
--- What a line means. It is the text of a statement, if it is spelled just so.
+-- What a line means. It is the text of a statement, if it is spelled just so. 32 is a blank, 40 a bracket, 44 a comma, 46 a
+-- full stop, and 58 a colon.
 use Rattle.std.specs.Prelude.{ℕ, ◌%◌, ◌^◌, if◌then◌else◌, List, [], ◌∷◌, codes, Option, Some, None}
 use Rattle.std.specs.Str.{bytes_eq}
 use Rattle.axp_trace.specs.Fields.{cut_at}
@@ -62,6 +63,7 @@ abbrev pub three_by : Option Op → List ℕ → ℕ → List ℕ → List ℕ �
 three_by None name a b c = jump_by (jump_named name) a b c
 three_by (Some op) name a b c = Some (instr.Operate op a (operand_in b) (register_in c))
 
+-- both sides of the second comma
 abbrev pub three_in : List ℕ → ℕ → Option (List ℕ × List ℕ) → Option Instr
 three_in name a None = None
 three_in name a (Some p) = three_by (operate_named name) name a p.0 p.1
@@ -102,6 +104,7 @@ operands_in line name (Some p) = operands_by line (branch_named name) name p.0 p
 
 -- ---- one word
 
+-- a call of PALcode
 abbrev pub pal_by : Option PalOp → Option Item
 pal_by None = None
 pal_by (Some op) = Some (Instruction (instr.Pal op))

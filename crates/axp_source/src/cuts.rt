@@ -1,3 +1,4 @@
+//! A text, cut at a byte.
 ghost use Rattle.std.specs.Prelude.{◌≡◌, ◌≢◌, ◌∷◌, ◌++◌, IsNone, IfSome};
 ghost use Rattle.std.specs.List.{All};
 ghost use Rattle.axp_trace.specs.Fields.{cut_at, parts_of};

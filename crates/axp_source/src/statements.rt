@@ -1,3 +1,4 @@
+//! What the lines of a source say.
 use axp_decode::{BranchOp, Instr};
 
 /// What a source says of the image and its bytes, beside labels and instructions.
