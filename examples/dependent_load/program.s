@@ -1,0 +1,20 @@
+.memory 32768
+.entry FFFFFC0000002000
+.stack FFFFFC0000004000
+.table 0
+.at 00002000
+BLBS R16,reader
+LDA R1,1(R31)
+STQ R1,64(R30)
+MB R0,R0
+LDA R2,64(R30)
+STQ R2,0(R30)
+halt
+reader:
+LDQ R3,64(R30)
+LDQ R4,0(R30)
+LDQ R5,0(R4)
+halt
+.at 00004000
+.word 00004080
+.word FFFFFC00

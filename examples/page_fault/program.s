@@ -1,0 +1,57 @@
+.memory 65536
+.entry FFFFFC0000002000
+.stack FFFFFC0000004000
+.table 3
+.at 00002000
+BLBS R16,other
+LDA R16,-8132(R30)
+LDA R17,5(R31)
+wrent
+LDA R16,-8120(R30)
+LDA R17,2(R31)
+wrent
+LDA R16,24576(R30)
+wrkgp
+LDA R30,-48(R30)
+LDA R1,8(R31)
+STQ R1,0(R30)
+LDA R1,8192(R31)
+STQ R1,8(R30)
+rti
+system:
+BEQ R16,exit
+ADDQ R16,#1,R0
+retsys
+fault:
+SRL R16,#13,R17
+S8ADDQ R17,R29,R17
+LDQ R18,0(R17)
+BIS R18,#1,R18
+STQ R18,0(R17)
+BIS R31,R16,R17
+LDA R16,3(R31)
+tbi
+rti
+exit:
+halt
+other:
+halt
+.at 00006000
+.word 00000001
+.word 00000004
+.at 00008000
+.word 00000001
+.word 00000005
+.at 0000A008
+.word 00000301
+.word 00000006
+.word 00003300
+.word 00000007
+.at 0000C000
+process:
+LDA R16,41(R31)
+callsys
+STQ R0,16384(R31)
+LDQ R1,16384(R31)
+LDA R16,0(R31)
+callsys

@@ -1,0 +1,14 @@
+.memory 32768
+.entry FFFFFC0000002000
+.stack FFFFFC0000004000
+.table 0
+.at 00002000
+LDA R1,1(R31)
+BLBS R16,other
+STQ R1,0(R30)
+LDQ R2,64(R30)
+halt
+other:
+STQ R1,64(R30)
+LDQ R2,0(R30)
+halt

@@ -1,0 +1,28 @@
+.memory 32768
+.entry FFFFFC0000002000
+.stack FFFFFC0000004000
+.table 0
+.at 00002000
+LDA R17,0(R30)
+LDA R18,5(R31)
+BSR R26,sum
+S8ADDQ R16,R30,R1
+STQ R0,64(R1)
+halt
+sum:
+BIS R31,R31,R0
+next:
+BEQ R18,done
+LDBU R1,0(R17)
+ADDQ R0,R1,R0
+LDA R17,1(R17)
+SUBQ R18,#1,R18
+BR R31,next
+done:
+RET R31,(R26),1
+.at 00004000
+.byte 01
+.byte 02
+.byte 80
+.byte FF
+.byte 10
