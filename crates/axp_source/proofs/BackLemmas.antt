@@ -6,7 +6,7 @@ use Rattle.std.proofs.Math.Nat.{mod-eq_of_lt}
 use Rattle.std.proofs.lemmas.List.Elements.{All-append, All-cons, All-nil}
 use Rattle.axp_trace.specs.Digits.{hex}
 use Rattle.axp_trace.specs.Fields.{cut_at}
-use Rattle.axp_trace.proofs.FileLemmas.{cut_at-begin}
+use Rattle.axp_trace.proofs.FileLemmas.{cut_at-begin, cut_by_parts}
 use Rattle.axp_trace.proofs.ReadBackLemmas.{same_bytes}
 use Rattle.axp_decode.specs.Format.{FieldsFit}
 use Rattle.axp_decode.specs.declared.instructions.Instr.{Instr}
@@ -25,7 +25,7 @@ use Rattle.axp_source.specs.Reading.{directive_if, directive_by, instr_if, memor
 use Rattle.axp_source.specs.declared.numbers.TheConstants.{MEMORY_HALF, BRANCH_HALF}
 use Rattle.axp_source.specs.declared.statements.Directive.{Directive}
 use Rattle.axp_source.specs.declared.statements.Directive.TheVariants as directive
-use Rattle.axp_source.proofs.FieldLemmas.{other_signed, other_operand, other_bracketed, first_cut, not_cut, other_label, signed_no_label, register_back, register_closed, register_bracketed, signed_back, operand_back}
+use Rattle.axp_source.proofs.FieldLemmas.{other_signed, other_operand, other_bracketed, first_cut, other_label, signed_no_label, register_back, register_closed, register_bracketed, signed_back, operand_back}
 use Rattle.axp_source.proofs.NameLemmas.{is_above, high_memory, high_branch, high_operate, high_misc, high_jump, other_above, begins_other, branch_found, memory_found, misc_found, operate_found, jump_found, pal_found}
 use Rattle.axp_source.proofs.NumberLemmas.{number_back, hex_in_back}
 
@@ -162,7 +162,7 @@ label_back : (name : List ℕ) → is_label name ≡ true → item_of (label_tex
 unfolding item_of label_text
 label_back name h =
     ap (λ t. if t then directive_by (name ++ 58 ∷ []) (cut_at 32 (name ++ 58 ∷ [])) else plain_by (name ++ 58 ∷ []) (cut_at 32 (name ++ 58 ∷ []))) (begins_other 46 58 name [] refl (other_label 46 name refl h))
-    ∙ ap (plain_by (name ++ 58 ∷ [])) (not_cut 32 (name ++ 58 ∷ []) free)
+    ∙ ap (plain_by (name ++ 58 ∷ [])) (sym (cut_by_parts 32 (name ++ 58 ∷ []) None (λ _. free) tt tt))
     ∙ ap (word_by (name ++ 58 ∷ [])) (cut_at-begin 58 name [] (other_label 58 name refl h))
     ∙ ap (λ t. if t then Some (Label name) else None) h
   where

@@ -1,5 +1,5 @@
 -- The fields of a statement's line: where their words end, and that they are read back.
-use Rattle.std.proofs.Common.{◌≡◌, ◌≢◌, ℕ, ◌-◌, ◌*◌, ◌%◌, ◌^◌, ◌<◌, ◌≤◌, Bool, true, false, ◌&&◌, if◌then◌else◌, nat_lt, List, [], ◌∷◌, ◌++◌, decimal, Some, None, refl, sym, ap, ◌∙◌, arith, ⊎_elim, ne_eqb}
+use Rattle.std.proofs.Common.{◌≡◌, ◌≢◌, ℕ, ◌-◌, ◌*◌, ◌%◌, ◌^◌, ◌<◌, ◌≤◌, Bool, true, false, ◌&&◌, if◌then◌else◌, nat_lt, List, [], ◌∷◌, ◌++◌, decimal, Some, refl, sym, ap, ◌∙◌, arith, ⊎_elim, ne_eqb}
 use Rattle.std.specs.Char.{is_ascii_alphabetic, is_ascii_alphanumeric}
 use Rattle.std.specs.List.{All, list_all}
 use Rattle.std.proofs.Math.Nat.{mod-eq_of_lt}
@@ -7,7 +7,7 @@ use Rattle.std.proofs.lemmas.Bool.{cases_lt, lt-ltb, le-ltb, lt-leb, and_parts, 
 use Rattle.std.proofs.lemmas.List.Elements.{All-append, All-cons, All-head, All-nil, All-weaker}
 use Rattle.axp_trace.specs.Fields.{cut_at}
 use Rattle.axp_trace.proofs.ColonLemmas.{low_decimal}
-use Rattle.axp_trace.proofs.FileLemmas.{cut_at-begin, cut_by_parts}
+use Rattle.axp_trace.proofs.FileLemmas.{cut_at-begin}
 use Rattle.axp_trace.proofs.LineLemmas.{high_decimal}
 use Rattle.axp_decode.specs.Format.{OperandFits}
 use Rattle.axp_decode.specs.declared.instructions.Operand.{Operand}
@@ -45,10 +45,6 @@ other_bracketed c n left right low =
 -- the first operand, before a comma
 pub first_cut : (n : ℕ) (rest : List ℕ) → cut_at 44 (register_text n ++ 44 ∷ rest) ≡ Some (register_text n, rest)
 first_cut n rest = cut_at-begin 44 (register_text n) rest (other_register 44 n (omega arith))
-
--- a text without the byte is not cut
-pub not_cut : (byte : ℕ) (text : List ℕ) → All (λ b. b ≢ byte) text → cut_at byte text ≡ None
-not_cut byte text free = sym (cut_by_parts byte text None (λ _. free) tt tt)
 
 -- ---- labels
 

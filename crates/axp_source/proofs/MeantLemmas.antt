@@ -58,22 +58,22 @@ small_operand word = by (begins 35 word)
     by true = (mod_below (number_in word) (2 ^ 8) (omega arith), refl)
     by false = ((small_register word, omega arith), refl)
 
-number_small : (word : List ℕ) → number_in word < 2 ^ 64
+small_number : (word : List ℕ) → number_in word < 2 ^ 64
 unfolding number_in
-number_small word = mod_below (digits_behind 0 word) (2 ^ 64) (omega arith)
+small_number word = mod_below (digits_behind 0 word) (2 ^ 64) (omega arith)
 
-hex_small : (word : List ℕ) → hex_in word < 2 ^ 64
+small_hex : (word : List ℕ) → hex_in word < 2 ^ 64
 unfolding hex_in
-hex_small word = mod_below (hex_value word) (2 ^ 64) (omega arith)
+small_hex word = mod_below (hex_value word) (2 ^ 64) (omega arith)
 
 -- ---- directives
 
 directive_fits : (name word : List ℕ) → IfSome (directive_in name word) DirectiveFits
 directive_fits name word =
-    either DirectiveFits (bytes_eq name (codes ".memory")) _ _ (number_small word)
-    (either DirectiveFits (bytes_eq name (codes ".entry")) _ _ (hex_small word)
-    (either DirectiveFits (bytes_eq name (codes ".stack")) _ _ (hex_small word)
-    (either DirectiveFits (bytes_eq name (codes ".table")) _ _ (number_small word)
+    either DirectiveFits (bytes_eq name (codes ".memory")) _ _ (small_number word)
+    (either DirectiveFits (bytes_eq name (codes ".entry")) _ _ (small_hex word)
+    (either DirectiveFits (bytes_eq name (codes ".stack")) _ _ (small_hex word)
+    (either DirectiveFits (bytes_eq name (codes ".table")) _ _ (small_number word)
     (either DirectiveFits (bytes_eq name (codes ".at")) _ _ (mod_below (hex_in word) (2 ^ 32) (omega arith))
     (either DirectiveFits (bytes_eq name (codes ".byte")) _ _ (mod_below (hex_in word) (2 ^ 8) (omega arith))
     (either DirectiveFits (bytes_eq name (codes ".word")) _ _ (mod_below (hex_in word) (2 ^ 32) (omega arith)) tt))))))

@@ -1,18 +1,12 @@
 -- No line of a statement has a line feed in it.
-use Rattle.std.proofs.Common.{◌≡◌, ◌≢◌, ℕ, ◌<◌, ◌≤◌, ◌==◌, Bool, true, false, if◌then◌else◌, nat_le, List, [], ◌∷◌, ◌++◌, codes, decimal, refl, rules, arith}
-use Rattle.std.specs.List.{All, list_all}
-use Rattle.std.proofs.lemmas.Bool.{and_parts, leb-true}
+use Rattle.std.proofs.Common.{◌≡◌, ◌≢◌, ℕ, ◌<◌, ◌≤◌, true, List, [], ◌∷◌, ◌++◌, codes, decimal, refl, arith}
+use Rattle.std.specs.List.{All}
 use Rattle.std.proofs.lemmas.List.Elements.{All-append, All-cons, All-nil, All-weaker}
 use Rattle.axp_trace.specs.Digits.{hex}
 use Rattle.axp_trace.specs.declared.files.TheConstants.{LINE_FEED}
 use Rattle.axp_trace.proofs.LineLemmas.{high_hex}
 use Rattle.axp_decode.specs.declared.instructions.Instr.{Instr}
 use Rattle.axp_decode.specs.declared.instructions.Instr.TheVariants as instr
-use Rattle.axp_decode.specs.declared.names.MemOp.{MemOp}
-use Rattle.axp_decode.specs.declared.names.BranchOp.{BranchOp}
-use Rattle.axp_decode.specs.declared.names.MiscOp.{MiscOp}
-use Rattle.axp_decode.specs.declared.names.PalOp.{PalOp}
-use Rattle.axp_decode.specs.declared.names.Op.{Op}
 use Rattle.axp_source.specs.Names.{memory_name, branch_name, operate_name, misc_name, pal_name, jump_name}
 use Rattle.axp_source.specs.Items.{Item, Directs, Label, Instruction, BranchTo, Fits}
 use Rattle.axp_source.specs.Texts.{register_text, signed_text, operand_text, instr_text, directive_text, branch_text, label_text, item_text}
