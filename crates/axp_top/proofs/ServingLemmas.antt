@@ -1,12 +1,13 @@
 -- How the parts of the top call end, and what its clauses say of it.
-use Rattle.std.proofs.Common.{◌≡◌, ◌⊎◌, ℕ, zero, suc, ◌+◌, ◌≤◌, ◌<◌, Bool, true, false, List, [], ◌∷◌, ◌++◌, length, Option, Some, None, Ok, Err, IfSome, refl, sym, ap, ◌∙◌, subst, inl, inr, append_assoc, append-nil, arith}
+use Rattle.std.proofs.Common.{◌≡◌, ◌⊎◌, ℕ, zero, suc, ◌+◌, ◌≤◌, ◌<◌, Bool, true, false, List, [], ◌∷◌, ◌++◌, length, Option, Some, None, Result, Ok, Err, IfSome, refl, sym, ap, ◌∙◌, subst, inl, inr, append_assoc, append-nil, arith}
 use Rattle.std.specs.Prelude.{slice_index, nat_lt, option_map, replicate}
 use Rattle.std.proofs.lemmas.Bool.{lt-ltb, le-ltb, ltb-true}
 use Rattle.std.proofs.lemmas.List.{length-replicate}
 use Rattle.std.specs.List.{flat_map}
-use Rattle.axp_asm.specs.Listings.{line_of, listing}
-use Rattle.axp_source.specs.Items.{Item}
+use Rattle.axp_asm.specs.Listings.{line_of, listing, segment_listed}
+use Rattle.axp_source.specs.Items.{Directs, Item}
 use Rattle.axp_source.specs.Texts.{item_text}
+use Rattle.axp_source.specs.declared.statements.Directive.TheVariants as directive
 use Rattle.axp_trace.specs.declared.files.TheConstants.{LINE_FEED}
 use Rattle.axp_image.specs.Contents.{AreBytes, Contents, IsValid}
 use Rattle.axp_image.proofs.NoFaultLemmas.{fault_is_no_image}
@@ -153,6 +154,13 @@ refused_serves told b n order image s none is h = record {
   sure = inl (rw none tt);
 }
 
+-- what is known by the name of a command's image
+pub asks_named : (before now : List Ask) (name : List ℕ) (order : ImageOrder) (r : Result (List ℕ) FetchFault) → image_name order ≡ name → FetchAsks before now (name, MAX_IMAGE_BYTES) r → FetchAsks before now (image_name order, MAX_IMAGE_BYTES) r
+asks_named before now name order r same h = subst (λ (x : List ℕ). FetchAsks before now (x, MAX_IMAGE_BYTES) r) (sym same) h
+
+pub told_named : (told : List ℕ → Option (List ℕ)) (name : List ℕ) (order : ImageOrder) (r : Result (List ℕ) FetchFault) → image_name order ≡ name → IfSome (told name) (λ t. FetchTold t MAX_IMAGE_BYTES r) → IfSome (told (image_name order)) (λ t. FetchTold t MAX_IMAGE_BYTES r)
+told_named told name order r same h = subst (λ (x : List ℕ). IfSome (told x) (λ t. FetchTold t MAX_IMAGE_BYTES r)) (sym same) h
+
 -- the file is within its limit and no image
 pub files_refused : (told : List ℕ → Option (List ℕ)) (b n : Outside) (order : ImageOrder) (bytes : List ℕ) (f : Fault) (s : Status) → IfSome (told (image_name order)) (λ t. FetchTold t MAX_IMAGE_BYTES (Ok bytes)) → length bytes ≤ MAX_IMAGE_BYTES → first_fault bytes ≡ Some f → n.desk.faults ≡ b.desk.faults
     → n.desk.asks ≡ b.desk.asks ++ (image_name order, MAX_IMAGE_BYTES) ∷ [] → Ends b.sink n.sink (bad_image f) s → Serves told (Some (Over order)) b n s
@@ -181,7 +189,9 @@ listed_byte item items = some_byte (item_text item) (flat_map line_of items)
 
 pub listing_has_bytes : (text : List ℕ) (c : Contents) → text ≡ listing c → 0 < length text
 unfolding listing
-listing_has_bytes text c is = subst (λ (t : List ℕ). 0 < length t) (sym is) (listed_byte _ _)
+listing_has_bytes text c is =
+    let others = Directs (directive.Entry c.entry) ∷ Directs (directive.Stack c.stack) ∷ Directs (directive.Table c.table) ∷ flat_map segment_listed c.segments in
+    subst (λ (t : List ℕ). 0 < length t) (sym is) (listed_byte (Directs (directive.Memory c.size)) others)
 
 pub files_long : (told : List ℕ → Option (List ℕ)) (b n : Outside) (order : ImageOrder) (s : Status) (f : FetchFault) → f ≡ fetch.TooLong → IfSome (told (image_name order)) (λ t. FetchTold t MAX_IMAGE_BYTES (Err f)) → FetchCount b.desk.faults n.desk.faults (Err f)
     → FetchAsks b.desk.asks n.desk.asks (image_name order, MAX_IMAGE_BYTES) (Err f) → Ends b.sink n.sink too_long s → Serves told (Some (Over order)) b n s
