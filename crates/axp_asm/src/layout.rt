@@ -4,16 +4,16 @@
 pub const MAX_SOURCE: u64 = 536_870_912;
 
 /// The line that says the size of memory.
-pub(crate) const MEMORY_LINE: u32 = 1;
+pub const MEMORY_LINE: u32 = 1;
 
 /// The line that says the entry address.
-pub(crate) const ENTRY_LINE: u32 = 2;
+pub const ENTRY_LINE: u32 = 2;
 
 /// The line that says the stack word.
-pub(crate) const STACK_LINE: u32 = 3;
+pub const STACK_LINE: u32 = 3;
 
 /// The line that says the page of the page table.
-pub(crate) const TABLE_LINE: u32 = 4;
+pub const TABLE_LINE: u32 = 4;
 
 /// The first line behind these.
 pub(crate) const BODY_LINE: u32 = 5;

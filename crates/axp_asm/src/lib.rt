@@ -12,5 +12,5 @@ mod listings;
 
 pub use assembling::assemble;
 pub use faults::AsmError;
-pub use layout::MAX_SOURCE;
+pub use layout::{ENTRY_LINE, MAX_SOURCE, MEMORY_LINE, STACK_LINE, TABLE_LINE};
 pub use listings::listing;

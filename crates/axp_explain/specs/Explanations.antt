@@ -1,20 +1,22 @@
 -- What a person is told of a status that refuses, by the two files.
 use Rattle.std.specs.Prelude.{◌≡◌, ℕ, ◌+◌, ◌-◌, Bool, true, false, List, ◌∷◌, ◌++◌, codes, decimal, slice_get, Option, Some, None, IfSome, Result, Ok, Err}
+use Rattle.axp_asm.specs.declared.layout.TheConstants.{MAX_SOURCE}
 use Rattle.axp_explain.specs.ElfWords.{elf_words}
 use Rattle.axp_explain.specs.ImageWords.{image_words}
 use Rattle.axp_explain.specs.LineWords.{fault_words, line_fault}
 use Rattle.axp_explain.specs.ReasonWords.{reason_words}
 use Rattle.axp_explain.specs.Reasons.{reason_of_files}
+use Rattle.axp_explain.specs.SourceWords.{source_words}
 use Rattle.axp_explain.specs.Texts.{of_file, of_line}
 use Rattle.axp_io.specs.Causes.{Ask, FetchAsks, FetchCount, FetchTold}
 use Rattle.axp_io.specs.declared.FetchFault.{FetchFault}
 use Rattle.axp_io.specs.declared.FetchFault.TheVariants as fetch
 use Rattle.axp_image.specs.Grammar.{image_of}
 use Rattle.axp_lsu.specs.declared.reasons.Reason.{Reason}
-use Rattle.axp_top.specs.ImageFiles.{source_name}
+use Rattle.axp_top.specs.ImageFiles.{source_limit, source_name}
 use Rattle.axp_top.specs.Outside.{DeskState}
 use Rattle.axp_top.specs.Replays.{FileLine}
-use Rattle.axp_top.specs.Words.{From, Gen, Order, Over, Replay, Seed}
+use Rattle.axp_top.specs.Words.{Asm, From, Gen, Listing, Order, Over, Replay, Seed, SourceOrder}
 use Rattle.axp_top.specs.declared.limits.TheConstants.{MAX_IMAGE_BYTES, MAX_TRACE_BYTES}
 use Rattle.axp_top.specs.declared.status.Status.{Status}
 use Rattle.axp_top.specs.declared.status.Status.TheVariants as status
@@ -99,32 +101,44 @@ abbrev pub ExplainsIf : Bool → Type 0 → DeskState → DeskState → Option (
 ExplainsIf true explained before now text = explained
 ExplainsIf false explained before now text = (text ≡ None) × (now ≡ before)
 
--- of a status that a seeded run has over an image file, by what the desk handed over of it
-unfoldable pub seed_explanation : List ℕ → Result (List ℕ) FetchFault → Status → Option (List ℕ)
-seed_explanation path (Err fault) s = fetch_explained path MAX_IMAGE_BYTES fault
-seed_explanation path (Ok image) s = image_explained path image s None
+-- of a status that a command has that is over an image alone, by what the desk handed over of it
+unfoldable pub alone_explanation : List ℕ → Result (List ℕ) FetchFault → Status → Option (List ℕ)
+alone_explanation path (Err fault) s = fetch_explained path MAX_IMAGE_BYTES fault
+alone_explanation path (Ok image) s = image_explained path image s None
 
-abbrev pub ExplainsSeed : (List ℕ → Option (List ℕ)) → DeskState → DeskState → List ℕ → Status → Option (List ℕ) → Type 0
-ExplainsSeed told before now image s text = (fetched : Result (List ℕ) FetchFault) × IsFetched (told image) (image, MAX_IMAGE_BYTES) before now fetched × (text ≡ seed_explanation image fetched s)
+abbrev pub ExplainsAlone : (List ℕ → Option (List ℕ)) → DeskState → DeskState → List ℕ → Status → Option (List ℕ) → Type 0
+ExplainsAlone told before now image s text = (fetched : Result (List ℕ) FetchFault) × IsFetched (told image) (image, MAX_IMAGE_BYTES) before now fetched × (text ≡ alone_explanation image fetched s)
 
--- of a status that a command over a source has: it names one file, which need not be asked for again
-unfoldable pub source_explained : List ℕ → Status → Option (List ℕ)
-source_explained path status.ReadFault = Some (of_file path read_fault_words)
-source_explained path status.TooLong = Some (of_file path (too_long_words MAX_IMAGE_BYTES))
-source_explained path (status.BadElf field offset) = Some (of_file path (elf_words field))
-source_explained path _ = None
+-- of a status that a command over a source has, by its name and its limit: it need not be asked for again
+unfoldable pub source_explained : List ℕ → ℕ → Status → Option (List ℕ)
+source_explained path most status.ReadFault = Some (of_file path read_fault_words)
+source_explained path most status.TooLong = Some (of_file path (too_long_words most))
+source_explained path most (status.BadElf field offset) = Some (of_file path (elf_words field))
+source_explained path most _ = None
+
+-- of an assembler source with this line at fault, by what the desk handed over of it
+unfoldable pub line_explained : List ℕ → ℕ → Result (List ℕ) FetchFault → Option (List ℕ)
+line_explained path n (Ok text) = Some (of_line path n (source_words n (slice_get (lines_of text) (n - 1))))
+line_explained path n (Err fault) = fetch_explained path MAX_SOURCE fault
+
+abbrev pub ExplainsLine : (List ℕ → Option (List ℕ)) → DeskState → DeskState → List ℕ → ℕ → Option (List ℕ) → Type 0
+ExplainsLine told before now path n text = (fetched : Result (List ℕ) FetchFault) × IsFetched (told path) (path, MAX_SOURCE) before now fetched × (text ≡ line_explained path n fetched)
+
+abbrev pub ExplainsSource : (List ℕ → Option (List ℕ)) → DeskState → DeskState → SourceOrder → Status → Option (List ℕ) → Type 0
+ExplainsSource told before now (Asm path) (status.BadSource n) text = ExplainsLine told before now path n text
+ExplainsSource told before now source s text = (text ≡ source_explained (source_name source) (source_limit source) s) × (now ≡ before)
 
 abbrev pub Explains : (List ℕ → Option (List ℕ)) → DeskState → DeskState → Option Order → Status → Option (List ℕ) → Type 0
 Explains told before now None s text = (text ≡ None) × (now ≡ before)
 Explains told before now (Some (Gen number)) s text = (text ≡ None) × (now ≡ before)
-Explains told before now (Some (From source)) s text = (text ≡ source_explained (source_name source) s) × (now ≡ before)
+Explains told before now (Some (From source)) s text = ExplainsSource told before now source s text
 Explains told before now (Some (Over (Replay image trace))) s text = ExplainsIf (is_refusal s) (ExplainsReplay told before now image trace s text) before now text
-Explains told before now (Some (Over (Seed image cpus budget seed))) s text = ExplainsIf (is_refusal s) (ExplainsSeed told before now image s text) before now text
+Explains told before now (Some (Over (Seed image cpus budget seed))) s text = ExplainsIf (is_refusal s) (ExplainsAlone told before now image s text) before now text
+Explains told before now (Some (Over (Listing image))) s text = ExplainsIf (is_refusal s) (ExplainsAlone told before now image s text) before now text
 
 -- there is something to tell: a command was refused
 abbrev pub is_told : Option Order → Status → Bool
 is_told None s = false
 is_told (Some (Gen number)) s = false
 is_told (Some (From source)) s = is_refusal s
-is_told (Some (Over (Replay image trace))) s = is_refusal s
-is_told (Some (Over (Seed image cpus budget seed))) s = is_refusal s
+is_told (Some (Over order)) s = is_refusal s

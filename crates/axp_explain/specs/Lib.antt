@@ -1,6 +1,7 @@
 pub mod Texts
 pub mod ImageWords
 pub mod ElfWords
+pub mod SourceWords
 pub mod LineWords
 pub mod LinePlaces
 pub mod ReasonWords

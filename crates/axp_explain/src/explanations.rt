@@ -2,10 +2,12 @@
 ghost use Rattle.std.specs.Prelude.{◌≡◌, ℕ, List, [], IfOk, Ok, None, false};
 ghost use Rattle.axp_trace.specs.Files.{lines_of};
 ghost use Rattle.axp_top.specs.Outside.{desk_state};
-ghost use Rattle.axp_top.specs.Words.{order_of};
+ghost use Rattle.axp_top.specs.Words.{Asm, order_of};
 ghost use Rattle.axp_top.specs.declared.status.Status.TheVariants.{BadTrace, NotLegal};
-ghost use Rattle.axp_explain.specs.Explanations.{Explains, ExplainsReplay, ExplainsSeed, cpus_in};
-ghost use Rattle.axp_explain.specs.Explanations.{explanation, seed_explanation};
+ghost use Rattle.axp_asm.specs.declared.layout.TheConstants.{MAX_SOURCE};
+ghost use Rattle.axp_explain.specs.Explanations.{Explains, ExplainsAlone, ExplainsLine};
+ghost use Rattle.axp_explain.specs.Explanations.{ExplainsReplay, ExplainsSource, cpus_in};
+ghost use Rattle.axp_explain.specs.Explanations.{alone_explanation, explanation, line_explained};
 ghost use Rattle.axp_explain.specs.Explanations.{fetch_explained, image_explained, is_refusal};
 ghost use Rattle.axp_explain.specs.Explanations.{is_told, too_long_words, trace_explained};
 ghost use Rattle.axp_explain.specs.Explanations.{source_explained, trace_file_explained};
@@ -17,7 +19,9 @@ use crate::image_faults::image_words;
 use crate::line_faults::{fault_words, line_at, line_fault};
 use crate::reasons::reason_words;
 use crate::refusals::reason_of_files;
+use crate::source_faults::source_words;
 use crate::texts::{decimal, joined, of_file, of_line};
+use axp_asm::MAX_SOURCE;
 use axp_base::{Bytes, NoMemory};
 use axp_io::{Desk, FetchFault};
 use axp_top::{MAX_IMAGE_BYTES, MAX_TRACE_BYTES, Status};
@@ -48,9 +52,13 @@ pub fn explain<D: Desk>(
             explain_replay(alloc, desk, image, trace, status)
         }
         Ok(Command::Seed { image, .. }) if is_refusal(status) => {
-            explain_seed(alloc, desk, image, status)
+            explain_alone(alloc, desk, image, status)
         }
-        Ok(Command::Elf { file, .. }) => explain_source(alloc, file, status),
+        Ok(Command::List { image }) if is_refusal(status) => {
+            explain_alone(alloc, desk, image, status)
+        }
+        Ok(Command::Elf { file, .. }) => explain_source(alloc, file, MAX_IMAGE_BYTES, status),
+        Ok(Command::Asm { file }) => explain_asm(alloc, desk, file, status),
         _ => Ok(None),
     }
 }
@@ -68,7 +76,8 @@ fn is_refusal(status: Status) -> bool
         | Status::Differs { .. }
         | Status::Incomplete { .. }
         | Status::TooLong
-        | Status::BadElf { .. } => true,
+        | Status::BadElf { .. }
+        | Status::BadSource { .. } => true,
     }
 }
 
@@ -89,30 +98,88 @@ fn explain_replay<D: Desk>(
     explanation(alloc, image_path, image, trace_path, trace, status)
 }
 
-fn explain_seed<D: Desk>(
+fn explain_alone<D: Desk>(
     alloc: Global,
     desk: &mut D,
     path: &str,
     status: Status,
 ) -> Result<Option<Bytes>, NoMemory>
-    ensures text { IfOk result (λ text. ExplainsSeed (D.told desk.old)
+    ensures text { IfOk result (λ text. ExplainsAlone (D.told desk.old)
         (desk_state D.faults D.asks desk.old) (desk_state D.faults D.asks desk.new)
         path.now status text) }
     ensures stays { (n : List ℕ) → D.told desk.new n ≡ D.told desk.old n }
 {
     let image = desk.fetch(alloc, path, MAX_IMAGE_BYTES);
-    seed_explanation(alloc, path, image, status)
+    alone_explanation(alloc, path, image, status)
 }
 
-/// What is told of a status of a command over a source.
+fn explain_asm<D: Desk>(
+    alloc: Global,
+    desk: &mut D,
+    path: &str,
+    status: Status,
+) -> Result<Option<Bytes>, NoMemory>
+    ensures text { IfOk result (λ text. ExplainsSource (D.told desk.old)
+        (desk_state D.faults D.asks desk.old) (desk_state D.faults D.asks desk.new)
+        (Asm path.now) status text) }
+    ensures silent { is_refusal status ≡ false → result ≡ Ok None }
+    ensures stays { (n : List ℕ) → D.told desk.new n ≡ D.told desk.old n }
+{
+    match status {
+        Status::BadSource { line } => explain_source_line(alloc, desk, path, line),
+        _ => explain_source(alloc, path, MAX_SOURCE, status),
+    }
+}
+
+/// Of an assembler source with this line at fault.
+fn explain_source_line<D: Desk>(
+    alloc: Global,
+    desk: &mut D,
+    path: &str,
+    line: u32,
+) -> Result<Option<Bytes>, NoMemory>
+    ensures text { IfOk result (λ text. ExplainsLine (D.told desk.old)
+        (desk_state D.faults D.asks desk.old) (desk_state D.faults D.asks desk.new)
+        path.now line text) }
+    ensures stays { (n : List ℕ) → D.told desk.new n ≡ D.told desk.old n }
+{
+    let text = desk.fetch(alloc, path, MAX_SOURCE);
+    line_explanation(alloc, path, text, line)
+}
+
+/// What is told of the line at fault, by what was handed over of the source.
+#[tactic(auto, unfolding(crate::specs::Explanations::line_explained))]
+fn line_explanation(
+    alloc: Global,
+    path: &str,
+    text: Result<Bytes, FetchFault>,
+    line: u32,
+) -> Result<Option<Bytes>, NoMemory>
+    ensures { IfOk result (λ told. told ≡ line_explained path.now line text) }
+{
+    match text {
+        Ok(text) => {
+            let words = source_words(line, line_at(text.as_slice(), line));
+            Ok(Some(of_line(alloc, path, u64::from(line), words.as_bytes())?))
+        }
+        Err(fault) => explain_fetch(alloc, path, MAX_SOURCE, fault),
+    }
+}
+
+/// What is told of a status of a command over a source, which may have so many bytes.
 #[tactic(auto, unfolding(crate::specs::Explanations::source_explained))]
-fn explain_source(alloc: Global, path: &str, status: Status) -> Result<Option<Bytes>, NoMemory>
-    ensures text { IfOk result (λ text. text ≡ source_explained path.now status) }
+fn explain_source(
+    alloc: Global,
+    path: &str,
+    most: u64,
+    status: Status,
+) -> Result<Option<Bytes>, NoMemory>
+    ensures text { IfOk result (λ text. text ≡ source_explained path.now most status) }
     ensures silent { is_refusal status ≡ false → result ≡ Ok None }
 {
     match status {
-        Status::ReadFault => explain_fetch(alloc, path, MAX_IMAGE_BYTES, FetchFault::Failed),
-        Status::TooLong => explain_fetch(alloc, path, MAX_IMAGE_BYTES, FetchFault::TooLong),
+        Status::ReadFault => explain_fetch(alloc, path, most, FetchFault::Failed),
+        Status::TooLong => explain_fetch(alloc, path, most, FetchFault::TooLong),
         Status::BadElf { field, .. } => {
             Ok(Some(of_file(alloc, path, elf_words(field).as_bytes())?))
         }
@@ -120,15 +187,15 @@ fn explain_source(alloc: Global, path: &str, status: Status) -> Result<Option<By
     }
 }
 
-/// What is told of a status of a seeded run, by what was handed over of the image file.
-#[tactic(auto, unfolding(crate::specs::Explanations::seed_explanation))]
-fn seed_explanation(
+/// What is told of a status of a command over an image alone, by what was handed over of its file.
+#[tactic(auto, unfolding(crate::specs::Explanations::alone_explanation))]
+fn alone_explanation(
     alloc: Global,
     path: &str,
     image: Result<Bytes, FetchFault>,
     status: Status,
 ) -> Result<Option<Bytes>, NoMemory>
-    ensures { IfOk result (λ text. text ≡ seed_explanation path.now image status) }
+    ensures { IfOk result (λ text. text ≡ alone_explanation path.now image status) }
 {
     match image {
         Ok(image) => explain_bad_image(alloc, path, image.as_slice(), status),

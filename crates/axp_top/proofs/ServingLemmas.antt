@@ -26,7 +26,7 @@ use Rattle.axp_top.specs.Lawful.{IsLawful, image_of_file, image_over, lines_of_f
 use Rattle.axp_top.specs.Outside.{DeskState, Outside, SinkState}
 use Rattle.axp_top.specs.Printing.{Ends}
 use Rattle.axp_top.specs.Replays.{Answer, answer_of_lines}
-use Rattle.axp_top.specs.Serving.{Course, IsFetched, Serves, ServesTrace}
+use Rattle.axp_top.specs.Serving.{Course, FetchesImage, Serves, ServesTrace}
 use Rattle.axp_top.specs.Statuses.{AsksFailed, AsksFront, AsksInTurn, AsksNeeded, DeskCount, PutsEach, Settles, SettlesLawfully, SettlesSome, SinkCount}
 use Rattle.axp_top.specs.ImageFiles.{answer_of_source, source_answer, source_ask, source_limit, source_name}
 use Rattle.axp_top.specs.SummaryTexts.{summary_answer}
@@ -245,7 +245,7 @@ files_unfound_image told b n order same count asks = files_unfound told b n orde
 
 -- the image was handed over
 pub image_fetched : (told : List ℕ → Option (List ℕ)) (b n : Outside) (name bytes : List ℕ) (image : Contents) → IfSome (told name) (λ t. FetchTold t MAX_IMAGE_BYTES (Ok bytes)) → length bytes ≤ MAX_IMAGE_BYTES → Some image ≡ image_of bytes → IsValid image
-    → n.sink ≡ b.sink → n.desk.faults ≡ b.desk.faults → n.desk.asks ≡ b.desk.asks ++ (name, MAX_IMAGE_BYTES) ∷ [] → IsFetched told name b n image
+    → n.sink ≡ b.sink → n.desk.faults ≡ b.desk.faults → n.desk.asks ≡ b.desk.asks ++ (name, MAX_IMAGE_BYTES) ∷ [] → FetchesImage told name b n image
 image_fetched told b n name bytes image is short reads valid same count asks = record {
   file = bytes;
   is_told = handed_is (told name) bytes MAX_IMAGE_BYTES is;
@@ -257,7 +257,7 @@ image_fetched told b n name bytes image is short reads valid same count asks = r
 }
 
 -- a command over one image alone, of which the file is all that is asked for
-pub alone_served : (told : List ℕ → Option (List ℕ)) (b between : Outside) (sink : SinkState) (order : ImageOrder) (image : Contents) (s : Status) → more_asks order ≡ [] → trace_told_by order told ≡ None → IsFetched told (image_name order) b between image
+pub alone_served : (told : List ℕ → Option (List ℕ)) (b between : Outside) (sink : SinkState) (order : ImageOrder) (image : Contents) (s : Status) → more_asks order ≡ [] → trace_told_by order told ≡ None → FetchesImage told (image_name order) b between image
     → Ends between.sink sink (answer_with order image []) s → Serves told (Some (Over order)) b (record { sink = sink; desk = between.desk }) s
 alone_served told b between sink order image s alone none h ends =
     let now : Outside = record { sink = sink; desk = between.desk } in
@@ -304,7 +304,7 @@ then_course b between n a ask more s same count asks (inr h) = inr (record {
 told_before : (now before : Option (List ℕ)) (bytes : List ℕ) → now ≡ before → IfSome now (λ t. bytes ≡ t) → IfSome before (λ t. bytes ≡ t)
 told_before now before bytes same is = subst (λ (o : Option (List ℕ)). IfSome o (λ t. bytes ≡ t)) same is
 
-pub files_served : (told told' : List ℕ → Option (List ℕ)) (b between n : Outside) (first second : List ℕ) (image : Contents) (s : Status) → IsFetched told first b between image → ((name : List ℕ) → told' name ≡ told name)
+pub files_served : (told told' : List ℕ → Option (List ℕ)) (b between n : Outside) (first second : List ℕ) (image : Contents) (s : Status) → FetchesImage told first b between image → ((name : List ℕ) → told' name ≡ told name)
     → ServesTrace (told' second) (second, MAX_TRACE_BYTES) image between n s → Serves told (Some (Over (Replay first second))) b n s
 files_served told told' b between n first second image s fetched stays h = record {
   image = fetched.file;

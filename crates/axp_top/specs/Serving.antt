@@ -47,7 +47,7 @@ pub record Serves (told : List ℕ → Option (List ℕ)) (order : Option Order)
       ⊎ ((other : List ℕ) → Course before now (answer_over order other trace) (asks_by order (image_over order other)) s)
 
 -- the file of this name was handed over, the told one where it is told, and is this image; nothing was printed
-pub record IsFetched (told : List ℕ → Option (List ℕ)) (name : List ℕ) (before now : Outside) (image : Contents) : Type 0 where
+pub record FetchesImage (told : List ℕ → Option (List ℕ)) (name : List ℕ) (before now : Outside) (image : Contents) : Type 0 where
   pub file : List ℕ
   pub is_told : IfSome (told name) (λ bytes. file ≡ bytes)
   pub read : image_in file ≡ Some image

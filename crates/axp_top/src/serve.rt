@@ -8,7 +8,7 @@ ghost use Rattle.axp_top.specs.Answers.{image_in, image_told, trace_told};
 ghost use Rattle.axp_top.specs.Lawful.{image_of_file, lines_of_file};
 ghost use Rattle.axp_top.specs.Outside.{desk_state, outside_at, sink_state};
 ghost use Rattle.axp_top.specs.Printing.{Ends};
-ghost use Rattle.axp_top.specs.Serving.{IsFetched, Serves, ServesEach, ServesTrace};
+ghost use Rattle.axp_top.specs.Serving.{FetchesImage, Serves, ServesEach, ServesTrace};
 ghost use Rattle.axp_words.specs.Commands as commands;
 ghost use Rattle.axp_top.specs.Statuses.{AsksInTurn, AsksNeeded, DeskCount, PutsEach, SinkCount};
 ghost use Rattle.axp_top.specs.Statuses.{Settles, SettlesLawfully, SettlesSome};
@@ -127,7 +127,7 @@ fn fetch_image<D: Desk, K: Sink>(
     name: &str,
 ) -> Result<Image, Status>
     ensures fetched { let at = outside_at D.faults D.asks K.taken K.faults K.puts in
-        IfOk result (IsFetched (D.told desk.old) name.now (at desk.old sink.old) (at desk.new sink.new)) }
+        IfOk result (FetchesImage (D.told desk.old) name.now (at desk.old sink.old) (at desk.new sink.new)) }
     ensures stays { (name : List ℕ) → D.told desk.new name ≡ D.told desk.old name }
     ensures served { let at = outside_at D.faults D.asks K.taken K.faults K.puts in
         IfErr result (ServesEach (D.told desk.old) name.now (at desk.old sink.old) (at desk.new sink.new)) }

@@ -19,7 +19,12 @@ fn refuse_source<K: Sink>(alloc: Global, sink: &mut K, line: u32) -> Status
     ensures { let seen = sink_state K.taken K.faults K.puts in
         Ends (seen sink.old) (seen sink.new) (bad_source line) result }
 {
-    refuse(alloc, sink, write_bad_source(line), Status::BadSource { line })
+    refuse(
+        alloc,
+        sink,
+        write_bad_source(line),
+        Status::BadSource { line },
+    )
 }
 
 /// Prints the image that a source gives.
