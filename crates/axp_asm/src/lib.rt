@@ -19,3 +19,6 @@ pub use laws::{
 };
 pub use layout::MAX_SOURCE;
 pub use listings::listing;
+
+#[cfg(test)]
+mod tests;
