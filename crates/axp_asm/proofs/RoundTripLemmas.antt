@@ -1,5 +1,5 @@
 -- The listing of an image is a source that gives it.
-use Rattle.std.proofs.Common.{◌≡◌, ◌≢◌, ℕ, ◌+◌, ◌/◌, ◌<◌, ◌≤◌, true, ltb, List, [], ◌∷◌, ◌++◌, length, map, Option, Some, None, Ok, refl, sym, ap, ◌∙◌, append_assoc, arith}
+use Rattle.std.proofs.Common.{◌≡◌, ◌≢◌, ℕ, ◌+◌, ◌/◌, ◌<◌, ◌≤◌, true, ltb, List, [], ◌∷◌, ◌++◌, length, map, Option, Some, None, Result, Ok, refl, sym, ap, ◌∙◌, append_assoc, arith}
 use Rattle.std.specs.List.{flat_map}
 use Rattle.std.proofs.lemmas.Bool.{and_from, eq-eqb, le-leb, lt-ltb, ne_eqb}
 use Rattle.std.proofs.lemmas.List.{append-nil, length-append, map-append}
@@ -102,3 +102,14 @@ unfolding assembled listing
 listing_assembled c valid =
     let said = said_back (items_of c) (items_fit c valid) in
     lines_assembled c valid (first_formless 1 (said_in (flat_map line_of (items_of c)))) (ap (first_formless 1) said ∙ none_formless 1 (items_of c)) (said_in (flat_map line_of (items_of c))) said
+
+abbrev Gives : Contents → Contents → Type 0
+Gives c d = assembled (listing c) ≡ Ok d
+
+same_image : (c d : Contents) (answer : Result Contents ℕ) → answer ≡ Ok c → answer ≡ Ok d → c ≡ d
+same_image c d answer is other = cc
+
+pub listings_apart : (c d : Contents) → IsValid c → IsValid d → listing c ≡ listing d → c ≡ d
+listings_apart c d good fine same =
+    let other : Gives c d = rw same (listing_assembled d fine) in
+    same_image c d (assembled (listing c)) (listing_assembled c good) other
