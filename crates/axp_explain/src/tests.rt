@@ -350,6 +350,57 @@ fn a_seeded_run_has_a_line_for_its_image_alone(rt: HostRuntime) -> Result<(), Fa
 }
 
 #[test]
+fn tells_what_a_line_of_a_source_lacks(rt: HostRuntime) -> Result<(), Fail> {
+    let alloc = rt.alloc();
+    let mut words = Vec::new(alloc);
+    for text in ["asm", "program.s"] {
+        words.push(Word::new(alloc, text)?)?;
+    }
+    let mut desk = TableDesk::new(alloc, &[])?;
+    let source = ".memory 8192\n.entry FFFFFC0000000000\n.stack 0000000000000000\n.table 0\n\
+        halt\n.at 00000000\nx:\nBR R31,y\nBR R31, x\nhalt";
+    desk.add(alloc, "program.s", source.as_bytes())?;
+    for (line, told) in [
+        (
+            2,
+            "axp: program.s, line 2: .entry and the entry address stand here, a multiple of 4 in memory, which begins at FFFFFC0000000000\n",
+        ),
+        (
+            5,
+            "axp: program.s, line 5: there is no .at line in front of these bytes, or they end behind memory\n",
+        ),
+        (
+            6,
+            "axp: program.s, line 6: a segment begins in memory, behind the segment before it, and has bytes; there are at most 64\n",
+        ),
+        (
+            7,
+            "axp: program.s, line 7: there is no .at line in front of this label, or a line before has the same label\n",
+        ),
+        (
+            8,
+            "axp: program.s, line 8: there is no .at line in front of this branch, it ends behind memory, or its label stands nowhere, too far away, or no whole number of words away\n",
+        ),
+        (
+            9,
+            "axp: program.s, line 9: the line is no directive, label or instruction; one blank stands between two words, and there are no other blanks and no comments\n",
+        ),
+        (
+            10,
+            "axp: program.s, line 10: the line has no line feed at its end\n",
+        ),
+    ] {
+        let status = Status::BadSource { line };
+        let text = explain(alloc, words.as_slice(), &mut desk, status)?.ok_or("no line")?;
+        assert!(rt; text.as_slice() == told.as_bytes(), "{told}");
+    }
+    let long = explain(alloc, words.as_slice(), &mut desk, Status::TooLong)?.ok_or("no line")?;
+    let told = "axp: program.s: the file is longer than 536870912 bytes\n";
+    assert!(rt; long.as_slice() == told.as_bytes());
+    Ok(())
+}
+
+#[test]
 fn tells_the_field_of_an_executable(rt: HostRuntime) -> Result<(), Fail> {
     let alloc = rt.alloc();
     let mut words = Vec::new(alloc);

@@ -9,6 +9,7 @@ mod executables;
 mod locks;
 mod seeds;
 mod shared_memory;
+mod sources;
 mod summaries;
 mod traces;
 mod translation;
