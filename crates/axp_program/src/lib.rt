@@ -30,21 +30,19 @@ const VERSION: &str = "axp 0.1.0\n";
 const HELP: &str = "\
 axp: an emulator of Alpha AXP processors that share memory
 
-usage: axp seed IMAGE CPUS BUDGET SEED
-           prints the trace of a run whose events the seed chooses
-       axp replay IMAGE EVENTS-OR-TRACE
-           prints the trace of an event list, or runs a trace again and compares
-       axp gen NUMBER
-           counts what many seeded runs of a litmus test showed
-       axp elf FILE MEMORY STACK TABLE
-           prints the image file of an executable
-       axp --help
-           prints this on standard error
-       axp --version
-           prints the name and the version on standard error
+usage: axp seed IMAGE CPUS BUDGET SEED  the trace of a run whose events the seed chooses
+       axp replay IMAGE FILE            the trace of an event list; or runs a trace
+                                        again and compares
+       axp gen NUMBER                   counts what seeded runs of a litmus test showed
+       axp elf FILE MEMORY STACK TABLE  the image file of an executable
+       axp asm FILE                     the image file of an assembler source
+       axp list IMAGE                   the assembler source of an image
+       axp --help                       this, on standard error
+       axp --version                    the name and the version, on standard error
 
 examples: axp seed examples/spin_lock/image.bin 2 4000 7
           axp replay examples/spin_lock/image.bin examples/spin_lock/events.txt
+          axp asm examples/spin_lock/program.s >spin_lock.img
 
 Standard output has the trace or the file, or a line that says why there is
 none, and the exit number says how the work ended.
