@@ -6,6 +6,7 @@ mod FillLemmas
 mod ListedLemmas
 mod RoundTripLemmas
 mod ListingLemmas
+mod LengthLemmas
 -- names stand once, branches lead to their labels, sources worked out
 mod LabelLemmas
 mod DisplacementLemmas

@@ -9,7 +9,7 @@ use Rattle.axp_asm.specs.Listings.{line_of, listing, segment_listed}
 use Rattle.axp_asm.specs.Sources.{assembled}
 use Rattle.axp_asm.proofs.RoundTripLemmas.{listing_assembled}
 
-drop_next : {X : Type 0} (xs : List X) (n : ℕ) (x : X) → slice_get xs n ≡ Some x → drop n xs ≡ x ∷ drop (suc n) xs
+pub drop_next : {X : Type 0} (xs : List X) (n : ℕ) (x : X) → slice_get xs n ≡ Some x → drop n xs ≡ x ∷ drop (suc n) xs
 drop_next [] n x at = absurd cc
 drop_next (y ∷ ys) zero x at = cc
 drop_next (y ∷ ys) (suc n) x at = drop_next ys n x at
