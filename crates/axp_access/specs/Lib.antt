@@ -6,3 +6,6 @@ pub mod Acts
 pub mod Offers
 pub mod Numbering
 pub mod Order
+pub mod Lists
+pub mod ListParts
+pub mod Ranks

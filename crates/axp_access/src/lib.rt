@@ -1,11 +1,15 @@
 //! The types of events, accesses and outcomes, and of the lines of a trace.
 #![tactic(auto)]
 
+mod access_lists;
 mod entry_states;
 mod event_lists;
+mod kinds;
 mod offers;
+mod ranks;
 mod tail_items;
 
+pub use access_lists::{AccessList, Drain};
 use axp_base::WBUF_ENTRIES;
 pub use axp_base::{Bank, Bytes, Cpu, Line};
 pub use axp_regs::{Ask, Kind};

@@ -1,0 +1,4 @@
+pub mod Numbers
+pub mod RankOrder
+pub mod RankLemmas
+pub mod Drains
