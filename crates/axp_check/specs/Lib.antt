@@ -1,0 +1,5 @@
+pub mod Sources
+pub mod Storage
+pub mod Locking
+pub mod Loops
+pub mod Verdicts
