@@ -9,3 +9,4 @@ pub mod Sources
 pub mod Summaries
 pub mod Tails
 pub mod TraceLines
+pub mod Verdicts

@@ -14,6 +14,7 @@ mod records;
 mod refusals;
 mod summaries;
 mod tails;
+mod verdicts;
 
 pub use digits::{decimal_gives_back, hex_gives_back, write_value};
 pub use events::{events_are_their_texts, read_event};
@@ -24,10 +25,11 @@ pub use records::{records_are_their_texts, write_event};
 pub use refusals::{
     MOST_KIND, write_bad_elf, write_bad_image, write_bad_source, write_bad_trace, write_differs,
     write_given, write_incomplete, write_not_legal, write_read_fault, write_right, write_too_long,
-    write_usage,
+    write_usage, write_violated,
 };
 pub use summaries::{MOST_LABEL, write_count, write_events, write_summary_header};
 pub use tails::{tails_are_their_texts, write_tail};
+pub use verdicts::write_consistent;
 
 #[cfg(test)]
 mod tests;

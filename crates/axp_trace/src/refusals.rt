@@ -9,6 +9,7 @@ ghost use Rattle.axp_trace.specs.Lines.{usage_line, read_fault_line, too_long_li
 ghost use Rattle.axp_trace.specs.Lines.{bad_trace_line, not_legal_line, incomplete_line};
 ghost use Rattle.axp_trace.specs.Lines.{differs_line, given_line, right_line};
 ghost use Rattle.axp_trace.specs.Sources.{bad_source_line};
+ghost use Rattle.axp_trace.specs.Verdicts.{violated_line};
 
 use crate::LineText;
 use crate::digits::{push_all, push_decimal, push_long};
@@ -19,11 +20,11 @@ use std::alloc::Global;
 /// The most bytes in front of a line's number.
 const MOST_WORDS: usize = 32;
 
-/// The most bytes of the name of an image's fault.
+/// The most bytes of the name of a fault or a rule.
 pub const MOST_KIND: usize = 16;
 
 /// A line without a number.
-fn fixed(words: &[u8]) -> LineText
+pub(crate) fn fixed(words: &[u8]) -> LineText
     requires { length words.now ≤ MOST_WORDS }
     ensures text { result.items ≡ words.now }
     ensures short { array_vec_len result < LINE_ROOM }
@@ -152,6 +153,24 @@ pub fn write_differs(line: u32) -> LineText
     ensures short { array_vec_len result < LINE_ROOM }
 {
     numbered(b"axp: differs at line ", line)
+}
+
+/// The line of a trace in which the accesses of these two numbers break a rule of shared memory, of
+/// which the name is given, in at most [`MOST_KIND`] bytes.
+#[tactic(auto, unfolding(crate::specs::Verdicts::violated_line))]
+pub fn write_violated(rule: &[u8], first: u32, second: u32) -> LineText
+    requires { length rule.now ≤ MOST_KIND }
+    ensures text { result.items ≡ violated_line rule.now first second }
+    ensures short { array_vec_len result < LINE_ROOM }
+{
+    let mut line = LineText::new();
+    push_all(&mut line, b"axp: violated ");
+    push_all(&mut line, rule);
+    push_all(&mut line, b" ");
+    push_decimal(&mut line, first);
+    push_all(&mut line, b" ");
+    push_decimal(&mut line, second);
+    line
 }
 
 /// Words and a line behind them; an `Err` says that memory was not found for it.
