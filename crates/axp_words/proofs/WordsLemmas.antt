@@ -7,7 +7,7 @@ use Rattle.std.proofs.lemmas.Slice.Eq.{bytes_eq-Decides}
 use Rattle.axp_base.specs.declared.processors.TheConstants.{MIN_CPUS, MAX_CPUS, MAX_BUDGET}
 use Rattle.axp_image.specs.declared.limits.TheConstants.{MAX_MEMORY, PAGE_BYTES}
 use Rattle.axp_words.specs.Numbers.{number_in}
-use Rattle.axp_words.specs.Words.{Order, Seed, Replay, Gen, Elf, Asm, Listing, ◌>>=◌, path_of, any_number, memory_in, seed_of, replay_of, gen_of, elf_of, asm_of, listing_of, order_of_one, order_of}
+use Rattle.axp_words.specs.Words.{Order, Seed, Replay, Check, Gen, Elf, Asm, Listing, ◌>>=◌, path_of, any_number, memory_in, seed_of, traced_of, gen_of, elf_of, asm_of, listing_of, order_of}
 use Rattle.axp_words.proofs.NumberLemmas.{decimals}
 
 -- the words of a command, in the subject's terms
@@ -15,6 +15,7 @@ abbrev pub Spells : List (List ℕ) → Order → Type 0
 Spells words (Seed image cpus budget seed) = (words ≡ codes "seed" ∷ image ∷ decimal cpus ∷ decimal budget ∷ decimal seed ∷ [])
     × (image ≢ []) × (MIN_CPUS ≤ cpus) × (cpus ≤ MAX_CPUS) × (1 ≤ budget) × (budget ≤ MAX_BUDGET) × (seed < 2 ^ 64)
 Spells words (Replay image trace) = (words ≡ codes "replay" ∷ image ∷ trace ∷ []) × (image ≢ []) × (trace ≢ [])
+Spells words (Check image trace) = (words ≡ codes "check" ∷ image ∷ trace ∷ []) × (image ≢ []) × (trace ≢ [])
 Spells words (Gen number) = (words ≡ codes "gen" ∷ decimal number ∷ []) × (number < 2 ^ 64)
 Spells words (Elf file memory stack table) = (words ≡ codes "elf" ∷ file ∷ decimal memory ∷ decimal stack ∷ decimal table ∷ [])
     × (file ≢ []) × (memory % PAGE_BYTES ≡ 0) × (PAGE_BYTES ≤ memory) × (memory ≤ MAX_MEMORY) × (stack < 2 ^ 64) × (table < memory / PAGE_BYTES)
@@ -63,15 +64,26 @@ gen_says number o h =
     let shown : Spells (codes "gen" ∷ number ∷ []) (Gen n.0) = (ap (λ (w : List ℕ). codes "gen" ∷ w ∷ []) is.0, is.1) in
     subst (Spells (codes "gen" ∷ number ∷ [])) (some_is (Gen n.0) o n.2) shown
 
-replay_says : (image trace : List ℕ) (o : Order) → replay_of image trace ≡ Some o → Spells (codes "replay" ∷ image ∷ trace ∷ []) o
-replay_says image trace o h =
-    let i = bind_some (path_of image) (λ x. path_of trace >>= λ y. Some (Replay x y)) o h in
-    let t = bind_some (path_of trace) (λ y. Some (Replay i.0 y)) o i.2 in
+-- a command of two paths
+traced_says : (verb image trace : List ℕ) (order : List ℕ → List ℕ → Order) → ((path list : List ℕ) → path ≢ [] → list ≢ [] → Spells (verb ∷ path ∷ list ∷ []) (order path list))
+    → (o : Order) → traced_of order image trace ≡ Some o → Spells (verb ∷ image ∷ trace ∷ []) o
+traced_says verb image trace order spelled o h =
+    let i = bind_some (path_of image) (λ x. path_of trace >>= λ y. Some (order x y)) o h in
+    let t = bind_some (path_of trace) (λ y. Some (order i.0 y)) o i.2 in
     let a = path_says image i.0 i.1 in
     let b = path_says trace t.0 t.1 in
-    let shown : Spells (codes "replay" ∷ image ∷ trace ∷ []) (Replay image trace) = (refl, a.1, b.1) in
-    let same : Replay image trace ≡ Replay i.0 t.0 = ap (λ (x : List ℕ). Replay x trace) a.0 ∙ ap (Replay i.0) b.0 in
-    subst (Spells (codes "replay" ∷ image ∷ trace ∷ [])) (same ∙ some_is (Replay i.0 t.0) o t.2) shown
+    let same : order image trace ≡ order i.0 t.0 = ap (λ (x : List ℕ). order x trace) a.0 ∙ ap (order i.0) b.0 in
+    subst (Spells (verb ∷ image ∷ trace ∷ [])) (same ∙ some_is (order i.0 t.0) o t.2) (spelled image trace a.1 b.1)
+
+two_says : (verb image trace : List ℕ) (o : Order) (is_replay : Bool) → bytes_eq verb (codes "replay") ≡ is_replay
+    → cond is_replay (traced_of Replay image trace) (cond (bytes_eq verb (codes "check")) (traced_of Check image trace) None) ≡ Some o → Spells (verb ∷ image ∷ trace ∷ []) o
+two_says verb image trace o true is h =
+    subst (λ (v : List ℕ). Spells (v ∷ image ∷ trace ∷ []) o) (sym (same_bytes verb (codes "replay") is))
+    (traced_says (codes "replay") image trace Replay (λ path list some also. (refl, some, also)) o h)
+two_says verb image trace o false is h =
+    let read = guard_some (bytes_eq verb (codes "check")) (traced_of Check image trace) o h in
+    subst (λ (v : List ℕ). Spells (v ∷ image ∷ trace ∷ []) o) (sym (same_bytes verb (codes "check") read.0))
+    (traced_says (codes "check") image trace Check (λ path list some also. (refl, some, also)) o read.1)
 
 seed_says : (image cpus budget seed : List ℕ) (o : Order) → seed_of image cpus budget seed ≡ Some o → Spells (codes "seed" ∷ image ∷ cpus ∷ budget ∷ seed ∷ []) o
 seed_says image cpus budget seed o h =
@@ -180,9 +192,7 @@ unfolding order_of
 order_says [] o h = absurd cc
 order_says (a ∷ []) o h = absurd cc
 order_says (verb ∷ word ∷ []) o h = one_says verb word o (bytes_eq verb (codes "gen")) (bytes_eq verb (codes "asm")) refl refl h
-order_says (verb ∷ image ∷ trace ∷ []) o h =
-    let read = guard_some (bytes_eq verb (codes "replay")) (replay_of image trace) o h in
-    subst (λ (v : List ℕ). Spells (v ∷ image ∷ trace ∷ []) o) (sym (same_bytes verb (codes "replay") read.0)) (replay_says image trace o read.1)
+order_says (verb ∷ image ∷ trace ∷ []) o h = two_says verb image trace o (bytes_eq verb (codes "replay")) refl h
 order_says (a ∷ b ∷ c ∷ d ∷ []) o h = absurd cc
 order_says (verb ∷ first ∷ second ∷ third ∷ fourth ∷ []) o h = four_says verb first second third fourth o (bytes_eq verb (codes "seed")) refl h
 order_says (a ∷ b ∷ c ∷ d ∷ e ∷ f ∷ more) o h = absurd cc
@@ -206,6 +216,8 @@ order_has words (Elf file memory stack table) is =
     ) refl in
     ap order_of is.0 ∙ read
 order_has words (Replay image trace) is =
+    ap order_of is.0 ∙ rw (path_has image is.1, path_has trace is.2) refl
+order_has words (Check image trace) is =
     ap order_of is.0 ∙ rw (path_has image is.1, path_has trace is.2) refl
 order_has words (Gen number) is =
     ap order_of is.0 ∙ rw (any_has number is.1) refl

@@ -11,6 +11,8 @@ pub data Order : Type 0 where
   Seed : List ℕ → ℕ → ℕ → ℕ → Order
   -- the trace of the events that a file lists, over an image
   Replay : List ℕ → List ℕ → Order
+  -- whether the accesses of a trace keep the rules of shared memory, over an image
+  Check : List ℕ → List ℕ → Order
   -- a summary of many seeded runs
   Gen : ℕ → Order
   -- the image file of an executable, for a size of memory, a stack word and a page of the page table
@@ -41,11 +43,12 @@ seed_of image cpus budget seed = do
   start ← any_number seed
   Some (Seed path processors steps start)
 
-abbrev pub replay_of : List ℕ → List ℕ → Option Order
-replay_of image trace = do
+-- the command of an image and a list or trace
+abbrev pub traced_of : (List ℕ → List ℕ → Order) → List ℕ → List ℕ → Option Order
+traced_of order image trace = do
   path ← path_of image
   list ← path_of trace
-  Some (Replay path list)
+  Some (order path list)
 
 -- the size of memory in whole pages that a word writes
 abbrev pub memory_in : List ℕ → Option ℕ
@@ -83,6 +86,12 @@ order_of_one verb word =
     else if bytes_eq verb (codes "asm") then asm_of word
     else if bytes_eq verb (codes "list") then listing_of word else None
 
+-- the command of a verb and two words
+abbrev pub order_of_two : List ℕ → List ℕ → List ℕ → Option Order
+order_of_two verb image trace =
+    if bytes_eq verb (codes "replay") then traced_of Replay image trace
+    else if bytes_eq verb (codes "check") then traced_of Check image trace else None
+
 -- the command of a verb and four words
 abbrev pub order_of_four : List ℕ → List ℕ → List ℕ → List ℕ → List ℕ → Option Order
 order_of_four verb first second third fourth =
@@ -92,6 +101,6 @@ order_of_four verb first second third fourth =
 -- the command that the words are
 unfoldable pub order_of : List (List ℕ) → Option Order
 order_of (verb ∷ word ∷ []) = order_of_one verb word
-order_of (verb ∷ image ∷ trace ∷ []) = if bytes_eq verb (codes "replay") then replay_of image trace else None
+order_of (verb ∷ image ∷ trace ∷ []) = order_of_two verb image trace
 order_of (verb ∷ first ∷ second ∷ third ∷ fourth ∷ []) = order_of_four verb first second third fourth
 order_of _ = None

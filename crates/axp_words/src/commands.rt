@@ -1,9 +1,9 @@
-ghost use Rattle.std.specs.Prelude.{◌≡◌, ◌≤◌, ◌/◌, codes, if◌then◌else◌, None, IfSome};
-ghost use Rattle.std.specs.Str.{bytes_eq};
+ghost use Rattle.std.specs.Prelude.{◌≡◌, ◌≤◌, ◌/◌, IfSome};
 ghost use Rattle.axp_words.specs.Commands.{order_by, order_read};
 ghost use Rattle.axp_image.specs.declared.limits.TheConstants.{PAGE_BYTES};
-ghost use Rattle.axp_words.specs.Words.{asm_of, elf_of, gen_of, listing_of, memory_in, order_of};
-ghost use Rattle.axp_words.specs.Words.{order_of_four, order_of_one, replay_of, seed_of};
+ghost use Rattle.axp_words.specs.Words.{asm_of, elf_of, gen_of, listing_of, memory_in};
+ghost use Rattle.axp_words.specs.Words.{order_of, order_of_four, order_of_one, order_of_two};
+ghost use Rattle.axp_words.specs.Words.{seed_of};
 
 use crate::numbers::read_number_in;
 use crate::words::Word;
@@ -24,6 +24,11 @@ pub enum Command<'a> {
     },
     /// The trace of the events that a file lists, over an image.
     Replay {
+        image: &'a str,
+        trace: &'a str,
+    },
+    /// Whether the accesses of a trace can be those of an Alpha's shared memory, over an image.
+    Check {
         image: &'a str,
         trace: &'a str,
     },
@@ -72,14 +77,20 @@ fn read_seed<'a>(image: &'a str, cpus: &str, budget: &str, seed: &str) -> Option
     })
 }
 
-/// The command of `replay` and two words.
-fn read_replay<'a>(image: &'a str, trace: &'a str) -> Option<Command<'a>>
-    ensures { order_read result ≡ replay_of image.now trace.now }
+/// The command of a verb and two words, an image and a list or trace.
+fn read_two<'a>(verb: &str, image: &'a str, trace: &'a str) -> Option<Command<'a>>
+    ensures { order_read result ≡ order_of_two verb.now image.now trace.now }
 {
     if image.is_empty() || trace.is_empty() {
         return None;
     }
-    Some(Command::Replay { image, trace })
+    if verb == "replay" {
+        Some(Command::Replay { image, trace })
+    } else if verb == "check" {
+        Some(Command::Check { image, trace })
+    } else {
+        None
+    }
 }
 
 /// The size of memory that a word writes, where it is one.
@@ -182,13 +193,7 @@ fn read(words: &[Word]) -> Option<Command<'_>>
 {
     match words {
         [verb, word] => read_one(verb.as_str(), word.as_str()),
-        [verb, image, trace] => {
-            if verb.as_str() == "replay" {
-                read_replay(image.as_str(), trace.as_str())
-            } else {
-                None
-            }
-        }
+        [verb, image, trace] => read_two(verb.as_str(), image.as_str(), trace.as_str()),
         [verb, first, second, third, fourth] => read_four(
             verb.as_str(),
             first.as_str(),

@@ -4,7 +4,7 @@ ghost use Rattle.std.specs.Prelude.{codes, decimal};
 ghost use Rattle.axp_base.specs.declared.processors.TheConstants.{MIN_CPUS, MAX_CPUS, MAX_BUDGET};
 ghost use Rattle.axp_image.specs.declared.limits.TheConstants.{MAX_MEMORY, PAGE_BYTES};
 ghost use Rattle.axp_words.specs.Numbers.{number_in};
-ghost use Rattle.axp_words.specs.Words.{Asm, Elf, Gen, Listing, Replay, Seed, order_of};
+ghost use Rattle.axp_words.specs.Words.{Asm, Check, Elf, Gen, Listing, Replay, Seed, order_of};
 
 /// A word writes a number of a range exactly where it is the number's decimal text.
 pub fn numbers_are_their_decimals()
@@ -16,6 +16,12 @@ pub fn numbers_are_their_decimals()
 pub fn replay_is_these_three_words()
     ensures { (words : List (List ℕ)) (image trace : List ℕ) → (order_of words ≡ Some (Replay image trace))
         ↔ ((words ≡ codes "replay" ∷ image ∷ trace ∷ []) × (image ≢ []) × (trace ≢ [])) }
+{}
+
+/// The words are a check exactly where they are the word `check` and two paths.
+pub fn check_is_these_three_words()
+    ensures { (words : List (List ℕ)) (image trace : List ℕ) → (order_of words ≡ Some (Check image trace))
+        ↔ ((words ≡ codes "check" ∷ image ∷ trace ∷ []) × (image ≢ []) × (trace ≢ [])) }
 {}
 
 /// The words are a seeded run exactly where they are the word `seed`, a path and three numbers in

@@ -36,16 +36,21 @@ fn words_in_the_grammar_are_their_command(rt: HostRuntime) -> Result<(), Fail> {
         image: "k.img",
         trace: "-",
     };
+    let check = Command::Check {
+        image: "check",
+        trace: "replay",
+    };
     let elf = Command::Elf {
         file: "a.out",
         memory: 16_777_216,
         stack: u64::MAX,
         table: 2_047,
     };
-    let rows: [(&[&str], Command<'_>); 9] = [
+    let rows: [(&[&str], Command<'_>); 10] = [
         (&["seed", "s.img", "2", "1", "0"], least),
         (&["seed", "a b", "8", "32768", "18446744073709551615"], most),
         (&["replay", "k.img", "-"], replay),
+        (&["check", "check", "replay"], check),
         (
             &["elf", "a.out", "16777216", "18446744073709551615", "2047"],
             elf,
@@ -68,7 +73,7 @@ fn words_in_the_grammar_are_their_command(rt: HostRuntime) -> Result<(), Fail> {
 
 #[test]
 fn other_words_are_no_command(rt: HostRuntime) -> Result<(), Fail> {
-    let rows: [&[&str]; 40] = [
+    let rows: [&[&str]; 42] = [
         &[],
         &["replay"],
         &["replay", "k.img"],
@@ -76,7 +81,9 @@ fn other_words_are_no_command(rt: HostRuntime) -> Result<(), Fail> {
         &["replay", "k.img", ""],
         &["replay", "k.img", "list", "more"],
         &["Replay", "k.img", "list"],
-        &["check", "k.img", "list"],
+        &["check", "k.img"],
+        &["check", "", "list"],
+        &["check", "k.img", ""],
         &["seed", "s.img", "2", "5"],
         &["seed", "s.img", "2", "5", "0", "0"],
         &["seed", "", "2", "5", "0"],
