@@ -3,3 +3,4 @@ pub mod Storage
 pub mod Locking
 pub mod Loops
 pub mod Verdicts
+pub mod LastBarriers

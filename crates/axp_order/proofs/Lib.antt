@@ -1,2 +1,4 @@
 pub mod Accesses
 pub mod Scans
+pub mod Demands
+pub mod WriteBarriers
