@@ -1,1 +1,3 @@
 -- Proofs.
+pub mod SourceNumbers
+pub mod SourcePlaces

@@ -1,4 +1,5 @@
 pub mod Sources
+pub mod SourceParts
 pub mod Storage
 pub mod Locking
 pub mod Loops
