@@ -1,3 +1,4 @@
 -- Proofs.
 pub mod SourceNumbers
 pub mod SourcePlaces
+pub mod StoredBytes

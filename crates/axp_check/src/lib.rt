@@ -3,6 +3,7 @@
 #![tactic(auto)]
 
 mod sources;
+mod storage;
 
 /// A rule of shared memory, the least first. `docs/MODEL.md`, "The constraints".
 #[derive(Clone, Copy, Debug, PartialEq, Eq)]

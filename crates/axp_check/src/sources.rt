@@ -1,13 +1,11 @@
 //! Which write each byte of a read or fetch came from.
-ghost use Rattle.std.specs.Prelude.{◌≡◌, ◌+◌, ◌-◌, ◌*◌, ◌<◌, ◌≤◌, ◌==◌, nat_lt, not, ◌&&◌, ◌||◌, if◌then◌else◌, ◌++◌, length, IfOk, IfSome, OnOk};
+ghost use Rattle.std.specs.Prelude.{◌≡◌, ◌≤◌, ◌==◌, nat_lt, not, ◌&&◌, ◌||◌, length, IfOk, IfSome};
 ghost use Rattle.axp_base.specs.Cpus.{cpu_number};
-ghost use Rattle.axp_base.specs.declared.parts.TheConstants.{QUADWORD_BYTES};
 ghost use Rattle.axp_access.specs.Kinds.{has_byte, is_memory_write};
-ghost use Rattle.axp_access.specs.Kinds as kinds;
-ghost use Rattle.axp_access.specs.Lists.{IsSound, access_at, accesses_in, times_of};
+ghost use Rattle.axp_access.specs.Lists.{access_at, accesses_in, times_of};
 ghost use Rattle.axp_model.specs.Sources.{can_give, later_of, source};
 ghost use Rattle.axp_check.specs.Sources.{AreSources, source_number};
-ghost use Rattle.axp_check.specs.SourceParts.{access_named, IsSourceAt, is_taking, with_giver};
+ghost use Rattle.axp_check.specs.SourceParts.{IsSourceAt, access_named, is_taking, with_giver};
 
 use axp_access::{Access, AccessList};
 use axp_base::{NoMemory, QUADWORD_BYTES};
