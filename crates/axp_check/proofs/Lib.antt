@@ -1,1 +1,5 @@
 pub mod LastBarriers
+-- Proofs.
+pub mod SourceNumbers
+pub mod SourcePlaces
+pub mod StoredBytes

@@ -4,6 +4,8 @@
 
 mod barrier;
 mod issue;
+mod sources;
+mod storage;
 
 /// A rule of shared memory, the least first. `docs/MODEL.md`, "The constraints".
 #[derive(Clone, Copy, Debug, PartialEq, Eq)]
