@@ -1,1 +1,2 @@
 -- Proofs.
+pub mod LockingScans

@@ -1,5 +1,6 @@
 pub mod Sources
 pub mod Storage
 pub mod Locking
+pub mod LockingParts
 pub mod Loops
 pub mod Verdicts
