@@ -1,2 +1,5 @@
 -- Proofs.
 pub mod LockingScans
+pub mod NoneLemmas
+pub mod OrderLaws
+pub mod StorageLaws
