@@ -1,4 +1,5 @@
 -- Proofs.
+pub mod LeastLaws
 pub mod LockingLaws
 pub mod LockingScans
 pub mod NoneLemmas

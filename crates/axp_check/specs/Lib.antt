@@ -4,3 +4,4 @@ pub mod Locking
 pub mod LockingParts
 pub mod Loops
 pub mod Verdicts
+pub mod Faults
