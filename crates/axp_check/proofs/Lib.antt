@@ -1,7 +1,9 @@
 -- Proofs.
-pub mod LeastLaws
+pub mod PairFaults
+pub mod LockingFaults
 pub mod LockingLaws
 pub mod LockingScans
 pub mod NoneLemmas
 pub mod OrderLaws
 pub mod StorageLaws
+pub mod StorageFaults

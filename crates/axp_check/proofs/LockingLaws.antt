@@ -19,10 +19,10 @@ pub record IsEnd (us older : List NumberedAccess) : Type 0 where
   pub inside : (w : NumberedAccess) → Among w older → Among w us
   pub cut : (w : NumberedAccess) → Among w us → Among w older ⊎ ((u : NumberedAccess) → Among u older → u.number < w.number)
 
-whole_end : (us : List NumberedAccess) → IsEnd us us
+pub whole_end : (us : List NumberedAccess) → IsEnd us us
 whole_end us = record { inside = λ w a. a; cut = λ w a. inl a }
 
-end_back : (us older : List NumberedAccess) (v : NumberedAccess) → Descends (v ∷ older) → IsEnd us (v ∷ older) → IsEnd us older
+pub end_back : (us older : List NumberedAccess) (v : NumberedAccess) → Descends (v ∷ older) → IsEnd us (v ∷ older) → IsEnd us older
 end_back us older v falls end = record {
   inside = λ w a. end.inside w (inr a);
   cut = λ w a. ⊎_elim
@@ -35,7 +35,7 @@ end_back us older v falls end = record {
 }
 
 -- what is below the newest of an end stands behind it
-below_newest : (us older : List NumberedAccess) (v w : NumberedAccess) → IsEnd us (v ∷ older) → Among w us → w.number < v.number → Among w older
+pub below_newest : (us older : List NumberedAccess) (v w : NumberedAccess) → IsEnd us (v ∷ older) → Among w us → w.number < v.number → Among w older
 below_newest us older v w end among less =
     ⊎_elim
     (λ here. ⊎_elim
@@ -188,10 +188,10 @@ clear_of : (write own line clear : Bool) → (write && (not own && (line && not 
 clear_of write own line true e a b d = refl
 clear_of write own line false e a b d = let bad : true ≡ false = rw (a, b, d) at e in absurd (false≢true (sym bad))
 
-apart_of : (t : Times) (u v w : NumberedAccess) → disturbs t u v w ≡ false → IsApart t u v w
+pub apart_of : (t : Times) (u v w : NumberedAccess) → disturbs t u v w ≡ false → IsApart t u v w
 apart_of t u v w e write other line = clear_of (is_memory_write w.access) (eqb (cpu_of w) (cpu_of v)) (eqb (line_of w.access.address) (line_of u.access.address)) (before t w u || before t v w) e write (ne_eqb (cpu_of w) (cpu_of v) other) (eq-eqb (line_of w.access.address) (line_of u.access.address) line)
 
-undisturbed : (t : Times) (u v w : NumberedAccess) → IsApart t u v w → disturbs t u v w ≡ false
+pub undisturbed : (t : Times) (u v w : NumberedAccess) → IsApart t u v w → disturbs t u v w ≡ false
 undisturbed t u v w apart = ⊎_elim
     (λ (bad : disturbs t u v w ≡ true).
     let a = and_parts (is_memory_write w.access) (not (eqb (cpu_of w) (cpu_of v)) && (eqb (line_of w.access.address) (line_of u.access.address) && not (before t w u || before t v w))) bad in
@@ -225,7 +225,7 @@ none_of_lock t us older v all falls end has = ⊎_elim
     (λ (failed : is_success v.access ≡ false). rw failed refl)
     (cases_Bool (is_success v.access))
 
-kept_to : (t : Times) (us older : List NumberedAccess) → Descends older → IsEnd us older → first_unlocked t us older ≡ None → AllByRecursion (λ v. is_success v.access ≡ true → HasLockIn t us v) older
+pub kept_to : (t : Times) (us older : List NumberedAccess) → Descends older → IsEnd us older → first_unlocked t us older ≡ None → AllByRecursion (λ v. is_success v.access ≡ true → HasLockIn t us v) older
 kept_to t us [] falls end e = tt
 kept_to t us (v ∷ older) falls end e =
     let neither = or_none (first_unlocked t us older) (option_map (λ first. (first, v.number)) (lock_fault_of t us v older)) e in

@@ -43,7 +43,7 @@ none_of_sources image t us v has =
     (λ (not_ : takes_bytes v ≡ false). rw not_ refl)
     (cases_Bool (takes_bytes v))
 
-first_none-to : (wrong : NumberedAccess → Option ℕ) (vs : List NumberedAccess) → first_wrong wrong vs ≡ None → AllByRecursion (λ v. wrong v ≡ None) vs
+pub first_none-to : (wrong : NumberedAccess → Option ℕ) (vs : List NumberedAccess) → first_wrong wrong vs ≡ None → AllByRecursion (λ v. wrong v ≡ None) vs
 first_none-to wrong [] e = tt
 first_none-to wrong (v ∷ vs) e =
     let neither = or_none (first_wrong wrong vs) (option_map (λ first. (first, v.number)) (wrong v)) e in
