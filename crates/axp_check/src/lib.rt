@@ -2,7 +2,10 @@
 //! of their places, whoever made the list, and else the least rule and pair that cannot.
 #![tactic(auto)]
 
+mod laws;
 mod locking;
+
+pub use laws::{locking_in_words, order_faults_in_words, order_in_words, storage_in_words};
 
 /// A rule of shared memory, the least first. `docs/MODEL.md`, "The constraints".
 #[derive(Clone, Copy, Debug, PartialEq, Eq)]
