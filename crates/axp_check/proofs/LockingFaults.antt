@@ -1,20 +1,20 @@
 -- A fault of locking is the first STx_C that succeeds and has no lock, with what disturbs it.
-use Rattle.std.proofs.Common.{◌≡◌, ◌⊎◌, inl, inr, ⊎_elim, ℕ, ◌<◌, ◌≤◌, true, false, List, [], ◌∷◌, Option, Some, None, refl, sym, ap, ◌∙◌, subst, arith}
+use Rattle.std.proofs.Common.{◌≡◌, ◌⊎◌, inl, inr, ⊎_elim, ℕ, ◌<◌, ◌≤◌, true, false, List, [], ◌∷◌, Option, Some, None, refl, sym, ap, ◌∙◌, subst, arith, eqb, ltb}
 use Rattle.std.specs.List.{AllByRecursion}
 use Rattle.std.specs.Option.{option_map, option_or}
-use Rattle.std.proofs.lemmas.Bool.{cases_Bool, false≢true}
-use Rattle.axp_access.specs.Kinds.{is_success}
-use Rattle.axp_access.specs.Numbering.{NumberedAccess}
+use Rattle.std.proofs.lemmas.Bool.{cases_Bool, cases_lt, and_parts, and_from, or_left, eqb-true, eq-eqb, lt-ltb, false≢true}
+use Rattle.axp_access.specs.Kinds.{is_success, is_locked, is_conditional}
+use Rattle.axp_access.specs.Numbering.{NumberedAccess, cpu_of}
 use Rattle.axp_access.specs.Order.{Times}
-use Rattle.axp_model.specs.Locking.{IsPaired}
+use Rattle.axp_model.specs.Locking.{IsPaired, IsApart, IsNotBetween}
 use Rattle.axp_laws.proofs.CauseMoments.{Among, among_all, among_of}
 use Rattle.axp_laws.proofs.PollSignals.{contains_of}
 use Rattle.axp_order.specs.Oldest.{oldest_that}
 use Rattle.axp_check.specs.Faults.{IsFirstUnlocked, IsDisturbedBy, IsUnpaired}
 use Rattle.axp_check.specs.Locking.{pair_of, disturbs, disturber, lock_fault_of, first_unlocked, locking_fault, HasLockIn}
-use Rattle.axp_check.proofs.NoneLemmas.{Descends}
-use Rattle.axp_check.proofs.PairFaults.{oldest_is, pair_parts}
-use Rattle.axp_check.proofs.LockingLaws.{IsEnd, whole_end, end_back, below_newest, paired_of, pair_is, apart_of, undisturbed, kept_to}
+use Rattle.axp_check.proofs.NoneLemmas.{Descends, among_at}
+use Rattle.axp_check.proofs.PairFaults.{oldest_is, pair_parts, some_pair}
+use Rattle.axp_check.proofs.LockingLaws.{IsEnd, whole_end, end_back, below_newest, paired_of, pair_is, apart_of, undisturbed, kept_to, same_number, locking_fault-to}
 
 -- the first that has a fault, and the accesses older than it, where those that succeed have their locks
 record IsFirst (t : Times) (us : List NumberedAccess) (i j : ℕ) : Type 0 where
@@ -96,3 +96,61 @@ locking_fault_is t us falls i j e =
     })
     (λ (failed : is_success is.second.access ≡ false). let none : None ≡ Some i = rw failed at is.fault in absurd (none_some i none))
     (cases_Bool (is_success is.second.access))
+
+-- an access is paired with one alone
+pairs_less : (us : List NumberedAccess) (u w v : NumberedAccess) → Among w us → IsPaired us u v → IsPaired us w v → u.number < w.number → ⊥
+pairs_less us u w v among one two less =
+    let a = and_parts (eqb (cpu_of u) (cpu_of v)) (ltb u.number v.number) one.first in
+    let b = and_parts (eqb (cpu_of w) (cpu_of v)) (ltb w.number v.number) two.first in
+    let own = eqb-true (cpu_of u) (cpu_of v) a.0 ∙ sym (eqb-true (cpu_of w) (cpu_of v) b.0) in
+    let not_ = among_all (IsNotBetween u v) us w one.alone among (and_from (eqb (cpu_of u) (cpu_of w)) (ltb u.number w.number) (eq-eqb (cpu_of u) (cpu_of w) own) (lt-ltb u.number w.number less)) two.first in
+    false≢true (sym not_ ∙ or_left (is_locked w.access.kind) (is_conditional w.access.kind) two.locked)
+
+one_pair : (us : List NumberedAccess) → Descends us → (u w v : NumberedAccess) → Among u us → Among w us → IsPaired us u v → IsPaired us w v → u ≡ w
+one_pair us falls u w v a b one two = ⊎_elim
+    (λ (less : u.number < w.number). absurd (pairs_less us u w v b one two less))
+    (λ (ge : w.number ≤ u.number). ⊎_elim (λ (more : w.number < u.number). absurd (pairs_less us w u v a two one more)) (λ (le : u.number ≤ w.number). same_number us falls u w a b (omega (arith, ge, le))) (cases_lt w.number u.number))
+    (cases_lt u.number w.number)
+
+-- what has a lock has no fault
+no_fault : (t : Times) (us : List NumberedAccess) → Descends us → (v : NumberedAccess) (i : ℕ) → HasLockIn t us v → ((i ≡ 0) × IsUnpaired us v) ⊎ IsDisturbedBy t us v i → ⊥
+no_fault t us falls v i has (inl fault) = fault.1 has.lock (contains_of us has.lock (among_at us has.place has.lock has.listed)) has.paired
+no_fault t us falls v i has (inr by_) =
+    let same = one_pair us falls has.lock by_.lock v (among_at us has.place has.lock has.listed) (among_of us by_.lock by_.has_lock) has.paired by_.paired in
+    by_.between (subst (λ u. IsApart t u v by_.first) same (among_all (IsApart t has.lock v) us by_.first has.apart (among_of us by_.first by_.has_first)))
+
+-- the first write that stands between is one
+disturbed_less : (t : Times) (us : List NumberedAccess) → Descends us → (v : NumberedAccess) (i k : ℕ) → IsDisturbedBy t us v i → IsDisturbedBy t us v k → i < k → ⊥
+disturbed_less t us falls v i k one two less =
+    let same = one_pair us falls two.lock one.lock v (among_of us two.lock two.has_lock) (among_of us one.lock one.has_lock) two.paired one.paired in
+    one.between (subst (λ u. IsApart t u v one.first) same (two.least one.first one.has_first (subst (λ n. n < k) (sym one.first_number) less)))
+
+one_fault : (t : Times) (us : List NumberedAccess) → Descends us → (v : NumberedAccess) (i k : ℕ) → ((i ≡ 0) × IsUnpaired us v) ⊎ IsDisturbedBy t us v i → ((k ≡ 0) × IsUnpaired us v) ⊎ IsDisturbedBy t us v k → i ≡ k
+one_fault t us falls v i k (inl one) (inl two) = one.0 ∙ sym two.0
+one_fault t us falls v i k (inl one) (inr two) = absurd (one.1 two.lock two.has_lock two.paired)
+one_fault t us falls v i k (inr one) (inl two) = absurd (two.1 one.lock one.has_lock one.paired)
+one_fault t us falls v i k (inr one) (inr two) = ⊎_elim
+    (λ (less : i < k). absurd (disturbed_less t us falls v i k one two less))
+    (λ (ge : k ≤ i). ⊎_elim (λ (more : k < i). absurd (disturbed_less t us falls v k i two one more)) (λ (le : i ≤ k). omega (arith, ge, le)) (cases_lt k i))
+    (cases_lt i k)
+
+-- no STx_C before a first one is a first one
+not_before : (t : Times) (us : List NumberedAccess) (i j k l : ℕ) → Descends us → IsFirstUnlocked t us i j → IsFirstUnlocked t us k l → j < l → ⊥
+not_before t us i j k l falls one two less = no_fault t us falls one.second i (two.earlier one.second one.has_second (subst (λ n. n < l) (sym one.second_number) less) one.success) one.fault
+
+one_unlocked : (t : Times) (us : List NumberedAccess) (i j k l : ℕ) → Descends us → IsFirstUnlocked t us i j → IsFirstUnlocked t us k l → (i ≡ k) × (j ≡ l)
+one_unlocked t us i j k l falls one two = ⊎_elim
+    (λ (less : j < l). absurd (not_before t us i j k l falls one two less))
+    (λ (ge : l ≤ j). ⊎_elim (λ (more : l < j). absurd (not_before t us k l i j falls two one more)) (λ (le : j ≤ l). (at (omega (arith, ge, le)), omega (arith, ge, le))) (cases_lt l j))
+    (cases_lt j l) where
+      at : j ≡ l → i ≡ k
+      at numbers =
+          let same = same_number us falls two.second one.second (among_of us two.second two.has_second) (among_of us one.second one.has_second) (two.second_number ∙ sym numbers ∙ sym one.second_number) in
+          one_fault t us falls one.second i k one.fault (subst (λ v. ((k ≡ 0) × IsUnpaired us v) ⊎ IsDisturbedBy t us v k) same two.fault)
+
+-- the first STx_C with no lock is the fault
+pub locking_fault_from : (t : Times) (us : List NumberedAccess) → Descends us → (i j : ℕ) → IsFirstUnlocked t us i j → locking_fault t us ≡ Some (i, j)
+locking_fault_from t us falls i j is = by (locking_fault t us) refl where
+  by : (o : Option (ℕ × ℕ)) → locking_fault t us ≡ o → o ≡ Some (i, j)
+  by None found = absurd (no_fault t us falls is.second i (among_all (λ v. is_success v.access ≡ true → HasLockIn t us v) us is.second (locking_fault-to t us falls found) (among_of us is.second is.has_second) is.success) is.fault)
+  by (Some (k, l)) found = some_pair i j k l (one_unlocked t us i j k l falls is (locking_fault_is t us falls k l found))

@@ -99,7 +99,7 @@ none_newest p (x ∷ us) e w a own locking = ⊎_elim
     (cases_Bool (eqb (cpu_of x) p && is_locking x.access))
 
 -- two of a list with one number are the same
-same_number : (us : List NumberedAccess) → Descends us → (u w : NumberedAccess) → Among u us → Among w us → u.number ≡ w.number → u ≡ w
+pub same_number : (us : List NumberedAccess) → Descends us → (u w : NumberedAccess) → Among u us → Among w us → u.number ≡ w.number → u ≡ w
 same_number [] falls u w a b e = absurd a
 same_number (x ∷ us) falls u w a b e =
     ⊎_elim

@@ -162,3 +162,30 @@ issue_fault_is t = least_pair_is (breaks_issue t) (issue_rises t)
 
 pub barrier_fault_is : (t : Times) (us : List NumberedAccess) → Descends us → (i j : ℕ) → barrier_fault t us ≡ Some (i, j) → IsLeastPair (breaks_barrier t) us i j
 barrier_fault_is t = least_pair_is (breaks_barrier t) (barrier_rises t)
+
+-- of two pairs neither is less, so they are the same
+same_pair : (i j k l : ℕ) → IsNotLess i j k l → IsNotLess k l i j → (i ≡ k) × (j ≡ l)
+same_pair i j k l (inl less) (inl more) = absurd (never j l less more)
+same_pair i j k l (inl less) (inr more) = let same = more.0 in absurd (never j l less (omega (arith, same, less)))
+same_pair i j k l (inr less) (inl more) = let same = less.0 in absurd (never l j more (omega (arith, same, more)))
+same_pair i j k l (inr less) (inr more) = let a = less.1 in let b = more.1 in let same = less.0 in (omega (arith, a, b), omega (arith, same))
+
+pub some_pair : (i j k l : ℕ) → (i ≡ k) × (j ≡ l) → ◌≡◌ {A = Option (ℕ × ℕ)} (Some (k, l)) (Some (i, j))
+some_pair i j k l same = rw (same.0, same.1) refl
+
+-- and the least pair is the fault
+pub least_pair_from : (bad : NumberedAccess → NumberedAccess → Bool) → ((u v : NumberedAccess) → bad u v ≡ true → u.number < v.number) → (us : List NumberedAccess) → Descends us → (i j : ℕ) → IsLeastPair bad us i j → least_pair bad us ≡ Some (i, j)
+least_pair_from bad up us falls i j is = by (least_pair bad us) refl where
+  by : (o : Option (ℕ × ℕ)) → least_pair bad us ≡ o → o ≡ Some (i, j)
+  by None found = absurd (false≢true (sym (pair_at (λ u v. bad u v ≡ false) us falls (least_none-to bad us found) is.first is.second (among_of us is.first is.has_first) (among_of us is.second is.has_second) (up is.first is.second is.broken)) ∙ is.broken))
+  by (Some (k, l)) found =
+      let other = least_pair_is bad up us falls k l found in
+      let one : IsNotLess i j k l = subst (λ m. IsNotLess i j k m) other.second_number (subst (λ m. IsNotLess i j m other.second.number) other.first_number (is.least other.first other.second other.has_first other.has_second other.broken)) in
+      let two : IsNotLess k l i j = subst (λ m. IsNotLess k l i m) is.second_number (subst (λ m. IsNotLess k l m is.second.number) is.first_number (other.least is.first is.second is.has_first is.has_second is.broken)) in
+      some_pair i j k l (same_pair i j k l one two)
+
+pub issue_fault_from : (t : Times) (us : List NumberedAccess) → Descends us → (i j : ℕ) → IsLeastPair (breaks_issue t) us i j → issue_fault t us ≡ Some (i, j)
+issue_fault_from t = least_pair_from (breaks_issue t) (issue_rises t)
+
+pub barrier_fault_from : (t : Times) (us : List NumberedAccess) → Descends us → (i j : ℕ) → IsLeastPair (breaks_barrier t) us i j → barrier_fault t us ≡ Some (i, j)
+barrier_fault_from t = least_pair_from (breaks_barrier t) (barrier_rises t)

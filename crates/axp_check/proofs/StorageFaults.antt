@@ -1,7 +1,7 @@
 -- A fault of storage is the first wrong byte of the first access that has one, with its source.
-use Rattle.std.proofs.Common.{◌≡◌, inl, inr, ⊎_elim, ℕ, zero, suc, ◌+◌, ◌<◌, ◌≤◌, Bool, true, false, List, [], ◌∷◌, Option, Some, None, refl, sym, ap, ◌∙◌, subst, arith}
+use Rattle.std.proofs.Common.{◌≡◌, inl, inr, ⊎_elim, ℕ, zero, suc, ◌+◌, ◌<◌, ◌≤◌, Bool, true, false, List, [], ◌∷◌, Option, Some, None, refl, sym, ap, ◌∙◌, subst, arith, ◌≢◌}
 use Rattle.std.specs.Option.{option_map, option_or}
-use Rattle.std.proofs.lemmas.Bool.{cases_Bool, cases_eq, eqb-true, eqb-false}
+use Rattle.std.proofs.lemmas.Bool.{cases_Bool, cases_lt, cases_eq, eqb-true, eqb-false}
 use Rattle.axp_base.specs.Parts.{byte}
 use Rattle.axp_access.specs.Numbering.{NumberedAccess}
 use Rattle.axp_access.specs.Order.{Times}
@@ -10,10 +10,11 @@ use Rattle.axp_laws.proofs.CauseMoments.{Among, among_all, among_of}
 use Rattle.axp_laws.proofs.PollSignals.{contains_of}
 use Rattle.axp_check.specs.Faults.{IsFirstWrong}
 use Rattle.axp_check.specs.Sources.{source_of_byte}
-use Rattle.axp_check.specs.Storage.{is_right, right_byte, wrong_from, wrong_source, first_wrong, storage_fault}
+use Rattle.axp_check.specs.Storage.{HasSourcesIn, is_right, right_byte, wrong_from, wrong_source, first_wrong, storage_fault}
 use Rattle.axp_check.proofs.NoneLemmas.{Descends}
-use Rattle.axp_check.proofs.PairFaults.{pair_parts}
-use Rattle.axp_check.proofs.StorageLaws.{first_none-to, sources_of_none}
+use Rattle.axp_check.proofs.PairFaults.{pair_parts, some_pair}
+use Rattle.axp_check.proofs.LockingLaws.{same_number}
+use Rattle.axp_check.proofs.StorageLaws.{first_none-to, sources_of_none, storage_fault-to}
 
 -- the first wrong one, and those below it are right
 record IsLowest (right : ℕ → Bool) (n k i : ℕ) : Type 0 where
@@ -113,3 +114,32 @@ storage_fault_is image t us falls i j e = whole (first_is (wrong_source image t 
               lower = λ m less. eqb-true (byte is.second.access.value m) (right_byte image t us is.second m) (low.lower m (omega arith) less);
               earlier = λ v a less. sources_of_none image t us v (is.earlier v (among_of us v a) less);
             }
+
+-- the lowest of which something is not so
+lowest_one : (P : ℕ → Type 0) (a b : ℕ) → (P a → ⊥) → (P b → ⊥) → ((k : ℕ) → k < a → P k) → ((k : ℕ) → k < b → P k) → a ≡ b
+lowest_one P a b na nb la lb = ⊎_elim
+    (λ (less : a < b). absurd (na (lb a less)))
+    (λ (ge : b ≤ a). ⊎_elim (λ (more : b < a). absurd (nb (la b more))) (λ (le : a ≤ b). omega (arith, ge, le)) (cases_lt b a))
+    (cases_lt a b)
+
+-- no access before a first wrong one is a first wrong one
+not_before : (image : ℕ → ℕ) (t : Times) (us : List NumberedAccess) (i j k l : ℕ) → IsFirstWrong image t us i j → IsFirstWrong image t us k l → j < l → ⊥
+not_before image t us i j k l one two less = one.wrong (two.earlier one.second one.has_second (subst (λ n. n < l) (sym one.second_number) less) one.takes one.offset one.inside)
+
+one_wrong : (image : ℕ → ℕ) (t : Times) (us : List NumberedAccess) (i j k l : ℕ) → Descends us → IsFirstWrong image t us i j → IsFirstWrong image t us k l → (i ≡ k) × (j ≡ l)
+one_wrong image t us i j k l falls one two = ⊎_elim
+    (λ (less : j < l). absurd (not_before image t us i j k l one two less))
+    (λ (ge : l ≤ j). ⊎_elim (λ (more : l < j). absurd (not_before image t us k l i j two one more)) (λ (le : j ≤ l). (at (omega (arith, ge, le)), omega (arith, ge, le))) (cases_lt l j))
+    (cases_lt j l) where
+      at : j ≡ l → i ≡ k
+      at numbers =
+          let same = same_number us falls one.second two.second (among_of us one.second one.has_second) (among_of us two.second two.has_second) (one.second_number ∙ numbers ∙ sym two.second_number) in
+          let offsets = lowest_one (λ m. byte one.second.access.value m ≡ right_byte image t us one.second m) one.offset two.offset one.wrong (subst (λ v. byte v.access.value two.offset ≢ right_byte image t us v two.offset) (sym same) two.wrong) one.lower (λ m less. subst (λ v. byte v.access.value m ≡ right_byte image t us v m) (sym same) (two.lower m less)) in
+          sym one.source ∙ ap (λ v. source_of_byte t us v one.offset) same ∙ ap (source_of_byte t us two.second) offsets ∙ two.source
+
+-- the first wrong byte is the fault
+pub storage_fault_from : (image : ℕ → ℕ) (t : Times) (us : List NumberedAccess) → Descends us → (i j : ℕ) → IsFirstWrong image t us i j → storage_fault image t us ≡ Some (i, j)
+storage_fault_from image t us falls i j is = by (storage_fault image t us) refl where
+  by : (o : Option (ℕ × ℕ)) → storage_fault image t us ≡ o → o ≡ Some (i, j)
+  by None found = absurd (is.wrong (among_all (HasSourcesIn image t us) us is.second (storage_fault-to image t us found) (among_of us is.second is.has_second) is.takes is.offset is.inside))
+  by (Some (k, l)) found = some_pair i j k l (one_wrong image t us i j k l falls is (storage_fault_is image t us falls k l found))
