@@ -39,3 +39,6 @@ pub enum Verdict {
         second: u32,
     },
 }
+
+#[cfg(test)]
+mod tests;
