@@ -3,6 +3,8 @@ pub mod SourceParts
 pub mod Storage
 pub mod StorageParts
 pub mod Locking
+pub mod LockingParts
 pub mod Loops
 pub mod Verdicts
 pub mod LastBarriers
+pub mod Faults

@@ -6,6 +6,10 @@ mod barrier;
 mod issue;
 mod sources;
 mod storage;
+mod laws;
+mod locking;
+
+pub use laws::{locking_in_words, order_faults_in_words, order_in_words, storage_in_words};
 
 /// A rule of shared memory, the least first. `docs/MODEL.md`, "The constraints".
 #[derive(Clone, Copy, Debug, PartialEq, Eq)]
@@ -39,3 +43,6 @@ pub enum Verdict {
         second: u32,
     },
 }
+
+#[cfg(test)]
+mod tests;
