@@ -3,12 +3,15 @@
 #![tactic(auto)]
 
 mod barrier;
+mod checking;
 mod issue;
-mod sources;
-mod storage;
 mod laws;
 mod locking;
+mod loops;
+mod sources;
+mod storage;
 
+pub use checking::check;
 pub use laws::{locking_in_words, order_faults_in_words, order_in_words, storage_in_words};
 
 /// A rule of shared memory, the least first. `docs/MODEL.md`, "The constraints".
