@@ -1,1 +1,2 @@
 pub mod LastBarriers
+pub mod Guards

@@ -4,3 +4,4 @@ pub mod Locking
 pub mod Loops
 pub mod Verdicts
 pub mod LastBarriers
+pub mod Guards
