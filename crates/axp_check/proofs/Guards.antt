@@ -15,7 +15,7 @@ use Rattle.axp_access.specs.Numbering.{NumberedAccess, cpu_of, next_access}
 use Rattle.axp_access.specs.Order.{Times, before, key, precedes, spot, spot_at}
 use Rattle.axp_access.specs.Ranks.{FitsRank, bit, rank, rank_of}
 use Rattle.axp_access.proofs.RankOrder.{before_by_rank}
-use Rattle.axp_model.specs.Issue.{barrier_demands}
+use Rattle.axp_model.specs.Issue.{barrier_demands, has_place}
 use Rattle.axp_order.specs.Oldest.{oldest_that}
 use Rattle.axp_order.specs.Pairs.{breaks_barrier}
 use Rattle.axp_order.proofs.Accesses.{accesses_more}
@@ -83,24 +83,29 @@ no_barrier : (k : Kind) (succeeds : Bool) → ((is_plain_write k || (is_conditio
 no_barrier kind.WriteBarrier succeeds writes is = false≢true writes
 no_barrier _ succeeds writes is = false≢true is
 
--- a write has a place
-write_placed : (t : Times) (u : NumberedAccess) → IsSound u.access → is_write u.access ≡ true → (spot t (cpu_of u) u.access.place).placed ≡ true
-write_placed t u sound writes = by u.access.place refl where
+-- and has a place
+pub write_placed : (a : Access) → IsSound a → is_write a ≡ true → has_place a.place ≡ true
+write_placed a sound writes = by a.place refl where
+  by : (at : Place) → a.place ≡ at → has_place at ≡ true
+  by (At n) is = refl
+  by (Entry n) is = refl
+  by Absent is = absurd (no_barrier a.kind a.yes writes (sound.placed.0 is))
+
+-- what has a place has a rank
+pub placed_ranked : (t : Times) (u : NumberedAccess) → FitsRank (key t u) → has_place u.access.place ≡ true → eqb (rank t u) 0 ≡ false
+unfolding rank_of
+placed_ranked t u fits placed = rw (by u.access.place placed) (let first = fits.first in positive (bit (key t u).spot.last * 2 ^ 105 + ((key t u).spot.place * 2 ^ 41 + (bit (key t u).other * 2 ^ 40 + (cpu_of u * 2 ^ 32 + u.number)))) (omega (arith, first))) where
+  positive : (n : ℕ) → 1 ≤ n → eqb n 0 ≡ false
+  positive n e = grind arith
+
   by_turn : (o : Option ℕ) → (spot_at o).placed ≡ true
   by_turn None = refl
   by_turn (Some n) = refl
 
-  by : (at : Place) → u.access.place ≡ at → (spot t (cpu_of u) at).placed ≡ true
-  by (At n) is = refl
-  by (Entry n) is = by_turn (t.drained (cpu_of u) n)
-  by Absent is = absurd (no_barrier u.access.kind u.access.yes writes (sound.placed.0 is))
-
--- and so a rank
-write_ranked : (t : Times) (u : NumberedAccess) → FitsRank (key t u) → IsSound u.access → is_write u.access ≡ true → eqb (rank t u) 0 ≡ false
-unfolding rank_of
-write_ranked t u fits sound writes = rw (write_placed t u sound writes) (let first = fits.first in positive (bit (key t u).spot.last * 2 ^ 105 + ((key t u).spot.place * 2 ^ 41 + (bit (key t u).other * 2 ^ 40 + (cpu_of u * 2 ^ 32 + u.number)))) (omega (arith, first))) where
-  positive : (n : ℕ) → 1 ≤ n → eqb n 0 ≡ false
-  positive n e = grind arith
+  by : (at : Place) → has_place at ≡ true → (spot t (cpu_of u) at).placed ≡ true
+  by (At n) e = refl
+  by (Entry n) e = by_turn (t.drained (cpu_of u) n)
+  by Absent e = absurd (false≢true e)
 
 -- the tops of a processor with one access more, which is its own
 tops_own : (list : Accesses) (n : ℕ) (a : Access) (tops new : WriteTops) → slice_get list.items n ≡ Some a → IsSound a → HasTops list n (cpu_number a.cpu) tops → FitsRank (key (times_of list) (next_access (accesses_to list n) a)) → new.all ≡ cond (is_write a && ltb tops.all (rank (times_of list) (next_access (accesses_to list n) a))) (rank (times_of list) (next_access (accesses_to list n) a)) tops.all → new.closed ≡ cond (is_write_barrier a.kind) tops.all tops.closed → HasTops list (n + 1) (cpu_number a.cpu) new
@@ -139,7 +144,7 @@ tops_own list n a tops new found sound has fits all closed = record { all = rw m
         (cases_lt m r)
 
   head_all : is_own_write p v ≡ true → IsUpTo t new.all v
-  head_all own = let writes = (and_parts (eqb p p) (is_write a) own).1 in record { fits = fits; placed = write_ranked t v fits sound writes; most = reached writes }
+  head_all own = let writes = (and_parts (eqb p p) (is_write a) own).1 in record { fits = fits; placed = placed_ranked t v fits (write_placed a sound writes); most = reached writes }
 
   tail_all : AreUpTo t (is_own_write p) us new.all
   tail_all = up_more t (is_own_write p) (is_own_write p) us tops.all new.all rises (λ u own. own) has.all

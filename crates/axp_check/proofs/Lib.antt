@@ -1,2 +1,3 @@
 pub mod LastBarriers
 pub mod Guards
+pub mod IssueGuards

@@ -5,3 +5,4 @@ pub mod Loops
 pub mod Verdicts
 pub mod LastBarriers
 pub mod Guards
+pub mod IssueGuards
