@@ -11,3 +11,5 @@ pub mod NoneLemmas
 pub mod OrderLaws
 pub mod StorageLaws
 pub mod StorageFaults
+pub mod Guards
+pub mod IssueGuards

@@ -8,3 +8,5 @@ pub mod Loops
 pub mod Verdicts
 pub mod LastBarriers
 pub mod Faults
+pub mod Guards
+pub mod IssueGuards

@@ -1,4 +1,4 @@
-ghost use Rattle.std.specs.Prelude.{◌≡◌, ◌==◌, ◌&&◌, ◌-◌, ◌<◌, ◌≤◌, IfSome, if◌then◌else◌, length, nat_le};
+ghost use Rattle.std.specs.Prelude.{◌≡◌, ◌==◌, ◌&&◌, ◌||◌, ◌-◌, ◌<◌, ◌≤◌, IfSome, if◌then◌else◌, length, nat_le, nat_lt, not};
 ghost use Rattle.std.specs.Option.{option_map};
 ghost use Rattle.axp_base.specs.Cpus.{cpu_number};
 ghost use Rattle.axp_access.specs.Kinds as kinds;
@@ -7,22 +7,94 @@ ghost use Rattle.axp_access.specs.Numbering.{cpu_of};
 ghost use Rattle.axp_model.specs.Issue.{barrier_demands};
 ghost use Rattle.axp_order.specs.Oldest.{oldest_that};
 ghost use Rattle.axp_order.specs.Pairs.{breaks_barrier};
+ghost use Rattle.axp_check.specs.Guards.{HasTops};
 ghost use Rattle.axp_check.specs.LastBarriers.{IsLastBarrier};
 ghost use Rattle.axp_check.specs.Verdicts.{barrier_fault};
 
 use axp_access::{Access, AccessList, Cpu, Kind};
+use axp_base::MAX_CPUS;
+
+/// The greatest ranks of a processor's writes so far.
+#[derive(Clone, Copy, Debug, PartialEq, Eq)]
+pub(crate) struct WriteTops {
+    /// Of all of them.
+    pub(crate) all: u128,
+    /// Of those with a WMB of the processor behind them.
+    pub(crate) closed: u128,
+}
 
 /// The pair by which a list breaks what a write barrier demands, of the least second and then of the
 /// least first.
 pub(crate) fn first_barrier(list: &AccessList) -> Option<(u32, u32)>
     ensures { result ≡ barrier_fault (times_of list.now) (accesses_in list.now) }
 {
+    let mut tops = [WriteTops { all: 0, closed: 0 }; MAX_CPUS as usize];
     for n in 0..list.len() {
-        if let Some(i) = first_against(list, n + 1) {
+        let cpu = usize::from(list.get(n + 1).cpu.number());
+        if let Some(i) = first_unless_clear(list, n + 1, tops[cpu]) {
             return Some((i, n + 1));
         }
+        tops[cpu] = raise(list, n + 1, tops[cpu]);
     }
     None
+}
+
+/// The number of the first access that breaks with the j-th what a write barrier demands. No other is
+/// looked at where the tops of the j-th's processor say that there is none.
+fn first_unless_clear(list: &AccessList, j: u32, tops: WriteTops) -> Option<u32>
+    requires least { 1 ≤ j }
+    requires most { j ≤ length list.now.items }
+    requires tops { IfSome (access_at list.now j) (λ v. HasTops list.now (j - 1) (cpu_of v) tops) }
+    ensures { IfSome (access_at list.now j) (λ v. result ≡ option_map (λ u. u.number) (oldest_that (λ u. breaks_barrier (times_of list.now) u v) (accesses_to list.now (j - 1)))) }
+{
+    if is_clear(list.get(j).is_write(), list.rank(j), tops.closed) {
+        None
+    } else {
+        first_against(list, j)
+    }
+}
+
+/// Whether an access of this rank is no write, or is behind each write that is to be BEFORE it.
+fn is_clear(writes: bool, rank: u128, closed: u128) -> bool
+    ensures { result ≡ (not writes || nat_lt closed rank) }
+{
+    !writes || closed < rank
+}
+
+/// The tops of the j-th's processor with the j-th access.
+fn raise(list: &AccessList, j: u32, tops: WriteTops) -> WriteTops
+    requires least { 1 ≤ j }
+    requires most { j ≤ length list.now.items }
+    requires tops { IfSome (access_at list.now j) (λ v. HasTops list.now (j - 1) (cpu_of v) tops) }
+    ensures { IfSome (access_at list.now j) (λ v. HasTops list.now j (cpu_of v) result) }
+{
+    let access = list.get(j);
+    let rank = list.rank(j);
+    WriteTops {
+        all: raise_all(&access, rank, tops.all),
+        closed: raise_closed(&access, tops),
+    }
+}
+
+/// The greatest rank of all writes with one access more.
+fn raise_all(access: &Access, rank: u128, all: u128) -> u128
+    ensures { result ≡ (if kinds.is_write access.now && nat_lt all rank then rank else all) }
+{
+    if access.is_write() && all < rank {
+        rank
+    } else {
+        all
+    }
+}
+
+/// That of the writes with a WMB behind them: behind one more, they are all.
+fn raise_closed(access: &Access, tops: WriteTops) -> u128
+    ensures { result ≡ (if kinds.is_write_barrier access.now.kind then tops.all else tops.closed) }
+{
+    match access.kind {
+        Kind::WriteBarrier => tops.all,
+        _ => tops.closed,
+    }
 }
 
 /// The number of the first access that breaks with the j-th what a write barrier demands.
