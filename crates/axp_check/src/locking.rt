@@ -1,5 +1,5 @@
 //! Locking: what stands between a store-conditional that succeeds and its load-locked.
-ghost use Rattle.std.specs.Prelude.{◌≡◌, ◌==◌, ◌&&◌, ◌||◌, ◌-◌, ◌<◌, ◌≤◌, not, length, IfSome, Some, None};
+ghost use Rattle.std.specs.Prelude.{◌≡◌, ◌==◌, ◌&&◌, ◌||◌, ◌-◌, ◌≤◌, not, length, IfSome};
 ghost use Rattle.std.specs.Option.{option_map};
 ghost use Rattle.axp_base.specs.Cpus.{cpu_number};
 ghost use Rattle.axp_base.specs.Lines.{line_of};
