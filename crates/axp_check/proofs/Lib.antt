@@ -7,3 +7,4 @@ pub mod NoneLemmas
 pub mod OrderLaws
 pub mod StorageLaws
 pub mod StorageFaults
+pub mod VerdictLaws

@@ -5,3 +5,4 @@ pub mod LockingParts
 pub mod Loops
 pub mod Verdicts
 pub mod Faults
+pub mod Violations
