@@ -13,3 +13,4 @@ pub mod StorageLaws
 pub mod StorageFaults
 pub mod Guards
 pub mod IssueGuards
+pub mod VerdictLaws

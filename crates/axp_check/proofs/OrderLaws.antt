@@ -10,12 +10,12 @@ use Rattle.axp_check.specs.Verdicts.{issue_fault, barrier_fault}
 use Rattle.axp_check.proofs.NoneLemmas.{least_none-to, least_none-from}
 
 -- what is demanded is, where it is not that something demanded is not
-met : (demand is : Bool) → (demand && not is) ≡ false → demand ≡ true → is ≡ true
+pub met : (demand is : Bool) → (demand && not is) ≡ false → demand ≡ true → is ≡ true
 met true true e d = refl
 met true false e d = absurd (false≢true (sym e))
 met false is e d = absurd (false≢true d)
 
-unbroken : (demand is : Bool) → (demand ≡ true → is ≡ true) → (demand && not is) ≡ false
+pub unbroken : (demand is : Bool) → (demand ≡ true → is ≡ true) → (demand && not is) ≡ false
 unbroken true is f = rw (f refl) refl
 unbroken false is f = refl
 

@@ -10,3 +10,4 @@ pub mod LastBarriers
 pub mod Faults
 pub mod Guards
 pub mod IssueGuards
+pub mod Violations

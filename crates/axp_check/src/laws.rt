@@ -3,7 +3,7 @@
 ghost use Rattle.std.specs.Prelude.{◌≡◌, ◌↔◌, ℕ, List, None, Some};
 ghost use Rattle.std.specs.List.{AllByRecursion};
 ghost use Rattle.axp_access.specs.declared.Access.{Access};
-ghost use Rattle.axp_access.specs.Lists.{number_accesses};
+ghost use Rattle.axp_access.specs.Lists.{Accesses, accesses_in, number_accesses, times_of};
 ghost use Rattle.axp_access.specs.Numbering.{NumberedAccess};
 ghost use Rattle.axp_access.specs.Order.{Times};
 ghost use Rattle.axp_model.specs.Issue.{AllPairs, IsInOrder};
@@ -11,7 +11,10 @@ ghost use Rattle.axp_order.specs.Pairs.{breaks_issue, breaks_barrier};
 ghost use Rattle.axp_check.specs.Faults.{IsFirstUnlocked, IsFirstWrong, IsLeastPair};
 ghost use Rattle.axp_check.specs.Locking.{KeepsLockingIn, locking_fault};
 ghost use Rattle.axp_check.specs.Storage.{HasSourcesIn, storage_fault};
-ghost use Rattle.axp_check.specs.Verdicts.{barrier_fault, issue_fault};
+ghost use Rattle.axp_check.specs.Verdicts.{barrier_fault, issue_fault, verdict};
+ghost use Rattle.axp_check.specs.Violations.{IsConsistent, IsViolated};
+ghost use Rattle.axp_check.specs.declared.Rule.{Rule};
+ghost use Rattle.axp_check.specs.declared.Verdict.TheVariants.{Consistent, Violated};
 
 /// No pair of a list breaks the issue constraint and none a write barrier exactly where of each two
 /// accesses the one is BEFORE the other wherever either demands it.
@@ -51,4 +54,16 @@ pub fn locking_in_words()
     ensures some { (t : Times) (xs : List Access) (i j : ℕ)
         → (locking_fault t (number_accesses xs) ≡ Some (i, j))
         ↔ IsFirstUnlocked t (number_accesses xs) i j }
+{}
+
+/// A list is judged consistent exactly where all rules hold of it. It is judged to violate a rule
+/// exactly where the lesser rules hold and the two numbers are those of the first accesses that break
+/// this one. The loop rule is named by its fault.
+pub fn verdict_in_words()
+    ensures consistent { (image : ℕ → ℕ) (list : Accesses)
+        → (verdict image list ≡ Consistent)
+        ↔ IsConsistent image (times_of list) (accesses_in list) }
+    ensures violated { (image : ℕ → ℕ) (list : Accesses) (rule : Rule) (i j : ℕ)
+        → (verdict image list ≡ Violated rule i j)
+        ↔ IsViolated image (times_of list) (accesses_in list) rule i j }
 {}

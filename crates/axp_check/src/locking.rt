@@ -1,5 +1,5 @@
 //! Locking: what stands between a store-conditional that succeeds and its load-locked.
-ghost use Rattle.std.specs.Prelude.{◌≡◌, ◌==◌, ◌&&◌, ◌||◌, ◌-◌, ◌<◌, ◌≤◌, not, length, IfSome, Some, None};
+ghost use Rattle.std.specs.Prelude.{◌≡◌, ◌==◌, ◌&&◌, ◌||◌, ◌-◌, ◌≤◌, not, length, IfSome};
 ghost use Rattle.std.specs.Option.{option_map};
 ghost use Rattle.axp_base.specs.Cpus.{cpu_number};
 ghost use Rattle.axp_base.specs.Lines.{line_of};
@@ -37,13 +37,6 @@ fn is_success(access: &Access) -> bool
     matches!(access.kind, Kind::Conditional) && access.yes
 }
 
-/// Both of two.
-fn both(first: bool, second: bool) -> bool
-    ensures { result ≡ (first && second) }
-{
-    first && second
-}
-
 /// Neither of two.
 fn neither(first: bool, second: bool) -> bool
     ensures { result ≡ not (first || second) }
@@ -75,10 +68,12 @@ fn is_disturbed(list: &AccessList, i: u32, j: u32, k: u32) -> bool
     let lock = list.get(i);
     let store = list.get(j);
     let write = list.get(k);
-    let other = is_write_of_another(&lock, &store, &write);
+    if !is_write_of_another(&lock, &store, &write) {
+        return false;
+    }
     let ahead = list.before(k, i);
     let behind = list.before(j, k);
-    both(other, neither(ahead, behind))
+    neither(ahead, behind)
 }
 
 /// The number of the oldest access that disturbs the i-th, a load-locked, and the j-th, its
