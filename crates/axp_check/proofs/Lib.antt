@@ -1,1 +1,2 @@
--- Proofs.
+pub mod Chains
+pub mod Reaches
