@@ -2,6 +2,9 @@
 //! of their places, whoever made the list, and else the least rule and pair that cannot.
 #![tactic(auto)]
 
+mod loops;
+mod reached;
+
 /// A rule of shared memory, the least first. `docs/MODEL.md`, "The constraints".
 #[derive(Clone, Copy, Debug, PartialEq, Eq)]
 pub enum Rule {
