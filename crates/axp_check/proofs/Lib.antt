@@ -1,2 +1,6 @@
 pub mod Chains
 pub mod Reaches
+pub mod Numbers
+pub mod SourceNumbers
+pub mod Reaching
+pub mod Rounds

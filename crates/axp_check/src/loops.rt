@@ -1,5 +1,5 @@
 ghost use Rattle.std.specs.Prelude.{◌≡◌, ◌-◌, ◌<◌, ◌≤◌, ◌||◌, ℕ, true, false, length, nat_lt, IfSome};
-ghost use Rattle.std.specs.List.{list_any};
+ghost use Rattle.std.specs.List.{All, list_any};
 ghost use Rattle.std.specs.Option.{option_map};
 ghost use Rattle.axp_access.specs.Kinds.{is_fetch, is_read};
 ghost use Rattle.axp_access.specs.Lists.{access_at, accesses_in, times_of};
@@ -40,7 +40,8 @@ fn sources_of<'a>(list: &AccessList, sources: &'a [u32], n: u32) -> &'a [u32]
     requires sources { AreSources list.now sources.now }
     requires least { 1 ≤ n }
     requires most { n ≤ length list.now.items }
-    ensures { IfSome (access_at list.now n) (λ v. result.now ≡ source_numbers list.now v) }
+    ensures value { IfSome (access_at list.now n) (λ v. result.now ≡ source_numbers list.now v) }
+    ensures within { All (λ m. m ≤ length list.now.items) result.now }
 {
     let access = list.get(n);
     if takes_bytes(&access) {
@@ -56,9 +57,16 @@ fn has_later_source(list: &AccessList, sources: &[u32], n: u32) -> bool
     requires sources { AreSources list.now sources.now }
     requires least { 1 ≤ n }
     requires most { n ≤ length list.now.items }
-    ensures { IfSome (access_at list.now n) (λ v. result ≡ list_any (λ m. nat_lt n m) (source_numbers list.now v)) }
+    ensures { IfSome (access_at list.now n) (λ v. result ≡ list_any (nat_lt n) (source_numbers list.now v)) }
 {
-    sources_of(list, sources, n).iter().any(|&m| n < m)
+    is_any_above(sources_of(list, sources, n), n)
+}
+
+/// Whether one of these numbers is greater than `n`.
+fn is_any_above(numbers: &[u32], n: u32) -> bool
+    ensures { result ≡ list_any (nat_lt n) numbers.now }
+{
+    numbers.iter().any(|&m| n < m)
 }
 
 /// Whether the access of this number is behind the number of its processor; 0 is not.
@@ -79,7 +87,15 @@ fn has_reached_source(list: &AccessList, sources: &[u32], reached: &Reached, n: 
     requires most { n ≤ length list.now.items }
     ensures { IfSome (access_at list.now n) (λ v. result ≡ has_source_behind list.now reached.now v) }
 {
-    for &m in sources_of(list, sources, n) {
+    is_any_reached(list, reached, sources_of(list, sources, n))
+}
+
+/// Whether one of the accesses of these numbers is behind the number of its processor.
+fn is_any_reached(list: &AccessList, reached: &Reached, numbers: &[u32]) -> bool
+    requires { All (λ m. m ≤ length list.now.items) numbers.now }
+    ensures { result ≡ list_any (is_behind list.now reached.now) numbers.now }
+{
+    for &m in numbers {
         if is_reached(list, reached, m) {
             return true;
         }
