@@ -4,3 +4,4 @@ pub mod Numbers
 pub mod SourceNumbers
 pub mod Reaching
 pub mod Rounds
+pub mod Candidates

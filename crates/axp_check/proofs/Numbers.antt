@@ -1,10 +1,7 @@
 -- A number names one access of a list.
-use Rattle.std.proofs.Common.{◌≡◌, ◌⊎◌, ℕ, zero, suc, ◌+◌, ◌-◌, ◌<◌, ◌≤◌, List, [], ◌∷◌, ◌++◌, length, take, Option, Some, None, refl, sym, ap, ◌∙◌, subst, arith, inl, inr, ⊎_elim}
+use Rattle.std.proofs.Common.{◌≡◌, ℕ, zero, suc, ◌+◌, ◌-◌, ◌<◌, ◌≤◌, List, [], ◌∷◌, ◌++◌, length, Some, refl, sym, ap, ◌∙◌, subst, arith, inl, inr, ⊎_elim}
 use Rattle.std.proofs.Math.Seq.{take-length}
-use Rattle.std.proofs.lemmas.Option.{slice_get_within}
-use Rattle.axp_base.specs.Cpus.{cpu_number}
-use Rattle.axp_access.specs.declared.Access.{Access}
-use Rattle.axp_access.specs.Numbering.{NumberedAccess, next_access}
+use Rattle.axp_access.specs.Numbering.{NumberedAccess}
 use Rattle.axp_access.specs.Lists.{Accesses, accesses_in, accesses_to, access_at}
 use Rattle.axp_laws.proofs.CauseMoments.{Among}
 use Rattle.axp_order.proofs.Accesses.{accesses_more, accesses_grow, access_some, number_at}
@@ -32,7 +29,7 @@ named_to list (suc n) u within among =
     record { least = older.least; most = omega (arith, most); found = older.found })
     (subst (λ us. Among u us) more among)
 
-all_of : (list : Accesses) → accesses_in list ≡ accesses_to list (length list.items)
+pub all_of : (list : Accesses) → accesses_in list ≡ accesses_to list (length list.items)
 all_of list = rw (take-length list.items) refl
 
 pub named : (list : Accesses) (u : NumberedAccess) → Among u (accesses_in list) → IsNamed list (length list.items) u

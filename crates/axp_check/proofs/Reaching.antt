@@ -1,6 +1,5 @@
 -- A search from a read or fetch: how its numbers begin, fall and end.
-use Rattle.std.proofs.Common.{◌≡◌, ◌⊎◌, ℕ, zero, suc, ◌+◌, ◌-◌, ◌<◌, ◌≤◌, Bool, true, false, ◌&&◌, ◌||◌, eqb, ltb, cond, List, length, Option, Some, None, IfSome, refl, sym, ap, ◌∙◌, subst, arith, inl, inr, ⊎_elim}
-use Rattle.std.specs.List.{list_any}
+use Rattle.std.proofs.Common.{◌≡◌, ℕ, zero, suc, ◌+◌, ◌-◌, ◌<◌, ◌≤◌, Bool, true, false, ◌&&◌, ◌||◌, eqb, ltb, cond, length, Option, Some, None, IfSome, refl, sym, ap, ◌∙◌, subst, arith, inl, inr, ⊎_elim}
 use Rattle.std.specs.Option.{option_map_or}
 use Rattle.std.proofs.lemmas.Bool.{cases_Bool, and_parts, and_from, or_cases, or_left, or_right, eqb-true, ltb-true, lt-ltb, le-ltb, false≢true}
 use Rattle.axp_base.specs.declared.processors.TheConstants.{MAX_CPUS}
@@ -9,13 +8,12 @@ use Rattle.axp_regs.specs.declared.asks.Kind.TheVariants as kind
 use Rattle.axp_access.specs.Kinds.{has_byte, is_conditional, is_fetch, is_memory_write, is_plain_write, is_read}
 use Rattle.axp_access.specs.Lists.{Accesses, accesses_in, access_at, times_of}
 use Rattle.axp_access.specs.Numbering.{NumberedAccess, cpu_of}
-use Rattle.axp_access.specs.Order.{Times, precedes}
+use Rattle.axp_access.specs.Order.{precedes}
 use Rattle.axp_model.specs.Sources.{can_give, is_visible, source, takes_bytes}
 use Rattle.axp_laws.proofs.CauseMoments.{Among, latest_among}
-use Rattle.axp_order.proofs.Accesses.{number_at}
 use Rattle.axp_check.specs.declared.reached.Reached.{Reached}
-use Rattle.axp_check.specs.Loops.{gives_from, is_on_cycle, leads, may_cause}
-use Rattle.axp_check.specs.Reached.{IsClosedAt, IsClosedTo, IsReachedAs, IsReaching, has_source_behind, is_behind, least_of, source_numbers}
+use Rattle.axp_check.specs.Loops.{gives_from, is_on_cycle, may_cause}
+use Rattle.axp_check.specs.Reached.{IsClosedAt, IsClosedTo, IsReachedAs, IsReaching, has_source_behind, is_behind, least_of}
 use Rattle.axp_check.proofs.Chains.{leads_on}
 use Rattle.axp_check.proofs.Numbers.{among_at, named, one_of_number}
 use Rattle.axp_check.proofs.Reaches.{AreKinds, IsClosed, IsReached, is_source, on_cycle_shows, shows_cycle}

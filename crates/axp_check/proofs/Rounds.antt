@@ -1,13 +1,13 @@
 -- A round of a search: each access of the list is taken in where it is reached.
-use Rattle.std.proofs.Common.{◌≡◌, ◌⊎◌, ℕ, ◌+◌, ◌-◌, ◌<◌, ◌≤◌, Bool, true, false, eqb, cond, length, slice_get, Option, Some, None, IfSome, refl, sym, ap, ◌∙◌, subst, arith, inl, inr, ⊎_elim, reverse, take}
-use Rattle.std.proofs.lemmas.Bool.{cases_Bool, false≢true, cases_lt}
+use Rattle.std.proofs.Common.{◌≡◌, ℕ, ◌+◌, ◌-◌, ◌<◌, ◌≤◌, Bool, true, false, eqb, cond, length, slice_get, Option, Some, None, IfSome, refl, sym, ap, ◌∙◌, subst, arith, ⊎_elim}
+use Rattle.std.proofs.lemmas.Bool.{false≢true, cases_lt}
 use Rattle.std.proofs.lemmas.Option.{slice_get_within}
 use Rattle.axp_base.specs.Cpus.{cpu_number}
 use Rattle.axp_base.specs.declared.processors.TheConstants.{MAX_CPUS}
 use Rattle.axp_access.proofs.Numbers.{number_is}
 use Rattle.axp_access.specs.declared.Access.{Access}
 use Rattle.axp_access.specs.Lists.{Accesses, accesses_in, accesses_to, access_at, times_of}
-use Rattle.axp_access.specs.Numbering.{NumberedAccess, cpu_of, next_access}
+use Rattle.axp_access.specs.Numbering.{NumberedAccess, next_access}
 use Rattle.axp_model.specs.Sources.{takes_bytes}
 use Rattle.axp_laws.proofs.CauseMoments.{Among}
 use Rattle.axp_check.specs.declared.reached.Reached.{Reached}

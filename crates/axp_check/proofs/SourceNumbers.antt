@@ -1,24 +1,23 @@
 -- Sources by their numbers.
-use Rattle.std.proofs.Common.{◌≡◌, ◌⊎◌, ℕ, zero, suc, ◌+◌, ◌-◌, ◌*◌, ◌<◌, ◌≤◌, Bool, true, false, ◌&&◌, ◌||◌, eqb, ltb, List, [], ◌∷◌, length, take, drop, slice_get, slice_index, slice_range, get_or, Option, Some, None, IfSome, refl, sym, ap, ◌∙◌, subst, arith, inl, inr, ⊎_elim, cond}
+use Rattle.std.proofs.Common.{◌≡◌, ℕ, zero, suc, ◌+◌, ◌-◌, ◌*◌, ◌<◌, ◌≤◌, Bool, true, false, ◌||◌, eqb, List, [], ◌∷◌, length, take, drop, slice_get, slice_index, get_or, Option, Some, None, IfSome, refl, sym, ap, ◌∙◌, subst, arith, inl, inr, ⊎_elim}
 use Rattle.std.specs.List.{All, AllByRecursion, list_any}
 use Rattle.std.specs.Option.{option_map_or}
-use Rattle.std.proofs.lemmas.Bool.{cases_Bool, and_parts, and_from, or_cases, or_left, or_right, eqb-true, ltb-true, false≢true}
+use Rattle.std.proofs.lemmas.Bool.{cases_Bool, and_parts, and_from, or_cases, or_left, or_right, eqb-true, false≢true}
 use Rattle.std.proofs.lemmas.List.{get_or-take, get_or-drop, length-drop, length-take-le}
 use Rattle.std.proofs.lemmas.List.Elements.{All-from_recursion}
 use Rattle.std.proofs.lemmas.Option.{slice_get_within}
 use Rattle.axp_base.specs.Masks.{IsSize}
-use Rattle.axp_base.specs.Cpus.{cpu_number}
 use Rattle.axp_access.specs.declared.Access.{Access}
-use Rattle.axp_access.specs.Kinds.{is_conditional, is_fetch, is_memory_write, is_plain_write, is_read}
+use Rattle.axp_access.specs.Kinds.{is_conditional, is_fetch, is_plain_write, is_read}
 use Rattle.axp_access.specs.Lists.{Accesses, IsSound, accesses_in, accesses_to, access_at, times_of}
-use Rattle.axp_access.specs.Numbering.{NumberedAccess, cpu_of, next_access}
+use Rattle.axp_access.specs.Numbering.{NumberedAccess, next_access}
 use Rattle.axp_access.specs.Order.{Times}
 use Rattle.axp_model.specs.Sources.{can_give, source, takes_bytes}
 use Rattle.axp_laws.proofs.CauseMoments.{Among, latest_among}
 use Rattle.axp_check.specs.Loops.{gives_from}
 use Rattle.axp_check.specs.Reached.{numbers_from, source_numbers}
 use Rattle.axp_check.specs.Sources.{AreSources, source_number, source_of_byte}
-use Rattle.axp_check.proofs.Numbers.{named, one_of_number}
+use Rattle.axp_check.proofs.Numbers.{named}
 use Rattle.axp_check.proofs.Reaches.{is_source}
 
 -- a list whose elements are the numbers of the sources

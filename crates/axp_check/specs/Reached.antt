@@ -1,5 +1,5 @@
 -- What the values that a list's reads and fetches took may have come from, by one number for each processor.
-use Rattle.std.specs.Prelude.{◌≡◌, ◌⊎◌, ℕ, zero, suc, ◌+◌, ◌<◌, ◌≤◌, nat_lt, Bool, true, false, if◌then◌else◌, IfSome, List, [], ◌∷◌, length, slice_index, sum, Option, Some}
+use Rattle.std.specs.Prelude.{◌≡◌, ◌⊎◌, ℕ, zero, suc, ◌+◌, ◌<◌, ◌≤◌, nat_lt, Bool, true, false, if◌then◌else◌, IfSome, List, [], ◌∷◌, length, slice_index, sum, Some}
 use Rattle.std.specs.List.{list_any}
 use Rattle.std.specs.Option.{option_map_or}
 use Rattle.axp_base.specs.declared.processors.TheConstants.{MAX_CPUS}

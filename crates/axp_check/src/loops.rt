@@ -1,8 +1,8 @@
-ghost use Rattle.std.specs.Prelude.{◌≡◌, ◌-◌, ◌<◌, ◌≤◌, ◌||◌, ℕ, true, false, length, nat_lt, IfSome};
+ghost use Rattle.std.specs.Prelude.{◌≡◌, ◌-◌, ◌<◌, ◌≤◌, ◌||◌, ℕ, None, true, false, length, nat_lt, IfSome};
 ghost use Rattle.std.specs.List.{All, list_any};
 ghost use Rattle.std.specs.Option.{option_map};
 ghost use Rattle.axp_access.specs.Kinds.{is_fetch, is_read};
-ghost use Rattle.axp_access.specs.Lists.{access_at, accesses_in, times_of};
+ghost use Rattle.axp_access.specs.Lists.{access_at, accesses_in, accesses_to, times_of};
 ghost use Rattle.axp_access.specs.Numbering.{NumberedAccess};
 ghost use Rattle.axp_model.specs.Sources.{takes_bytes};
 ghost use Rattle.axp_order.specs.Oldest.{oldest_that};
@@ -21,11 +21,26 @@ pub(crate) fn first_on_cycle(list: &AccessList, sources: &[u32]) -> Option<u32>
     ensures { result ≡ option_map (λ u. u.number) (oldest_that (loops.is_on_cycle (times_of list.now) (accesses_in list.now)) (accesses_in list.now)) }
 {
     for n in 0..list.len() {
-        if has_later_source(list, sources, n + 1) && is_on_cycle(list, sources, n + 1) {
+        if is_first_on_cycle(list, sources, n + 1) {
             return Some(n + 1);
         }
     }
     None
+}
+
+/// Whether the value of the access of this number may have come from itself, where that of no older one
+/// may.
+fn is_first_on_cycle(list: &AccessList, sources: &[u32], n: u32) -> bool
+    requires sources { AreSources list.now sources.now }
+    requires least { 1 ≤ n }
+    requires most { n ≤ length list.now.items }
+    requires older { oldest_that (loops.is_on_cycle (times_of list.now) (accesses_in list.now)) (accesses_to list.now (n - 1)) ≡ None }
+    ensures { IfSome (access_at list.now n) (λ v. result ≡ loops.is_on_cycle (times_of list.now) (accesses_in list.now) v) }
+{
+    if !has_later_source(list, sources, n) {
+        return false;
+    }
+    is_on_cycle(list, sources, n)
 }
 
 /// Whether it is a read or a fetch.
