@@ -15,7 +15,7 @@ use Rattle.axp_order.proofs.Scans.{oldest_found}
 use Rattle.axp_check.specs.Loops.{gives_from, is_on_cycle, leads, may_cause}
 use Rattle.axp_check.specs.Reached.{source_numbers}
 use Rattle.axp_check.proofs.Chains.{least_from_above, leads_within}
-use Rattle.axp_check.proofs.Numbers.{all_of, among_at, among_first, named, one_of_number}
+use Rattle.axp_check.proofs.Numbers.{all_of, among_at, among_first, number_names, one_of_number}
 use Rattle.axp_check.proofs.Reaches.{is_source}
 use Rattle.axp_check.proofs.Reaching.{are_kinds}
 use Rattle.axp_check.proofs.SourceNumbers.{any_source, source_that}
@@ -82,7 +82,7 @@ later_source list n v inside found none loop =
       least : (y : NumberedAccess) (k : ℕ) → Among y (accesses_in list) → leads (may_cause (times_of list) (accesses_in list)) (accesses_in list) k y y ≡ true → v.number ≤ y.number
       least y k of_list way = ⊎_elim
           (λ (older : y.number < v.number).
-          let name = named list y of_list in
+          let name = number_names list y of_list in
           let first = name.least in
           let number = number_at list n v found in
           let back : y.number - 1 + 1 ≡ y.number = omega (arith, first) in
@@ -104,9 +104,9 @@ no_cycle list n b least most none later no_ =
           (cases_Bool (is_on_cycle (times_of list) (accesses_in list) v))
 
 -- the result of a test where it is known
-pub tested : (test : NumberedAccess → Bool) (o : Option NumberedAccess) (b d : Bool) → IfSome o (λ v. b ≡ test v) → b ≡ d → IfSome o (λ v. test v ≡ d)
-tested test None b d is e = tt
-tested test (Some v) b d is e = sym is ∙ e
+pub test_known : (test : NumberedAccess → Bool) (o : Option NumberedAccess) (b d : Bool) → IfSome o (λ v. b ≡ test v) → b ≡ d → IfSome o (λ v. test v ≡ d)
+test_known test None b d is e = tt
+test_known test (Some v) b d is e = sym is ∙ e
 
 -- the first that passes
 pub oldest_is : (test : NumberedAccess → Bool) (list : Accesses) (n : ℕ) → n < length list.items → oldest_that test (accesses_to list n) ≡ None → IfSome (access_at list (n + 1)) (λ u. test u ≡ true) → Some (n + 1) ≡ option_map (λ u. u.number) (oldest_that test (accesses_in list))

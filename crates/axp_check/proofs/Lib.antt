@@ -5,3 +5,4 @@ pub mod SourceNumbers
 pub mod Reaching
 pub mod Rounds
 pub mod Candidates
+pub mod LoopLaws

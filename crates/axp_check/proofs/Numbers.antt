@@ -12,9 +12,9 @@ pub record IsNamed (list : Accesses) (n : ℕ) (u : NumberedAccess) : Type 0 whe
   pub most : u.number ≤ n
   pub found : access_at list u.number ≡ Some u
 
-pub named_to : (list : Accesses) (n : ℕ) (u : NumberedAccess) → n ≤ length list.items → Among u (accesses_to list n) → IsNamed list n u
-named_to list zero u within among = absurd among
-named_to list (suc n) u within among =
+pub number_names_to : (list : Accesses) (n : ℕ) (u : NumberedAccess) → n ≤ length list.items → Among u (accesses_to list n) → IsNamed list n u
+number_names_to list zero u within among = absurd among
+number_names_to list (suc n) u within among =
     let next : suc n ≡ n + 1 = omega arith in
     let w = access_some list n (omega (arith, within)) in
     let number = number_at list n w.0 w.1 in
@@ -24,7 +24,7 @@ named_to list (suc n) u within among =
     let same : u.number ≡ n + 1 = ap (λ v. v.number) (sym here) ∙ number in
     record { least = omega (arith, same); most = omega (arith, same, next); found = ap (access_at list) same ∙ (w.1 ∙ ap (λ v. Some v) here) })
     (λ rest.
-    let older = named_to list n u (omega (arith, within)) rest in
+    let older = number_names_to list n u (omega (arith, within)) rest in
     let most = older.most in
     record { least = older.least; most = omega (arith, most); found = older.found })
     (subst (λ us. Among u us) more among)
@@ -32,8 +32,8 @@ named_to list (suc n) u within among =
 pub all_of : (list : Accesses) → accesses_in list ≡ accesses_to list (length list.items)
 all_of list = rw (take-length list.items) refl
 
-pub named : (list : Accesses) (u : NumberedAccess) → Among u (accesses_in list) → IsNamed list (length list.items) u
-named list u among = named_to list (length list.items) u (omega arith) (subst (λ us. Among u us) (all_of list) among)
+pub number_names : (list : Accesses) (u : NumberedAccess) → Among u (accesses_in list) → IsNamed list (length list.items) u
+number_names list u among = number_names_to list (length list.items) u (omega arith) (subst (λ us. Among u us) (all_of list) among)
 
 among_behind : {X : Type 0} (ws us : List X) (u : X) → Among u us → Among u (ws ++ us)
 among_behind [] us u among = among
@@ -60,7 +60,7 @@ among_first list n m u less within found =
 -- so two of one number are the same
 pub one_of_number : (list : Accesses) (u v : NumberedAccess) → Among u (accesses_in list) → Among v (accesses_in list) → u.number ≡ v.number → u ≡ v
 one_of_number list u v here also same =
-    let first = (named list u here).found in
-    let second = (named list v also).found in
+    let first = (number_names list u here).found in
+    let second = (number_names list v also).found in
     let both : Some u ≡ Some v = sym first ∙ ap (access_at list) same ∙ second in
     cc

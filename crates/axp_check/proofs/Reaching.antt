@@ -15,7 +15,7 @@ use Rattle.axp_check.specs.declared.reached.Reached.{Reached}
 use Rattle.axp_check.specs.Loops.{gives_from, is_on_cycle, may_cause}
 use Rattle.axp_check.specs.Reached.{IsClosedAt, IsClosedTo, IsReachedAs, IsReaching, has_source_behind, is_behind, least_of}
 use Rattle.axp_check.proofs.Chains.{leads_on}
-use Rattle.axp_check.proofs.Numbers.{among_at, named, one_of_number}
+use Rattle.axp_check.proofs.Numbers.{among_at, number_names, one_of_number}
 use Rattle.axp_check.proofs.Reaches.{AreKinds, IsClosed, IsReached, is_source, on_cycle_shows, shows_cycle}
 use Rattle.axp_check.proofs.SourceNumbers.{any_source, source_that}
 
@@ -56,7 +56,7 @@ cpu_small : (u : NumberedAccess) → cpu_of u < MAX_CPUS
 cpu_small u = ltb-true (cpu_of u) MAX_CPUS u.access.cpu.below
 
 behind_at : (list : Accesses) (reached : Reached) (w : NumberedAccess) → Among w (accesses_in list) → is_behind list reached w.number ≡ ltb (least_of reached (cpu_of w)) w.number
-behind_at list reached w among = ap (λ o. option_map_or (λ u. ltb (least_of reached (cpu_of u)) w.number) o false) (named list w among).found
+behind_at list reached w among = ap (λ o. option_map_or (λ u. ltb (least_of reached (cpu_of u)) w.number) o false) (number_names list w among).found
 
 none_behind : (list : Accesses) (reached : Reached) → is_behind list reached 0 ≡ false
 none_behind list reached = by (access_at list 0) where
@@ -67,7 +67,7 @@ none_behind list reached = by (access_at list 0) where
 -- closed by its numbers
 closed_of : (list : Accesses) (reached : Reached) → IsClosedTo list reached (length list.items) → IsClosed (times_of list) (accesses_in list) (least_of reached)
 closed_of list reached closed w v among also is writes less =
-    let name = named list v also in
+    let name = number_names list v also in
     let least = name.least in
     let most = name.most in
     let back : v.number - 1 + 1 ≡ v.number = omega (arith, least) in
@@ -83,7 +83,7 @@ record IsWay (list : Accesses) (r w : NumberedAccess) : Type 0 where
 way_to : (list : Accesses) (reached : Reached) (r w : NumberedAccess) → IsReaching list reached r → Among w (accesses_in list) → is_behind list reached w.number ≡ true → IsWay list r w
 way_to list reached r w reaching among behind =
     let less : least_of reached (cpu_of w) < w.number = ltb-true (least_of reached (cpu_of w)) w.number (sym (behind_at list reached w among) ∙ behind) in
-    let most = (named list w among).most in
+    let most = (number_names list w among).most in
     ⊎_elim
     (λ (past : length list.items ≤ least_of reached (cpu_of w)). absurd (never (least_of reached (cpu_of w)) w.number (length list.items) less most past))
     (λ (as_ : IsReachedAs list r (cpu_of w) (least_of reached (cpu_of w))).
@@ -156,8 +156,8 @@ reaching_more list old new r v among any less value reaching =
           record {
             read = v;
             number = refl;
-            first = (named list v among).least;
-            found = (named list v among).found;
+            first = (number_names list v among).least;
+            found = (number_names list v among).found;
             cpu = refl;
             takes = (and_parts (takes_bytes v) (gives_from (times_of list) (accesses_in list) w v v.access.size 0) from.is).0;
             way = inr (⊎_elim
@@ -174,7 +174,7 @@ reaching_first list new r most among takes past value =
       each = λ p small. ⊎_elim
           (λ (mine : eqb (cpu_of r) p ≡ true).
           let here : least_of new p ≡ r.number = rw mine at (value p small) in
-          inr (subst (IsReachedAs list r p) (sym here) (record { read = r; number = refl; first = (named list r among).least; found = (named list r among).found; cpu = eqb-true (cpu_of r) p mine; takes = takes; way = inl refl })))
+          inr (subst (IsReachedAs list r p) (sym here) (record { read = r; number = refl; first = (number_names list r among).least; found = (number_names list r among).found; cpu = eqb-true (cpu_of r) p mine; takes = takes; way = inl refl })))
           (λ (other : eqb (cpu_of r) p ≡ false).
           let here : least_of new p ≡ most = rw other at (value p small) in
           inl (omega (arith, here, past)))

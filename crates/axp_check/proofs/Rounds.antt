@@ -28,8 +28,8 @@ found_among list n a least found =
     among_at list (n - 1) (next_access (accesses_to list (n - 1)) a) inside (rw same (rw found refl))
 
 -- an access that is taken in
-pub taken_in : (list : Accesses) (old new : Reached) (n m : ℕ) (a : Access) (b : Bool) → 1 ≤ n → slice_get list.items (n - 1) ≡ Some a → m ≡ least_of old (cpu_number a.cpu) → n < m → IfSome (access_at list n) (λ v. b ≡ has_source_behind list old v) → b ≡ true → ((p : ℕ) → least_of new p ≡ cond (eqb (cpu_number a.cpu) p) n (least_of old p)) → (r : NumberedAccess) → IsReaching list old r → IsReaching list new r
-taken_in list old new n m a b least found is low any yes_ value r reaching =
+pub take_in_keeps : (list : Accesses) (old new : Reached) (n m : ℕ) (a : Access) (b : Bool) → 1 ≤ n → slice_get list.items (n - 1) ≡ Some a → m ≡ least_of old (cpu_number a.cpu) → n < m → IfSome (access_at list n) (λ v. b ≡ has_source_behind list old v) → b ≡ true → ((p : ℕ) → least_of new p ≡ cond (eqb (cpu_number a.cpu) p) n (least_of old p)) → (r : NumberedAccess) → IsReaching list old r → IsReaching list new r
+take_in_keeps list old new n m a b least found is low any yes_ value r reaching =
     let number : length (accesses_to list (n - 1)) + 1 ≡ n = number_is list n a least found in
     let v = next_access (accesses_to list (n - 1)) a in
     let has : b ≡ has_source_behind list old (next_access (accesses_to list (n - 1)) a) = rw found at any in
@@ -74,19 +74,19 @@ round_same list old now next changed n same here so_far = rw same record {
 }
 
 -- a search begins at access n
-pub begun : (list : Accesses) (new : Reached) (n most : ℕ) (a : Access) → 1 ≤ n → slice_get list.items (n - 1) ≡ Some a → most ≡ length list.items → ((p : ℕ) → p < MAX_CPUS → least_of new p ≡ cond (eqb (cpu_number a.cpu) p) n most) → IfSome (access_at list n) (λ r. takes_bytes r ≡ true → IsReaching list new r)
-begun list new n most a least found len value =
+pub search_begins : (list : Accesses) (new : Reached) (n most : ℕ) (a : Access) → 1 ≤ n → slice_get list.items (n - 1) ≡ Some a → most ≡ length list.items → ((p : ℕ) → p < MAX_CPUS → least_of new p ≡ cond (eqb (cpu_number a.cpu) p) n most) → IfSome (access_at list n) (λ r. takes_bytes r ≡ true → IsReaching list new r)
+search_begins list new n most a least found len value =
     let number : length (accesses_to list (n - 1)) + 1 ≡ n = number_is list n a least found in
     rw found (λ takes. reaching_first list new (next_access (accesses_to list (n - 1)) a) most (found_among list n a least found) takes (omega (arith, len)) (λ p small. value p small ∙ ap (λ k. cond (eqb (cpu_number a.cpu) p) k most) (sym number)))
 
 -- a round keeps what is reached
-pub kept_at : (list : Accesses) (old new : Reached) (o : Option NumberedAccess) → ((r : NumberedAccess) → IsReaching list old r → IsReaching list new r) → IfSome o (λ r. takes_bytes r ≡ true → IsReaching list old r) → IfSome o (λ r. takes_bytes r ≡ true → IsReaching list new r)
-kept_at list old new None keeps so_far = tt
-kept_at list old new (Some r) keeps so_far = λ takes. keeps r (so_far takes)
+pub round_keeps : (list : Accesses) (old new : Reached) (o : Option NumberedAccess) → ((r : NumberedAccess) → IsReaching list old r → IsReaching list new r) → IfSome o (λ r. takes_bytes r ≡ true → IsReaching list old r) → IfSome o (λ r. takes_bytes r ≡ true → IsReaching list new r)
+round_keeps list old new None keeps so_far = tt
+round_keeps list old new (Some r) keeps so_far = λ takes. keeps r (so_far takes)
 
 -- at the end of a search its read or fetch is told
-pub told_at : (list : Accesses) (reached : Reached) (n : ℕ) (b : Bool) → 1 ≤ n → n ≤ length list.items → IfSome (access_at list n) (λ r. takes_bytes r ≡ true → IsReaching list reached r) → IsClosedTo list reached (length list.items) → IfSome (access_at list n) (λ r. b ≡ has_source_behind list reached r) → IfSome (access_at list n) (λ r. takes_bytes r ≡ true → b ≡ is_on_cycle (times_of list) (accesses_in list) r)
-told_at list reached n b least most reaching closed is =
+pub search_tells : (list : Accesses) (reached : Reached) (n : ℕ) (b : Bool) → 1 ≤ n → n ≤ length list.items → IfSome (access_at list n) (λ r. takes_bytes r ≡ true → IsReaching list reached r) → IsClosedTo list reached (length list.items) → IfSome (access_at list n) (λ r. b ≡ has_source_behind list reached r) → IfSome (access_at list n) (λ r. takes_bytes r ≡ true → b ≡ is_on_cycle (times_of list) (accesses_in list) r)
+search_tells list reached n b least most reaching closed is =
     let back : n - 1 + 1 ≡ n = omega (arith, least) in
     by (access_at list n) (subst (λ m. (r : NumberedAccess) → access_at list m ≡ Some r → Among r (accesses_in list)) back (λ r. among_at list (n - 1) r (omega (arith, least, most)))) reaching is where
       by : (o : Option NumberedAccess) → ((r : NumberedAccess) → o ≡ Some r → Among r (accesses_in list)) → IfSome o (λ r. takes_bytes r ≡ true → IsReaching list reached r) → IfSome o (λ r. b ≡ has_source_behind list reached r) → IfSome o (λ r. takes_bytes r ≡ true → b ≡ is_on_cycle (times_of list) (accesses_in list) r)

@@ -17,7 +17,7 @@ use Rattle.axp_laws.proofs.CauseMoments.{Among, latest_among}
 use Rattle.axp_check.specs.Loops.{gives_from}
 use Rattle.axp_check.specs.Reached.{numbers_from, source_numbers}
 use Rattle.axp_check.specs.Sources.{AreSources, source_number, source_of_byte}
-use Rattle.axp_check.proofs.Numbers.{named}
+use Rattle.axp_check.proofs.Numbers.{number_names}
 use Rattle.axp_check.proofs.Reaches.{is_source}
 
 -- a list whose elements are the numbers of the sources
@@ -62,9 +62,9 @@ places_fit list numbers n a are least found sound takes =
     omega (arith, count, inside, small, least)
 
 -- those of an access of the list: the numbers at its places of the table
-pub numbers_told : (list : Accesses) (numbers : List ℕ) (n : ℕ) (a : Access) (s : ℕ) (b : Bool) → AreSources list numbers → 1 ≤ n → slice_get list.items (n - 1) ≡ Some a → b ≡ (is_read a.kind || is_fetch a.kind) → b ≡ true → s ≡ a.size → (n - 1) * 8 + s ≤ length numbers
+pub table_has_numbers : (list : Accesses) (numbers : List ℕ) (n : ℕ) (a : Access) (s : ℕ) (b : Bool) → AreSources list numbers → 1 ≤ n → slice_get list.items (n - 1) ≡ Some a → b ≡ (is_read a.kind || is_fetch a.kind) → b ≡ true → s ≡ a.size → (n - 1) * 8 + s ≤ length numbers
     → IfSome (access_at list n) (λ v. take ((n - 1) * 8 + s - (n - 1) * 8) (drop ((n - 1) * 8) numbers) ≡ source_numbers list v)
-numbers_told list numbers n a s b are least found is takes size fits =
+table_has_numbers list numbers n a s b are least found is takes size fits =
     let yes_ : (is_read a.kind || is_fetch a.kind) ≡ true = sym is ∙ takes in
     let told : takes_bytes (next_access (accesses_to list (n - 1)) a) ≡ true → (k : ℕ) → k < a.size → slice_index numbers ((n - 1) * 8 + k) ≡ source_of_byte (times_of list) (accesses_in list) (next_access (accesses_to list (n - 1)) a) k = rw found at (are.each n) in
     let count : (n - 1) * 8 + s - (n - 1) * 8 ≡ s = omega arith in
@@ -78,7 +78,7 @@ within_all list v zero k = tt
 within_all list v (suc n) k = (by (source (times_of list) (v.access.address + k) v (accesses_in list)) refl, within_all list v n (k + 1)) where
   by : (o : Option NumberedAccess) → source (times_of list) (v.access.address + k) v (accesses_in list) ≡ o → source_number o ≤ length list.items
   by None e = omega arith
-  by (Some w) e = (named list w (latest_among (times_of list) (can_give (times_of list) (v.access.address + k) v) (accesses_in list) w e).0).most
+  by (Some w) e = (number_names list w (latest_among (times_of list) (can_give (times_of list) (v.access.address + k) v) (accesses_in list) w e).0).most
 
 -- each is that of an access, or 0
 pub numbers_within : (list : Accesses) (v : NumberedAccess) → AllByRecursion (λ m. m ≤ length list.items) (source_numbers list v)
@@ -87,8 +87,8 @@ numbers_within list v = ⊎_elim
     (λ (no_ : takes_bytes v ≡ false). rw no_ tt)
     (cases_Bool (takes_bytes v))
 
-pub told_within : (list : Accesses) (n : ℕ) (a : Access) (xs : List ℕ) → slice_get list.items (n - 1) ≡ Some a → IfSome (access_at list n) (λ v. xs ≡ source_numbers list v) → All (λ m. m ≤ length list.items) xs
-told_within list n a xs found is =
+pub table_within : (list : Accesses) (n : ℕ) (a : Access) (xs : List ℕ) → slice_get list.items (n - 1) ≡ Some a → IfSome (access_at list n) (λ v. xs ≡ source_numbers list v) → All (λ m. m ≤ length list.items) xs
+table_within list n a xs found is =
     let same : xs ≡ source_numbers list (next_access (accesses_to list (n - 1)) a) = rw found at is in
     All-from_recursion (λ m. m ≤ length list.items) xs (subst (AllByRecursion (λ m. m ≤ length list.items)) (sym same) (numbers_within list (next_access (accesses_to list (n - 1)) a)))
 
@@ -134,12 +134,12 @@ source_that list test v none any = ⊎_elim
     (λ (no_ : takes_bytes v ≡ false). absurd (false≢true (rw no_ at any)))
     (cases_Bool (takes_bytes v))
 
-any_given : (list : Accesses) (test : ℕ → Bool) (w v : NumberedAccess) (n k : ℕ) → gives_from (times_of list) (accesses_in list) w v n k ≡ true → test w.number ≡ true → list_any test (numbers_from (times_of list) (accesses_in list) v n k) ≡ true
-any_given list test w v zero k gives passes = absurd (false≢true gives)
-any_given list test w v (suc n) k gives passes =
+any_from_gives : (list : Accesses) (test : ℕ → Bool) (w v : NumberedAccess) (n k : ℕ) → gives_from (times_of list) (accesses_in list) w v n k ≡ true → test w.number ≡ true → list_any test (numbers_from (times_of list) (accesses_in list) v n k) ≡ true
+any_from_gives list test w v zero k gives passes = absurd (false≢true gives)
+any_from_gives list test w v (suc n) k gives passes =
     ⊎_elim
     (λ (here : option_map_or (λ u. eqb u.number w.number) (source (times_of list) (v.access.address + k) v (accesses_in list)) false ≡ true). or_left (test (source_of_byte (times_of list) (accesses_in list) v k)) (list_any test (numbers_from (times_of list) (accesses_in list) v n (k + 1))) (by (source (times_of list) (v.access.address + k) v (accesses_in list)) here))
-    (λ (back : gives_from (times_of list) (accesses_in list) w v n (k + 1) ≡ true). or_right (test (source_of_byte (times_of list) (accesses_in list) v k)) (list_any test (numbers_from (times_of list) (accesses_in list) v n (k + 1))) (any_given list test w v n (k + 1) back passes))
+    (λ (back : gives_from (times_of list) (accesses_in list) w v n (k + 1) ≡ true). or_right (test (source_of_byte (times_of list) (accesses_in list) v k)) (list_any test (numbers_from (times_of list) (accesses_in list) v n (k + 1))) (any_from_gives list test w v n (k + 1) back passes))
     (or_cases (option_map_or (λ u. eqb u.number w.number) (source (times_of list) (v.access.address + k) v (accesses_in list)) false) (gives_from (times_of list) (accesses_in list) w v n (k + 1)) gives) where
       by : (o : Option NumberedAccess) → option_map_or (λ u. eqb u.number w.number) o false ≡ true → test (source_number o) ≡ true
       by None e = absurd (false≢true e)
@@ -148,4 +148,4 @@ any_given list test w v (suc n) k gives passes =
 pub any_source : (list : Accesses) (test : ℕ → Bool) (w v : NumberedAccess) → is_source (times_of list) (accesses_in list) w v ≡ true → test w.number ≡ true → list_any test (source_numbers list v) ≡ true
 any_source list test w v is passes =
     let both = and_parts (takes_bytes v) (gives_from (times_of list) (accesses_in list) w v v.access.size 0) is in
-    rw both.0 (any_given list test w v v.access.size 0 both.1 passes)
+    rw both.0 (any_from_gives list test w v v.access.size 0 both.1 passes)
