@@ -14,3 +14,10 @@ pub mod StorageFaults
 pub mod Guards
 pub mod IssueGuards
 pub mod VerdictLaws
+pub mod Chains
+pub mod Reaches
+pub mod Numbers
+pub mod Reaching
+pub mod Rounds
+pub mod Candidates
+pub mod LoopLaws

@@ -5,6 +5,7 @@ pub mod StorageParts
 pub mod Locking
 pub mod LockingParts
 pub mod Loops
+pub mod Reached
 pub mod Verdicts
 pub mod LastBarriers
 pub mod Faults

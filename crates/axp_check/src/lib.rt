@@ -16,6 +16,7 @@ pub use laws::{locking_in_words, order_faults_in_words, order_in_words, storage_
 pub use laws::{
     locking_in_words, order_faults_in_words, order_in_words, storage_in_words, verdict_in_words,
 };
+mod reached;
 
 /// A rule of shared memory, the least first. `docs/MODEL.md`, "The constraints".
 #[derive(Clone, Copy, Debug, PartialEq, Eq)]
