@@ -18,7 +18,7 @@ use Rattle.axp_check.proofs.Chains.{least_from_above, leads_within}
 use Rattle.axp_check.proofs.Numbers.{all_of, among_at, among_first, number_names, one_of_number}
 use Rattle.axp_check.proofs.Reaches.{is_source}
 use Rattle.axp_check.proofs.Reaching.{are_kinds}
-use Rattle.axp_check.proofs.SourceNumbers.{any_source, source_that}
+use Rattle.axp_check.proofs.LoopSources.{any_source, source_that}
 
 -- where none is the oldest, none is
 pub none_that : (test : NumberedAccess → Bool) (us : List NumberedAccess) (u : NumberedAccess) → oldest_that test us ≡ None → Among u us → test u ≡ false

@@ -17,7 +17,7 @@ use Rattle.axp_check.specs.Reached.{IsClosedAt, IsClosedTo, IsReachedAs, IsReach
 use Rattle.axp_check.proofs.Chains.{leads_on}
 use Rattle.axp_check.proofs.Numbers.{among_at, number_names, one_of_number}
 use Rattle.axp_check.proofs.Reaches.{AreKinds, IsClosed, IsReached, is_source, on_cycle_shows, shows_cycle}
-use Rattle.axp_check.proofs.SourceNumbers.{any_source, source_that}
+use Rattle.axp_check.proofs.LoopSources.{any_source, source_that}
 
 -- no memory write takes bytes
 no_write : (k : Kind) (yes_ : Bool) → (is_read k || is_fetch k) ≡ true → (is_plain_write k || (is_conditional k && yes_)) ≡ false

@@ -8,15 +8,14 @@ mod issue;
 mod laws;
 mod locking;
 mod loops;
+mod reached;
 mod sources;
 mod storage;
 
 pub use checking::check;
-pub use laws::{locking_in_words, order_faults_in_words, order_in_words, storage_in_words};
 pub use laws::{
     locking_in_words, order_faults_in_words, order_in_words, storage_in_words, verdict_in_words,
 };
-mod reached;
 
 /// A rule of shared memory, the least first. `docs/MODEL.md`, "The constraints".
 #[derive(Clone, Copy, Debug, PartialEq, Eq)]
@@ -31,6 +30,24 @@ pub enum Rule {
     Locking,
     /// No value came from itself.
     Loop,
+}
+
+impl Rule {
+    ghost use Rattle.std.specs.Prelude.{◌≡◌};
+    ghost use Rattle.axp_check.specs.Names.{rule_name};
+
+    /// The word by which the rule is printed.
+    pub fn name(self) -> &'static str
+        ensures { result.now ≡ rule_name self }
+    {
+        match self {
+            Rule::Issue => "issue",
+            Rule::Barrier => "barrier",
+            Rule::Storage => "storage",
+            Rule::Locking => "locking",
+            Rule::Loop => "loop",
+        }
+    }
 }
 
 /// What a check tells of a list.

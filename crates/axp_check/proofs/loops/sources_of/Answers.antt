@@ -1,5 +1,5 @@
 use Rattle.std.proofs.Common.{sym, ◌∙◌}
-use Rattle.axp_check.proofs.SourceNumbers.{table_has_numbers, places_fit, table_within}
+use Rattle.axp_check.proofs.LoopSources.{table_has_numbers, places_fit, table_within}
 use Rattle.axp_check.proofs.loops.sources_of.Goals as goal
 
 -- src/loops.rt:39:1
