@@ -4,3 +4,4 @@ pub mod SurveyLemmas
 pub mod LineLemmas
 pub mod CollectLemmas
 pub mod ShownLemmas
+pub mod LawLemmas

@@ -3,6 +3,8 @@ use Rattle.std.specs.Prelude.{ℕ, ◌+◌, Bool, true, false, List, [], ◌∷�
 use Rattle.std.specs.Str.{bytes_eq}
 use Rattle.axp_base.specs.Cpus.{cpu_number}
 use Rattle.axp_access.specs.declared.Record.{Record}
+use Rattle.axp_access.specs.declared.tail_items.TailItem.{TailItem}
+use Rattle.axp_access.specs.declared.tail_items.TailItem.TheVariants.{End}
 use Rattle.axp_trace.specs.declared.headers.Header.{Header}
 use Rattle.axp_trace.specs.declared.lines.TraceLine.{TraceLine}
 use Rattle.axp_trace.specs.declared.lines.TraceLine.TheVariants.{Bare, Full, Tail}
@@ -60,6 +62,11 @@ front_of hd h (Some line ∷ ls) = by_shown (shown_by h (line_of hd line)) (λ r
 abbrev pub is_tail_line : Option TraceLine → Bool
 is_tail_line (Some Tail) = true
 is_tail_line _ = false
+
+-- the number of events
+abbrev pub is_end : TailItem → Bool
+is_end (End events) = true
+is_end _ = false
 
 -- of the lines of a tail the one that ends it
 abbrev pub is_end_line : List ℕ → Bool

@@ -5,10 +5,15 @@
 mod collecting;
 mod entries;
 mod faults;
+mod laws;
 mod reading;
 mod surveys;
 mod tails;
 
 pub use entries::{is_undrained, is_waiting};
 pub use faults::TraceFault;
+pub use laws::{end_lines_end, lists_are_histories};
 pub use reading::read_trace;
+
+#[cfg(test)]
+mod tests;
