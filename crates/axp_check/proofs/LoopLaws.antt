@@ -1,18 +1,17 @@
 -- The test for a causal loop says in the memory model's words that no value came from itself.
-use Rattle.std.proofs.Common.{◌≡◌, ◌⊎◌, ◌↔◌, ℕ, zero, suc, ◌+◌, ◌-◌, ◌<◌, ◌≤◌, Bool, true, false, ◌&&◌, ◌||◌, eqb, ltb, leb, List, [], ◌∷◌, ◌++◌, length, Option, Some, None, refl, sym, ap, ◌∙◌, subst, arith, inl, inr, ⊎_elim}
+use Rattle.std.proofs.Common.{◌≡◌, ◌↔◌, ℕ, zero, suc, ◌+◌, ◌-◌, ◌<◌, ◌≤◌, Bool, true, false, ◌&&◌, eqb, ltb, leb, List, [], ◌∷◌, ◌++◌, length, Option, Some, None, refl, sym, ap, ◌∙◌, arith, inl, inr, ⊎_elim}
 use Rattle.std.specs.List.{Contains, list_any}
 use Rattle.std.specs.Option.{option_map_or}
 use Rattle.std.proofs.lemmas.Bool.{cases_Bool, and_parts, and_from, or_cases, or_left, or_right, eqb-true, leb-true, le-leb, ltb-true, lt-ltb, false≢true}
-use Rattle.axp_access.specs.Kinds.{has_byte, is_memory_write}
+use Rattle.axp_access.specs.Kinds.{is_memory_write}
 use Rattle.axp_access.specs.Lists.{Accesses, accesses_in, times_of}
 use Rattle.axp_access.specs.Numbering.{NumberedAccess}
 use Rattle.axp_access.specs.Order.{Times, precedes}
-use Rattle.axp_model.specs.Causality.{MayGoInto}
 use Rattle.axp_model.specs.Sources.{can_give, source, takes_bytes}
 use Rattle.axp_laws.proofs.CauseMoments.{Among, among_of, latest_among}
 use Rattle.axp_laws.proofs.PollSignals.{contains_of}
 use Rattle.axp_order.specs.Oldest.{oldest_that}
-use Rattle.axp_check.specs.Loops.{IsChainIn, IsSourceIn, MayCauseIn, gives_from, is_on_cycle, leads, may_cause}
+use Rattle.axp_check.specs.Loops.{IsChainIn, MayCauseIn, gives_from, is_on_cycle, leads, may_cause}
 use Rattle.axp_check.proofs.Candidates.{none_that}
 use Rattle.axp_check.proofs.Chains.{any_gives, leads_join, leads_within}
 use Rattle.axp_check.proofs.Numbers.{one_of_number}
