@@ -1,11 +1,12 @@
 -- What a person is told of a status that refuses, by the two files.
-use Rattle.std.specs.Prelude.{◌≡◌, ℕ, ◌+◌, ◌-◌, Bool, true, false, List, ◌∷◌, ◌++◌, codes, decimal, slice_get, Option, Some, None, IfSome, Result, Ok, Err}
+use Rattle.std.specs.Prelude.{◌≡◌, ℕ, ◌+◌, ◌-◌, ◌==◌, ◌&&◌, if◌then◌else◌, is_some, Bool, true, false, List, ◌∷◌, ◌++◌, codes, decimal, slice_get, Option, Some, None, IfSome, Result, Ok, Err}
 use Rattle.axp_asm.specs.declared.layout.TheConstants.{MAX_SOURCE}
 use Rattle.axp_explain.specs.ElfWords.{elf_words}
 use Rattle.axp_explain.specs.ImageWords.{image_words}
 use Rattle.axp_explain.specs.LineWords.{fault_words, line_fault}
 use Rattle.axp_explain.specs.ReasonWords.{reason_words}
 use Rattle.axp_explain.specs.Reasons.{reason_of_files}
+use Rattle.axp_explain.specs.RuleWords.{rule_words}
 use Rattle.axp_explain.specs.SourceWords.{source_words}
 use Rattle.axp_explain.specs.Texts.{of_file, of_line}
 use Rattle.axp_io.specs.Causes.{Ask, FetchAsks, FetchCount, FetchTold}
@@ -16,7 +17,7 @@ use Rattle.axp_lsu.specs.declared.reasons.Reason.{Reason}
 use Rattle.axp_top.specs.ImageFiles.{source_limit, source_name}
 use Rattle.axp_top.specs.Outside.{DeskState}
 use Rattle.axp_top.specs.Replays.{FileLine}
-use Rattle.axp_top.specs.Words.{Asm, From, Gen, Listing, Order, Over, Replay, Seed, SourceOrder}
+use Rattle.axp_top.specs.Words.{Asm, From, Gen, Listing, Order, Over, Seed, SourceOrder, Traced}
 use Rattle.axp_top.specs.declared.limits.TheConstants.{MAX_IMAGE_BYTES, MAX_TRACE_BYTES}
 use Rattle.axp_top.specs.declared.status.Status.{Status}
 use Rattle.axp_top.specs.declared.status.Status.TheVariants as status
@@ -32,6 +33,9 @@ too_long_words most = codes "the file is longer than " ++ decimal most ++ codes 
 
 abbrev pub differs_words : List ℕ
 differs_words = codes "the trace has another line here than the right one"
+
+abbrev pub list_words : List ℕ
+list_words = codes "this is an event list, and a trace is needed: replay prints the trace of a list"
 
 abbrev pub incomplete_words : List ℕ
 incomplete_words = codes "the events end here, and a processor is not finished or a write waits in its buffer"
@@ -50,12 +54,17 @@ abbrev pub told_reason : List ℕ → ℕ → Option Reason → Option (List ℕ
 told_reason path line None = None
 told_reason path line (Some r) = Some (of_line path line (reason_words r))
 
+-- Of a line that is outside the grammar. A header is refused only of an event list, where a trace is needed.
+abbrev pub line_words : List FileLine → ℕ → List ℕ
+line_words ls n = if (n == 1) && is_some (cpus_in ls) then list_words else fault_words (line_fault (cpus_in ls) (slice_get ls (n - 1)))
+
 -- of a status that a list or a trace of these lines has over an image file
 abbrev pub trace_explained : List ℕ → List ℕ → List FileLine → Status → Option (List ℕ)
-trace_explained image path ls (status.BadTrace n) = Some (of_line path n (fault_words (line_fault (cpus_in ls) (slice_get ls (n - 1)))))
+trace_explained image path ls (status.BadTrace n) = Some (of_line path n (line_words ls n))
 trace_explained image path ls (status.NotLegal n) = told_reason path (n + 1) (reason_of_files (image_of image) ls)
 trace_explained image path ls (status.Differs n) = Some (of_line path n differs_words)
 trace_explained image path ls (status.Incomplete n) = Some (of_line path (n + 1) incomplete_words)
+trace_explained image path ls (status.Violated rule first second) = Some (of_file path (rule_words rule))
 trace_explained image path ls _ = None
 
 -- where a file could not be fetched
@@ -73,7 +82,7 @@ abbrev pub image_explained : List ℕ → List ℕ → Status → Option (List �
 image_explained path image (status.BadImage k offset) other = Some (of_file path (image_words image k offset))
 image_explained path image _ other = other
 
--- of a status that a replay has of a list or a trace over an image, by what the desk handed over of both
+-- of a status that a command has of a list or a trace over an image, by what the desk handed over of both
 unfoldable pub explanation : List ℕ → Result (List ℕ) FetchFault → List ℕ → Result (List ℕ) FetchFault → Status → Option (List ℕ)
 explanation image_path (Err fault) trace_path trace s = fetch_explained image_path MAX_IMAGE_BYTES fault
 explanation image_path (Ok image) trace_path trace s = image_explained image_path image s (trace_file_explained image trace_path trace s)
@@ -91,8 +100,8 @@ abbrev pub IsFetched : Option (List ℕ) → Ask → DeskState → DeskState →
 IsFetched told ask before now fetched = IfSome told (λ list. FetchTold list ask.1 fetched) × FetchCount before.faults now.faults fetched × FetchAsks before.asks now.asks ask fetched
 
 -- the text is the explanation of the two files as the desk handed them over, one after the other
-abbrev pub ExplainsReplay : (List ℕ → Option (List ℕ)) → DeskState → DeskState → List ℕ → List ℕ → Status → Option (List ℕ) → Type 0
-ExplainsReplay told before now image trace s text =
+abbrev pub ExplainsTrace : (List ℕ → Option (List ℕ)) → DeskState → DeskState → List ℕ → List ℕ → Status → Option (List ℕ) → Type 0
+ExplainsTrace told before now image trace s text =
     (first second : Result (List ℕ) FetchFault) × (faults : ℕ) × (asks : List Ask) × IsFetched (told image) (image, MAX_IMAGE_BYTES) before (record { faults = faults; asks = asks }) first
     × IsFetched (told trace) (trace, MAX_TRACE_BYTES) (record { faults = faults; asks = asks }) now second × (text ≡ explanation image first trace second s)
 
@@ -132,7 +141,7 @@ abbrev pub Explains : (List ℕ → Option (List ℕ)) → DeskState → DeskSta
 Explains told before now None s text = (text ≡ None) × (now ≡ before)
 Explains told before now (Some (Gen number)) s text = (text ≡ None) × (now ≡ before)
 Explains told before now (Some (From source)) s text = ExplainsSource told before now source s text
-Explains told before now (Some (Over (Replay image trace))) s text = ExplainsIf (is_refusal s) (ExplainsReplay told before now image trace s text) before now text
+Explains told before now (Some (Over (Traced task image trace))) s text = ExplainsIf (is_refusal s) (ExplainsTrace told before now image trace s text) before now text
 Explains told before now (Some (Over (Seed image cpus budget seed))) s text = ExplainsIf (is_refusal s) (ExplainsAlone told before now image s text) before now text
 Explains told before now (Some (Over (Listing image))) s text = ExplainsIf (is_refusal s) (ExplainsAlone told before now image s text) before now text
 

@@ -1,3 +1,4 @@
+pub mod RuleWords
 pub mod Texts
 pub mod ImageWords
 pub mod ElfWords

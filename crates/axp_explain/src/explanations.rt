@@ -6,7 +6,8 @@ ghost use Rattle.axp_top.specs.Words.{Asm, order_of};
 ghost use Rattle.axp_top.specs.declared.status.Status.TheVariants.{BadTrace, NotLegal};
 ghost use Rattle.axp_asm.specs.declared.layout.TheConstants.{MAX_SOURCE};
 ghost use Rattle.axp_explain.specs.Explanations.{Explains, ExplainsAlone, ExplainsLine};
-ghost use Rattle.axp_explain.specs.Explanations.{ExplainsReplay, ExplainsSource, cpus_in};
+ghost use Rattle.axp_explain.specs.Explanations.{ExplainsTrace, ExplainsSource, cpus_in};
+ghost use Rattle.axp_explain.specs.Explanations.{line_words};
 ghost use Rattle.axp_explain.specs.Explanations.{alone_explanation, explanation, line_explained};
 ghost use Rattle.axp_explain.specs.Explanations.{fetch_explained, image_explained, is_refusal};
 ghost use Rattle.axp_explain.specs.Explanations.{is_told, too_long_words, trace_explained};
@@ -19,6 +20,7 @@ use crate::image_faults::image_words;
 use crate::line_faults::{fault_words, line_at, line_fault};
 use crate::reasons::reason_words;
 use crate::refusals::reason_of_files;
+use crate::rules::rule_words;
 use crate::source_faults::source_words;
 use crate::texts::{decimal, joined, of_file, of_line};
 use axp_asm::MAX_SOURCE;
@@ -48,8 +50,10 @@ pub fn explain<D: Desk>(
     ensures stays { (n : List ℕ) → D.told desk.new n ≡ D.told desk.old n }
 {
     match read_words(words) {
-        Ok(Command::Replay { image, trace }) if is_refusal(status) => {
-            explain_replay(alloc, desk, image, trace, status)
+        Ok(Command::Replay { image, trace } | Command::Check { image, trace })
+            if is_refusal(status) =>
+        {
+            explain_trace_files(alloc, desk, image, trace, status)
         }
         Ok(Command::Seed { image, .. }) if is_refusal(status) => {
             explain_alone(alloc, desk, image, status)
@@ -74,6 +78,7 @@ fn is_refusal(status: Status) -> bool
         | Status::BadTrace { .. }
         | Status::NotLegal { .. }
         | Status::Differs { .. }
+        | Status::Violated { .. }
         | Status::Incomplete { .. }
         | Status::TooLong
         | Status::BadElf { .. }
@@ -81,14 +86,14 @@ fn is_refusal(status: Status) -> bool
     }
 }
 
-fn explain_replay<D: Desk>(
+fn explain_trace_files<D: Desk>(
     alloc: Global,
     desk: &mut D,
     image_path: &str,
     trace_path: &str,
     status: Status,
 ) -> Result<Option<Bytes>, NoMemory>
-    ensures text { IfOk result (λ text. ExplainsReplay (D.told desk.old)
+    ensures text { IfOk result (λ text. ExplainsTrace (D.told desk.old)
         (desk_state D.faults D.asks desk.old) (desk_state D.faults D.asks desk.new)
         image_path.now trace_path.now status text) }
     ensures stays { (n : List ℕ) → D.told desk.new n ≡ D.told desk.old n }
@@ -221,7 +226,7 @@ fn explain_bad_image(
     }
 }
 
-/// What is told of a status of a replay, by what was handed over of both files.
+/// What is told of a status of a command over a list or a trace, by what was handed over of both files.
 #[tactic(auto, unfolding(crate::specs::Explanations::explanation))]
 pub fn explanation(
     alloc: Global,
@@ -344,6 +349,9 @@ fn explain_trace(
             u64::from(event) + 1,
             b"the events end here, and a processor is not finished or a write waits in its buffer",
         )?)),
+        Status::Violated { rule, .. } => {
+            Ok(Some(of_file(alloc, path, rule_words(rule).as_bytes())?))
+        }
         _ => Ok(None),
     }
 }
@@ -358,8 +366,20 @@ fn explain_line(
     ensures { IfOk result (λ text. text
         ≡ trace_explained [] path.now (lines_of trace.now) (BadTrace line)) }
 {
-    let fault = line_fault(cpus_in(trace), line_at(trace, line));
-    Ok(Some(of_line(alloc, path, u64::from(line), fault_words(fault).as_bytes())?))
+    let words = line_words(trace, line);
+    Ok(Some(of_line(alloc, path, u64::from(line), words.as_bytes())?))
+}
+
+/// What is wrong with a line that is outside the grammar.
+fn line_words(trace: &[u8], line: u32) -> &'static str
+    ensures { result.now ≡ line_words (lines_of trace.now) line }
+{
+    let cpus = cpus_in(trace);
+    if line == 1 && cpus.is_some() {
+        "this is an event list, and a trace is needed: replay prints the trace of a list"
+    } else {
+        fault_words(line_fault(cpus, line_at(trace, line)))
+    }
 }
 
 /// Of an event that is not legal.

@@ -8,6 +8,7 @@ mod laws;
 mod line_faults;
 mod reasons;
 mod refusals;
+mod rules;
 mod source_faults;
 mod texts;
 

@@ -35,14 +35,17 @@ use Rattle.axp_seed.proofs.CompletionLemmas.{Ends, ends}
 use Rattle.axp_seed.specs.Seeds.{end_of, seeded_start}
 use Rattle.axp_top.specs.SeededRuns.{seeded_answer}
 use Rattle.axp_top.specs.Answers.{answer_by, answer_if_told, answer_of_files, answer_of_image, answer_of_trace, answer_over, answer_with, image_name, trace_told_by, first_bad, image_in, image_told, no_image, too_long, trace_told}
-use Rattle.axp_top.specs.Lawful.{AreRight, EventsEnd, IsCause, IsLawful, IsLawfulReplay, ShowsImage, ShowsSeeded, ShowsSummary, IsNotLegal, RefusesAll, ShowsRun, event_in, event_shown, image_of_file, image_over, lines_of_file}
+use Rattle.axp_top.specs.Lawful.{AreRight, EventsEnd, IsCause, IsLawful, IsLawfulCheck, IsLawfulOver, IsLawfulReplay, ShowsImage, ShowsSeeded, ShowsSummary, IsNotLegal, RefusesAll, ShowsRun, event_in, event_shown, image_of_file, image_over, lines_of_file}
+use Rattle.axp_top.specs.declared.trace_tasks.TraceTask.{TraceTask}
+use Rattle.axp_top.specs.declared.trace_tasks.TraceTask.TheVariants as tasks
+use Rattle.axp_top.specs.Checks.{checked_answer}
 use Rattle.axp_top.specs.Replays.{Answer, FileLine, Front, LineResult, OfTail, Recorded, Refused, answer_of_front, answer_of_header, answer_of_lines, answer_of_run, bad_trace, complete_ending, differs, ending_by, event_result, front_of, incomplete, is_in_order, is_other_memory, is_tail_line, next_line, not_legal, or_else, other_memory, refused_line, refused_or_whole, result_by, result_of, shown_result, tail_refusal}
 use Rattle.axp_elf.specs.Executables as executables
 use Rattle.axp_elf.specs.Faults as elf_faults
 use Rattle.axp_top.specs.ImageFiles.{answer_of_source, asm_answer_by, elf_answer_by, source_answer, source_limit, source_name, too_long_source}
 use Rattle.axp_summary.proofs.RoundLemmas.{whole_run}
 use Rattle.axp_top.specs.SummaryTexts.{summary_answer}
-use Rattle.axp_top.specs.Words.{Asm, Elf, From, Gen, ImageOrder, Listing, Order, Over, Replay, Seed, SourceOrder}
+use Rattle.axp_top.specs.Words.{Asm, Elf, From, Gen, ImageOrder, Listing, Order, Over, Seed, SourceOrder, Traced}
 
 -- ---- a line whose event is done
 
@@ -334,8 +337,13 @@ limited : (image : Contents) (ls : List FileLine) (long : Bool) (a : Answer) →
 limited image ls true a is = inl refl
 limited image ls false a is = is
 
-trace_lawful : (image : Contents) (bytes : List ℕ) → IsValid image → IsLawfulReplay image (lines_of bytes) (answer_of_trace image bytes)
-trace_lawful image bytes valid = limited image (lines_of bytes) (nat_lt MAX_TRACE_BYTES (length bytes)) (answer_of_lines image (lines_of bytes)) (lines_lawful image (lines_of bytes) valid)
+check_limited : (image : Contents) (ls : List FileLine) (long : Bool) → IsLawfulCheck image ls (cond long too_long (checked_answer image ls))
+check_limited image ls true = inl refl
+check_limited image ls false = inr refl
+
+trace_lawful : (task : TraceTask) (i t : List ℕ) (image : Contents) (bytes : List ℕ) → IsValid image → IsLawfulOver (Traced task i t) image (lines_of bytes) (answer_of_trace task image bytes)
+trace_lawful tasks.Check i t image bytes valid = check_limited image (lines_of bytes) (nat_lt MAX_TRACE_BYTES (length bytes))
+trace_lawful tasks.Replay i t image bytes valid = limited image (lines_of bytes) (nat_lt MAX_TRACE_BYTES (length bytes)) (answer_of_lines image (lines_of bytes)) (lines_lawful image (lines_of bytes) valid)
 
 fault_at_once : (f : Option Fault) → RefusesAll (first_bad f)
 fault_at_once None = refl
@@ -394,7 +402,7 @@ summary_lawful : (number : ℕ) → ShowsSummary number (summary_answer number)
 summary_lawful number = record { shown = refl; rounds = whole_run number }
 
 with_lawful : (order : ImageOrder) (image : Contents) (bytes : List ℕ) → IsValid image → IsLawful (Some (Over order)) (Some image) (lines_of bytes) (answer_with order image bytes)
-with_lawful (Replay i t) image bytes valid = trace_lawful image bytes valid
+with_lawful (Traced task i t) image bytes valid = trace_lawful task i t image bytes valid
 with_lawful (Seed i cpus budget seed) image bytes valid = λ few. seeded_lawful image cpus budget seed valid few
 with_lawful (Listing i) image bytes valid = refl
 
@@ -425,8 +433,8 @@ valid_in bytes all = in_limit (nat_lt MAX_IMAGE_BYTES (length bytes)) bytes all
 -- ---- over the lists that are told
 
 told_if_lawful : (order : ImageOrder) (image : Contents) (trace : Option (List ℕ)) → IsValid image → IfSome (answer_if_told order image trace) (IsLawful (Some (Over order)) (Some image) (lines_of_file trace))
-told_if_lawful (Replay i t) image None valid = tt
-told_if_lawful (Replay i t) image (Some bytes) valid = trace_lawful image bytes valid
+told_if_lawful (Traced task i t) image None valid = tt
+told_if_lawful (Traced task i t) image (Some bytes) valid = trace_lawful task i t image bytes valid
 told_if_lawful (Seed i cpus budget seed) image trace valid = λ few. seeded_lawful image cpus budget seed valid few
 told_if_lawful (Listing i) image trace valid = refl
 

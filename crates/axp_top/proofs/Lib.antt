@@ -1,3 +1,4 @@
+pub mod CheckLemmas
 -- what is printed: piece after piece, and line by line through an event list
 pub mod PrintingLemmas
 pub mod ReplayLemmas

@@ -13,6 +13,7 @@ in_range ws = by_order (order_of ws) refl where
       let says = order_says ws (words.Seed image cpus budget seed) is in
       record { least_cpus = says.2; most_cpus = says.3; least_budget = says.4; most_budget = says.5 }
   by_order (Some (words.Replay image trace)) is = tt
+  by_order (Some (words.Check image trace)) is = tt
   by_order (Some (words.Gen number)) is = tt
   by_order (Some (words.Asm file)) is = tt
   by_order (Some (words.Listing image)) is = tt

@@ -21,16 +21,17 @@ use Rattle.axp_trace.specs.Files.{lines_of}
 use Rattle.axp_top.specs.declared.limits.TheConstants.{MAX_IMAGE_BYTES, MAX_TRACE_BYTES}
 use Rattle.axp_top.specs.declared.status.Status.{Status}
 use Rattle.axp_top.specs.declared.status.Status.TheVariants as status
-use Rattle.axp_top.specs.Answers.{answer_by, answer_if_told, answer_of, answer_of_files, answer_of_image, answer_of_trace, answer_over, answer_with, image_name, more_asks, trace_told_by, asks_by, asks_of, bad_image, image_in, image_told, no_image, read_fault, too_long, trace_told, usage}
+use Rattle.axp_top.specs.Answers.{answer_by, answer_if_told, answer_of, answer_of_files, answer_of_image, answer_of_trace, answer_over, answer_to_lines, answer_with, image_name, more_asks, trace_told_by, asks_by, asks_of, bad_image, image_in, image_told, no_image, read_fault, too_long, trace_told, usage}
 use Rattle.axp_top.specs.Lawful.{IsLawful, image_of_file, image_over, lines_of_file}
 use Rattle.axp_top.specs.Outside.{DeskState, Outside, SinkState}
 use Rattle.axp_top.specs.Printing.{Ends}
-use Rattle.axp_top.specs.Replays.{Answer, answer_of_lines}
+use Rattle.axp_top.specs.declared.trace_tasks.TraceTask.{TraceTask}
+use Rattle.axp_top.specs.Replays.{Answer}
 use Rattle.axp_top.specs.Serving.{Course, FetchesImage, Serves, ServesTrace}
 use Rattle.axp_top.specs.Statuses.{AsksFailed, AsksFront, AsksInTurn, AsksNeeded, DeskCount, PutsEach, Settles, SettlesLawfully, SettlesSome, SinkCount}
 use Rattle.axp_top.specs.ImageFiles.{answer_of_source, source_answer, source_ask, source_limit, source_name}
 use Rattle.axp_top.specs.SummaryTexts.{summary_answer}
-use Rattle.axp_top.specs.Words.{From, Gen, ImageOrder, Listing, Order, Over, Replay, Seed, SourceOrder}
+use Rattle.axp_top.specs.Words.{From, Gen, ImageOrder, Listing, Order, Over, Seed, SourceOrder, Traced}
 use Rattle.axp_top.proofs.LawfulAnswerLemmas.{over_lawful, told_lawful, valid_in}
 use Rattle.axp_top.proofs.StatusLemmas.{IsAnswer, answer_is, asks_in_turn, asks_needed, desk_count, over_is, puts_each, settles, sink_count, source_is, trace_is, with_is}
 
@@ -102,37 +103,37 @@ unfound_course b n a asks same count some = inl (record { ends = inl same; count
 
 -- ---- the event list over an image
 
-pub trace_handed : (b n : Outside) (told : Option (List ℕ)) (ask : Ask) (image : Contents) (bytes slice : List ℕ) (s : Status) → slice ≡ bytes → IfSome told (λ t. FetchTold t MAX_TRACE_BYTES (Ok bytes)) → length bytes ≤ MAX_TRACE_BYTES → n.desk.faults ≡ b.desk.faults
-    → n.desk.asks ≡ b.desk.asks ++ ask ∷ [] → Ends b.sink n.sink (answer_of_lines image (lines_of slice)) s → ServesTrace told ask image b n s
-trace_handed b n told ask image bytes slice s same is short count asks ends = record {
+pub trace_handed : (b n : Outside) (task : TraceTask) (told : Option (List ℕ)) (ask : Ask) (image : Contents) (bytes slice : List ℕ) (s : Status) → slice ≡ bytes → IfSome told (λ t. FetchTold t MAX_TRACE_BYTES (Ok bytes)) → length bytes ≤ MAX_TRACE_BYTES → n.desk.faults ≡ b.desk.faults
+    → n.desk.asks ≡ b.desk.asks ++ ask ∷ [] → Ends b.sink n.sink (answer_to_lines task image (lines_of slice)) s → ServesTrace task told ask image b n s
+trace_handed b n task told ask image bytes slice s same is short count asks ends = record {
   list = bytes;
   is_told = handed_is told bytes MAX_TRACE_BYTES is;
-  course = handed_course b n (answer_of_trace image bytes) ask s count asks (rw (le-ltb MAX_TRACE_BYTES (length bytes) short) (subst (λ (x : List ℕ). Ends b.sink n.sink (answer_of_lines image (lines_of x)) s) same ends));
+  course = handed_course b n (answer_of_trace task image bytes) ask s count asks (rw (le-ltb MAX_TRACE_BYTES (length bytes) short) (subst (λ (x : List ℕ). Ends b.sink n.sink (answer_to_lines task image (lines_of x)) s) same ends));
 }
 
-pub trace_failed : (b n : Outside) (told : Option (List ℕ)) (ask : Ask) (image : Contents) (s : Status) (f : FetchFault) → f ≡ fetch.Failed → FetchCount b.desk.faults n.desk.faults (Err f) → FetchAsks b.desk.asks n.desk.asks ask (Err f)
-    → Ends b.sink n.sink read_fault s → ServesTrace told ask image b n s
-trace_failed b n told ask image s f is count asks ends = record { list = told_or_none told; is_told = told_is told; course = failed_course b n (answer_of_trace image (told_or_none told)) ask [] s f is count asks ends }
+pub trace_failed : (b n : Outside) (task : TraceTask) (told : Option (List ℕ)) (ask : Ask) (image : Contents) (s : Status) (f : FetchFault) → f ≡ fetch.Failed → FetchCount b.desk.faults n.desk.faults (Err f) → FetchAsks b.desk.asks n.desk.asks ask (Err f)
+    → Ends b.sink n.sink read_fault s → ServesTrace task told ask image b n s
+trace_failed b n task told ask image s f is count asks ends = record { list = told_or_none told; is_told = told_is told; course = failed_course b n (answer_of_trace task image (told_or_none told)) ask [] s f is count asks ends }
 
-pub trace_long : (b n : Outside) (told : Option (List ℕ)) (ask : Ask) (image : Contents) (s : Status) (f : FetchFault) → f ≡ fetch.TooLong → IfSome told (λ t. FetchTold t MAX_TRACE_BYTES (Err f)) → FetchCount b.desk.faults n.desk.faults (Err f)
-    → FetchAsks b.desk.asks n.desk.asks ask (Err f) → Ends b.sink n.sink too_long s → ServesTrace told ask image b n s
-trace_long b n told ask image s fetch.TooLong is long count asks ends = record {
+pub trace_long : (b n : Outside) (task : TraceTask) (told : Option (List ℕ)) (ask : Ask) (image : Contents) (s : Status) (f : FetchFault) → f ≡ fetch.TooLong → IfSome told (λ t. FetchTold t MAX_TRACE_BYTES (Err f)) → FetchCount b.desk.faults n.desk.faults (Err f)
+    → FetchAsks b.desk.asks n.desk.asks ask (Err f) → Ends b.sink n.sink too_long s → ServesTrace task told ask image b n s
+trace_long b n task told ask image s fetch.TooLong is long count asks ends = record {
   list = told_or_long MAX_TRACE_BYTES told;
   is_told = told_long_is MAX_TRACE_BYTES told;
   course = rw (lt-ltb MAX_TRACE_BYTES (length (told_or_long MAX_TRACE_BYTES told)) (is_longer MAX_TRACE_BYTES told long)) (handed_course b n too_long ask s count asks ends);
 }
-trace_long b n told ask image s fetch.Failed is long count asks ends = cc
-trace_long b n told ask image s fetch.Memory is long count asks ends = cc
+trace_long b n task told ask image s fetch.Failed is long count asks ends = cc
+trace_long b n task told ask image s fetch.Memory is long count asks ends = cc
 
-pub trace_unfound : (b n : Outside) (told : Option (List ℕ)) (ask : Ask) (image : Contents) (f : FetchFault) → f ≡ fetch.Memory → n.sink ≡ b.sink → FetchCount b.desk.faults n.desk.faults (Err f) → FetchAsks b.desk.asks n.desk.asks ask (Err f)
-    → ServesTrace told ask image b n status.Memory
-trace_unfound b n told ask image fetch.Memory is same count asks = record {
+pub trace_unfound : (b n : Outside) (task : TraceTask) (told : Option (List ℕ)) (ask : Ask) (image : Contents) (f : FetchFault) → f ≡ fetch.Memory → n.sink ≡ b.sink → FetchCount b.desk.faults n.desk.faults (Err f) → FetchAsks b.desk.asks n.desk.asks ask (Err f)
+    → ServesTrace task told ask image b n status.Memory
+trace_unfound b n task told ask image fetch.Memory is same count asks = record {
   list = told_or_none told;
   is_told = told_is told;
-  course = unfound_course b n (answer_of_trace image (told_or_none told)) (ask ∷ []) same count (memory_front b.desk.asks n.desk.asks ask asks);
+  course = unfound_course b n (answer_of_trace task image (told_or_none told)) (ask ∷ []) same count (memory_front b.desk.asks n.desk.asks ask asks);
 }
-trace_unfound b n told ask image fetch.Failed is same count asks = cc
-trace_unfound b n told ask image fetch.TooLong is same count asks = cc
+trace_unfound b n task told ask image fetch.Failed is same count asks = cc
+trace_unfound b n task told ask image fetch.TooLong is same count asks = cc
 
 -- ---- both files
 
@@ -304,14 +305,14 @@ then_course b between n a ask more s same count asks (inr h) = inr (record {
 told_before : (now before : Option (List ℕ)) (bytes : List ℕ) → now ≡ before → IfSome now (λ t. bytes ≡ t) → IfSome before (λ t. bytes ≡ t)
 told_before now before bytes same is = subst (λ (o : Option (List ℕ)). IfSome o (λ t. bytes ≡ t)) same is
 
-pub files_served : (told told' : List ℕ → Option (List ℕ)) (b between n : Outside) (first second : List ℕ) (image : Contents) (s : Status) → FetchesImage told first b between image → ((name : List ℕ) → told' name ≡ told name)
-    → ServesTrace (told' second) (second, MAX_TRACE_BYTES) image between n s → Serves told (Some (Over (Replay first second))) b n s
-files_served told told' b between n first second image s fetched stays h = record {
+pub files_served : (told told' : List ℕ → Option (List ℕ)) (b between n : Outside) (task : TraceTask) (first second : List ℕ) (image : Contents) (s : Status) → FetchesImage told first b between image → ((name : List ℕ) → told' name ≡ told name)
+    → ServesTrace task (told' second) (second, MAX_TRACE_BYTES) image between n s → Serves told (Some (Over (Traced task first second))) b n s
+files_served told told' b between n task first second image s fetched stays h = record {
   image = fetched.file;
   trace = h.list;
   image_is_told = fetched.is_told;
   trace_is_told = told_before (told' second) (told second) h.list (stays second) h.is_told;
-  course = rw fetched.read (then_course b between n (answer_of_trace image h.list) (first, MAX_IMAGE_BYTES) ((second, MAX_TRACE_BYTES) ∷ []) s fetched.sink fetched.count fetched.asks h.course);
+  course = rw fetched.read (then_course b between n (answer_of_trace task image h.list) (first, MAX_IMAGE_BYTES) ((second, MAX_TRACE_BYTES) ∷ []) s fetched.sink fetched.count fetched.asks h.course);
   sure = inl (rw fetched.read fetched.valid);
 }
 
@@ -378,8 +379,8 @@ record IsServed (b n : Outside) (s : Status) (a : Answer) : Type 0 where
   pub course : Course b n a asks s
 
 told_if_served : (b n : Outside) (asks : List Ask) (s : Status) (order : ImageOrder) (image : Contents) (trace : List ℕ) (told : Option (List ℕ)) → IfSome told (λ t. trace ≡ t) → Course b n (answer_with order image trace) asks s → IfSome (answer_if_told order image told) (IsServed b n s)
-told_if_served b n asks s (Replay i t) image trace None is h = tt
-told_if_served b n asks s (Replay i t) image trace (Some list) is h = subst (λ (x : List ℕ). IsServed b n s (answer_of_trace image x)) is (record { is = trace_is image trace; asks = asks; course = h })
+told_if_served b n asks s (Traced task i t) image trace None is h = tt
+told_if_served b n asks s (Traced task i t) image trace (Some list) is h = subst (λ (x : List ℕ). IsServed b n s (answer_of_trace task image x)) is (record { is = trace_is task image trace; asks = asks; course = h })
 told_if_served b n asks s (Seed i cpus budget seed) image trace told is h = record { is = with_is (Seed i cpus budget seed) image trace; asks = asks; course = h }
 told_if_served b n asks s (Listing i) image trace told is h = record { is = with_is (Listing i) image trace; asks = asks; course = h }
 

@@ -11,7 +11,7 @@ use Rattle.axp_access.specs.declared.tail_items.TailItem.{TailItem}
 use Rattle.axp_cpu.specs.declared.refusals.NotLegal.{NotLegal}
 use Rattle.axp_asm.specs.Listings.{listing}
 use Rattle.axp_asm.specs.Sources.{assembled}
-use Rattle.axp_image.specs.Contents.{Contents}
+use Rattle.axp_image.specs.Contents.{Contents, byte_in}
 use Rattle.axp_image.specs.Spelling.{spelling}
 use Rattle.axp_image.specs.Faults.{Fault, first_fault}
 use Rattle.axp_io.specs.Causes.{AppendsFront, Ask, Rose, raised}
@@ -31,10 +31,18 @@ use Rattle.axp_top.specs.declared.status.Status.{Status}
 use Rattle.axp_top.specs.declared.status.Status.TheVariants as status
 use Rattle.axp_seed.specs.Seeds.{end_of, seeded_start}
 use Rattle.axp_top.specs.SeededRuns.{whole_answer}
-use Rattle.axp_top.specs.Answers.{answer_by, answer_of_trace, answer_over, answer_with, more_asks, asks_by, asks_of, first_bad, image_in, no_image, read_fault, too_long, usage}
+use Rattle.axp_top.specs.Answers.{answer_by, answer_of_trace, answer_to_lines, answer_over, answer_with, more_asks, asks_by, asks_of, first_bad, image_in, no_image, read_fault, too_long, usage}
 use Rattle.axp_top.specs.Lawful.{image_over}
 use Rattle.axp_top.specs.Outside.{Outside, SinkState}
 use Rattle.axp_top.specs.Printing.{Ends, LacksAt, Stopped, StopsAt, after_puts, stop_of}
+use Rattle.axp_check.specs.declared.Verdict.{Verdict}
+use Rattle.axp_check.specs.declared.Verdict.TheVariants.{Consistent, Violated}
+use Rattle.axp_check.specs.Verdicts.{verdict}
+use Rattle.axp_history.specs.Shown.{list_of}
+use Rattle.axp_history.specs.Traces.{BadLine, Records, Shown, trace_shown}
+use Rattle.axp_top.specs.declared.trace_tasks.TraceTask.{TraceTask}
+use Rattle.axp_top.specs.declared.trace_tasks.TraceTask.TheVariants as tasks
+use Rattle.axp_top.specs.Checks.{answer_of_shown, verdict_answer}
 use Rattle.axp_top.specs.Replays.{Answer, FileLine, LineResult, OfTail, Recorded, Refused, answer_in_one_line, answer_of_header, answer_of_lines, answer_of_run, answer_of_start, bad_trace, complete_ending, differs, ending_by, ending_of, event_result, front_of, incomplete, is_in_order, is_other_memory, is_tail_line, item_refusal, next_line, not_legal, or_else, other_memory, refused_line, refused_or_whole, result_by, result_of, shown_result, tail_refusal}
 use Rattle.axp_top.specs.Serving.{Course}
 use Rattle.axp_top.specs.Statuses.{AsksFailed, AsksFront, AsksInTurn, AsksNeeded, DeskCount, PutsEach, PutsLines, Settles, SinkCount}
@@ -44,7 +52,7 @@ use Rattle.axp_elf.specs.Executables as executables
 use Rattle.axp_elf.specs.Faults as elf_faults
 use Rattle.axp_top.specs.ImageFiles.{answer_of_source, asm_answer_by, elf_answer_by, source_answer, source_ask, source_limit}
 use Rattle.axp_top.specs.SummaryTexts.{all_count_lines, events_text, summary_answer, title_text}
-use Rattle.axp_top.specs.Words.{Asm, Elf, From, Gen, ImageOrder, Listing, Order, Over, Replay, Seed, SourceOrder}
+use Rattle.axp_top.specs.Words.{Asm, Elf, From, Gen, ImageOrder, Listing, Order, Over, Seed, SourceOrder, Traced}
 
 -- ---- answers
 
@@ -186,8 +194,20 @@ by_length : (long : Bool) (a : Answer) → IsAnswer a → IsAnswer (cond long to
 by_length true a is = long_is
 by_length false a is = is
 
-pub trace_is : (image : Contents) (bytes : List ℕ) → IsAnswer (answer_of_trace image bytes)
-trace_is image bytes = by_length (nat_lt MAX_TRACE_BYTES (length bytes)) (answer_of_lines image (lines_of bytes)) (lines_are image (lines_of bytes))
+verdict_is : (v : Verdict) → IsAnswer (verdict_answer v)
+verdict_is Consistent = record { differs = no_fault status.Done refl; some = omega arith }
+verdict_is (Violated rule first second) = one_is (status.Violated rule first second) _ refl
+
+shown_is : (image : Contents) (shown : Shown) → IsAnswer (answer_of_shown image shown)
+shown_is image (Records h) = verdict_is (verdict (byte_in image.segments) (list_of 0 h))
+shown_is image (BadLine n) = one_is (status.BadTrace n) _ refl
+
+to_lines_is : (task : TraceTask) (image : Contents) (ls : List FileLine) → IsAnswer (answer_to_lines task image ls)
+to_lines_is tasks.Replay image ls = lines_are image ls
+to_lines_is tasks.Check image ls = shown_is image (trace_shown ls)
+
+pub trace_is : (task : TraceTask) (image : Contents) (bytes : List ℕ) → IsAnswer (answer_of_trace task image bytes)
+trace_is task image bytes = by_length (nat_lt MAX_TRACE_BYTES (length bytes)) (answer_to_lines task image (lines_of bytes)) (to_lines_is task image (lines_of bytes))
 
 fault_is : (f : Option Fault) → IsAnswer (first_bad f)
 fault_is None = long_is
@@ -205,7 +225,7 @@ piece_is : (piece : List ℕ) → IsAnswer (record { status = status.Done; lines
 piece_is piece = record { differs = no_fault status.Done refl; some = omega arith }
 
 pub with_is : (order : ImageOrder) (image : Contents) (bytes : List ℕ) → IsAnswer (answer_with order image bytes)
-with_is (Replay i t) image bytes = trace_is image bytes
+with_is (Traced task i t) image bytes = trace_is task image bytes
 with_is (Seed i cpus budget seed) image bytes = whole_is (end_of (seeded_start image cpus budget seed))
 with_is (Listing i) image bytes = piece_is (listing image)
 

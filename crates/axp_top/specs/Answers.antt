@@ -8,11 +8,14 @@ use Rattle.axp_trace.specs.Files.{lines_of}
 use Rattle.axp_trace.specs.Lines.{bad_image_line, read_fault_line, too_long_line, usage_line}
 use Rattle.axp_top.specs.declared.status.Status.TheVariants as status
 use Rattle.axp_top.specs.declared.limits.TheConstants.{MAX_IMAGE_BYTES, MAX_TRACE_BYTES}
-use Rattle.axp_top.specs.Replays.{Answer, answer_in_one_line, answer_of_lines}
+use Rattle.axp_top.specs.declared.trace_tasks.TraceTask.{TraceTask}
+use Rattle.axp_top.specs.declared.trace_tasks.TraceTask.TheVariants as task
+use Rattle.axp_top.specs.Checks.{checked_answer}
+use Rattle.axp_top.specs.Replays.{Answer, FileLine, answer_in_one_line, answer_of_lines}
 use Rattle.axp_top.specs.ImageFiles.{listing_answer, source_answer, source_ask, source_name}
 use Rattle.axp_top.specs.SeededRuns.{seeded_answer}
 use Rattle.axp_top.specs.SummaryTexts.{summary_answer}
-use Rattle.axp_top.specs.Words.{From, Gen, ImageOrder, Listing, Order, Over, Replay, Seed}
+use Rattle.axp_top.specs.Words.{From, Gen, ImageOrder, Listing, Order, Over, Seed, Traced}
 
 abbrev pub usage : Answer
 usage = answer_in_one_line status.Usage usage_line
@@ -39,12 +42,17 @@ no_image bytes = if nat_lt MAX_IMAGE_BYTES (length bytes) then too_long else fir
 abbrev pub image_in : List ℕ → Option Contents
 image_in bytes = if nat_lt MAX_IMAGE_BYTES (length bytes) then None else image_of bytes
 
-abbrev pub answer_of_trace : Contents → List ℕ → Answer
-answer_of_trace image bytes = if nat_lt MAX_TRACE_BYTES (length bytes) then too_long else answer_of_lines image (lines_of bytes)
+-- what comes of the lines of a list or trace
+abbrev pub answer_to_lines : TraceTask → Contents → List FileLine → Answer
+answer_to_lines task.Replay image ls = answer_of_lines image ls
+answer_to_lines task.Check image ls = checked_answer image ls
+
+abbrev pub answer_of_trace : TraceTask → Contents → List ℕ → Answer
+answer_of_trace t image bytes = if nat_lt MAX_TRACE_BYTES (length bytes) then too_long else answer_to_lines t image (lines_of bytes)
 
 -- what a command answers over an image, by the second file; a seeded run and a listing have none
 abbrev pub answer_with : ImageOrder → Contents → List ℕ → Answer
-answer_with (Replay image trace) contents list = answer_of_trace contents list
+answer_with (Traced t image trace) contents list = answer_of_trace t contents list
 answer_with (Seed image cpus budget seed) contents list = seeded_answer contents cpus budget seed
 answer_with (Listing image) contents list = listing_answer contents
 
@@ -62,8 +70,8 @@ answer_over (Some (Over order)) first trace = answer_by order first (image_in fi
 
 -- the second file of a command that has one, None where the desk does not tell it
 abbrev pub answer_if_told : ImageOrder → Contents → Option (List ℕ) → Option Answer
-answer_if_told (Replay image trace) contents None = None
-answer_if_told (Replay image trace) contents (Some list) = Some (answer_of_trace contents list)
+answer_if_told (Traced t image trace) contents None = None
+answer_if_told (Traced t image trace) contents (Some list) = Some (answer_of_trace t contents list)
 answer_if_told (Seed image cpus budget seed) contents list = Some (seeded_answer contents cpus budget seed)
 answer_if_told (Listing image) contents list = Some (listing_answer contents)
 
@@ -78,7 +86,7 @@ answer_of_files order (Some first) trace = answer_of_image order first (image_in
 
 -- the name of a command's image
 abbrev pub image_name : ImageOrder → List ℕ
-image_name (Replay image trace) = image
+image_name (Traced t image trace) = image
 image_name (Seed image cpus budget seed) = image
 image_name (Listing image) = image
 
@@ -90,7 +98,7 @@ image_told (Some (From source)) told = told (source_name source)
 image_told (Some (Over order)) told = told (image_name order)
 
 abbrev pub trace_told_by : ImageOrder → (List ℕ → Option (List ℕ)) → Option (List ℕ)
-trace_told_by (Replay image trace) told = told trace
+trace_told_by (Traced t image trace) told = told trace
 trace_told_by (Seed image cpus budget seed) told = None
 trace_told_by (Listing image) told = None
 
@@ -111,7 +119,7 @@ answer_of (Some (Over order)) told = answer_of_files order (told (image_name ord
 
 -- the asks behind that for the image
 abbrev pub more_asks : ImageOrder → List Ask
-more_asks (Replay image trace) = (trace, MAX_TRACE_BYTES) ∷ []
+more_asks (Traced t image trace) = (trace, MAX_TRACE_BYTES) ∷ []
 more_asks (Seed image cpus budget seed) = []
 more_asks (Listing image) = []
 

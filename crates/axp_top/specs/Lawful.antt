@@ -16,7 +16,9 @@ use Rattle.axp_trace.specs.Reading.{header_of}
 use Rattle.axp_trace.specs.TraceLines.{line_of}
 use Rattle.axp_top.specs.declared.status.Status.{Status}
 use Rattle.axp_top.specs.declared.status.Status.TheVariants as status
+use Rattle.axp_top.specs.declared.trace_tasks.TraceTask.TheVariants as task
 use Rattle.axp_top.specs.Answers.{image_in}
+use Rattle.axp_top.specs.Checks.{checked_answer}
 use Rattle.axp_top.specs.Replays.{Answer, FileLine, Refused, next_line, other_memory, result_of, tail_refusal}
 use Rattle.axp_top.specs.Texts.{lines}
 use Rattle.axp_base.specs.declared.processors.TheConstants.{MAX_CPUS}
@@ -26,7 +28,7 @@ use Rattle.axp_summary.specs.Rounds.{IsWholeRun, end_of_round}
 use Rattle.axp_top.specs.ImageFiles.{image_answer, listing_answer}
 use Rattle.axp_top.specs.SeededRuns.{whole_answer}
 use Rattle.axp_top.specs.SummaryTexts.{summary_answer}
-use Rattle.axp_top.specs.Words.{From, Gen, ImageOrder, Listing, Order, Over, Replay, Seed}
+use Rattle.axp_top.specs.Words.{From, Gen, ImageOrder, Listing, Order, Over, Seed, Traced}
 
 -- the event that a line shows, of a list or of a trace
 abbrev pub event_shown : Option TraceLine → Option Event
@@ -148,9 +150,15 @@ pub record ShowsSeeded (image : Contents) (cpus budget seed : ℕ) (answer : Ans
   pub run : IsRun machine
   pub constraints : KeepsConstraints machine
 
+-- an answer to a trace of these lines tells the verdict on its accesses, or its first line outside the grammar, or
+-- refuses all
+abbrev pub IsLawfulCheck : Contents → List FileLine → Answer → Type 0
+IsLawfulCheck image ls answer = RefusesAll answer ⊎ (answer ≡ checked_answer image ls)
+
 -- by the command, over an image; a listing shows no run
 abbrev pub IsLawfulOver : ImageOrder → Contents → List FileLine → Answer → Type 0
-IsLawfulOver (Replay i t) image ls answer = IsLawfulReplay image ls answer
+IsLawfulOver (Traced task.Replay i t) image ls answer = IsLawfulReplay image ls answer
+IsLawfulOver (Traced task.Check i t) image ls answer = IsLawfulCheck image ls answer
 IsLawfulOver (Seed i cpus budget seed) image ls answer = cpus ≤ MAX_CPUS → ShowsSeeded image cpus budget seed answer
 IsLawfulOver (Listing i) image ls answer = answer ≡ listing_answer image
 

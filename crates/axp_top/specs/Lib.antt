@@ -3,6 +3,7 @@ pub mod Outside
 pub mod Texts
 pub mod Replays
 pub mod Answers
+pub mod Checks
 pub mod Printing
 pub mod Walks
 pub mod Lawful

@@ -1,15 +1,10 @@
 -- What `replay` prints of an event list, or of a trace that it compares with the right one. The earliest line
 -- decides; of one line grammar comes first, then legality, then difference.
-use Rattle.std.specs.Prelude.{ℕ, ◌+◌, ◌==◌, Bool, true, false, not, ◌&&◌, List, [], ◌∷◌, ◌++◌, length, Option, Some, None, Result, Ok, Err, if◌then◌else◌}
+use Rattle.std.specs.Prelude.{ℕ, ◌+◌, ◌==◌, Bool, not, ◌&&◌, List, [], ◌∷◌, ◌++◌, length, Option, Some, None, Result, Ok, Err, if◌then◌else◌}
 use Rattle.std.specs.List.{concat}
 use Rattle.std.specs.Str.{bytes_eq}
-use Rattle.axp_access.specs.declared.EntryState.{EntryState}
-use Rattle.axp_access.specs.declared.EntryState.TheVariants.{Waiting, Drained}
 use Rattle.axp_access.specs.declared.Event.{Event}
 use Rattle.axp_access.specs.declared.Outcome.{Outcome}
-use Rattle.axp_access.specs.declared.Outcome.TheVariants as outcome
-use Rattle.axp_access.specs.declared.Place.{Place}
-use Rattle.axp_access.specs.declared.Place.TheVariants.{Entry}
 use Rattle.axp_access.specs.declared.Record.{Record}
 use Rattle.axp_access.specs.declared.tail_items.TailItem.{TailItem}
 use Rattle.axp_base.specs.Cpus.{cpu_number}
@@ -17,13 +12,14 @@ use Rattle.axp_cpu.specs.declared.refusals.NotLegal.{NotLegal}
 use Rattle.axp_image.specs.Contents.{Contents}
 use Rattle.axp_machine.specs.Runs.{Seen, started, answer_of, with_record, is_complete}
 use Rattle.axp_machine.specs.Tails.{tail_items}
-use Rattle.axp_model.specs.EntryStates.{entry_state}
 use Rattle.axp_trace.specs.declared.headers.Header.{Header}
 use Rattle.axp_trace.specs.declared.lines.TraceLine.{TraceLine}
 use Rattle.axp_trace.specs.declared.lines.TraceLine.TheVariants.{Bare, Full, Tail}
 use Rattle.axp_trace.specs.Lines.{with_feed, bad_trace_line, differs_line, given_line, incomplete_line, line_text, not_legal_line, right_line, tail_line}
 use Rattle.axp_trace.specs.Reading.{header_of}
 use Rattle.axp_trace.specs.TraceLines.{line_of}
+pub use Rattle.axp_history.specs.Entries.{is_undrained, is_waiting, names_well}
+pub use Rattle.axp_history.specs.Traces.{FileLine, is_tail_line}
 use Rattle.axp_top.specs.declared.status.Status.{Status}
 use Rattle.axp_top.specs.declared.status.Status.TheVariants as status
 use Rattle.axp_top.specs.Texts.{Lines, lines, right_header, tail, record_text}
@@ -62,33 +58,11 @@ differs n given right = record {
 
 -- ---- one line
 
--- a line of a file, without its line feed; None: a last line that has none
-abbrev pub FileLine : Type 0
-FileLine = Option (List ℕ)
-
 -- the number of the line behind a machine's records: the header is the first
 abbrev pub next_line : Seen → ℕ
 next_line m = length m.records + 2
 
--- a write names no entry that a drain named before it
-abbrev pub is_undrained : EntryState → Bool
-is_undrained Drained = false
-is_undrained _ = true
-
--- a drain names an entry that a write named before it, and no drain
-abbrev pub is_waiting : EntryState → Bool
-is_waiting Waiting = true
-is_waiting _ = false
-
-abbrev pub is_placed_well : ℕ → Place → List Record → Bool
-is_placed_well p (Entry n) h = is_undrained (entry_state p n h)
-is_placed_well p _ h = true
-
-abbrev pub names_well : ℕ → Outcome → List Record → Bool
-names_well p (outcome.Access a) h = is_placed_well p a.place h
-names_well p (outcome.Drained n line turn) h = is_waiting (entry_state p n h)
-names_well p _ h = true
-
+-- a line's outcome names entries as the lines before it allow
 abbrev pub is_in_order : Seen → Event → Outcome → Bool
 is_in_order m e o = names_well (cpu_number e.cpu) o m.records
 
@@ -164,11 +138,6 @@ front_lines h m [] = []
 front_lines h m (l ∷ ls) = by_result (result_of h m l) (λ r. record_text r ∷ front_lines h (with_record m r) ls) [] (λ a. a.lines)
 
 -- ---- the tail of a trace
-
--- the line is one of a tail
-abbrev pub is_tail_line : Option TraceLine → Bool
-is_tail_line (Some Tail) = true
-is_tail_line _ = false
 
 -- why a line of the tail is refused that has this number, and should be this one
 abbrev pub item_refusal : Header → ℕ → List ℕ → List ℕ → Option Answer

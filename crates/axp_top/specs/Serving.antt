@@ -4,6 +4,7 @@ use Rattle.axp_image.specs.Contents.{Contents, IsValid}
 use Rattle.axp_io.specs.Causes.{Ask, raised}
 use Rattle.axp_top.specs.declared.limits.TheConstants.{MAX_IMAGE_BYTES}
 use Rattle.axp_top.specs.declared.status.Status.{Status}
+use Rattle.axp_top.specs.declared.trace_tasks.TraceTask.{TraceTask}
 use Rattle.axp_top.specs.declared.status.Status.TheVariants as status
 use Rattle.axp_top.specs.Answers.{answer_of_trace, answer_over, asks_by, image_in, image_name, image_told, read_fault, trace_told}
 use Rattle.axp_top.specs.Lawful.{image_over}
@@ -30,10 +31,10 @@ abbrev pub Course : Outside → Outside → Answer → List Ask → Status → T
 Course before now answer asks s = EndsAs before now answer asks s ⊎ EndsUnread before now asks s
 
 -- the work over an image, by a list that may have been handed over for this ask: the told one where it is told
-pub record ServesTrace (told : Option (List ℕ)) (ask : Ask) (image : Contents) (before now : Outside) (s : Status) : Type 0 where
+pub record ServesTrace (task : TraceTask) (told : Option (List ℕ)) (ask : Ask) (image : Contents) (before now : Outside) (s : Status) : Type 0 where
   pub list : List ℕ
   pub is_told : IfSome told (λ bytes. list ≡ bytes)
-  pub course : Course before now (answer_of_trace image list) (ask ∷ []) s
+  pub course : Course before now (answer_of_trace task image list) (ask ∷ []) s
 
 -- The work of a command, by two lists that may have been handed over, the told ones where they are told. The
 -- image in the first is valid; or this would be the course over every other file.

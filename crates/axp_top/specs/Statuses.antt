@@ -137,5 +137,6 @@ number_of_status (status.Differs n) = 7
 number_of_status (status.Incomplete n) = 9
 number_of_status status.TooLong = 10
 number_of_status status.Memory = 11
+number_of_status (status.Violated rule first second) = 8
 number_of_status (status.BadElf field offset) = 14
 number_of_status (status.BadSource n) = 15

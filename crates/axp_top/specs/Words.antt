@@ -1,11 +1,13 @@
 -- The commands that are built.
 use Rattle.std.specs.Prelude.{ℕ, List, Option, Some, None}
 use Rattle.axp_words.specs.Words as words
+use Rattle.axp_top.specs.declared.trace_tasks.TraceTask.{TraceTask}
+use Rattle.axp_top.specs.declared.trace_tasks.TraceTask.TheVariants as task
 
 -- a command over an image, without where its words lie
 pub data ImageOrder : Type 0 where
-  -- the trace of the events that a file lists
-  Replay : List ℕ → List ℕ → ImageOrder
+  -- what is done with the list or trace in a second file
+  Traced : TraceTask → List ℕ → List ℕ → ImageOrder
   -- the trace of the run that a seed defines: how many processors, the budget of steps of each, and the seed
   Seed : List ℕ → ℕ → ℕ → ℕ → ImageOrder
   -- the listing of the image
@@ -27,7 +29,8 @@ pub data Order : Type 0 where
 
 abbrev pub order_in : Option words.Order → Option Order
 order_in None = None
-order_in (Some (words.Replay image trace)) = Some (Over (Replay image trace))
+order_in (Some (words.Replay image trace)) = Some (Over (Traced task.Replay image trace))
+order_in (Some (words.Check image trace)) = Some (Over (Traced task.Check image trace))
 order_in (Some (words.Seed image cpus budget seed)) = Some (Over (Seed image cpus budget seed))
 order_in (Some (words.Gen number)) = Some (Gen number)
 order_in (Some (words.Elf file memory stack table)) = Some (From (Elf file memory stack table))

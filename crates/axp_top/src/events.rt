@@ -3,15 +3,16 @@ ghost use Rattle.std.specs.Prelude.{◌≡◌, ◌+◌, ◌^◌, ◌<◌, Some};
 ghost use Rattle.axp_access.specs.Spelling.{Spells};
 ghost use Rattle.axp_machine.specs.Runs.{answer_of};
 ghost use Rattle.axp_top.specs.Outside.{sink_state};
-ghost use Rattle.axp_top.specs.Replays.{event_result, full_result, is_in_order, is_undrained};
-ghost use Rattle.axp_top.specs.Replays.{is_waiting, next_line, refused_event, refused_line};
+ghost use Rattle.axp_top.specs.Replays.{event_result, full_result, is_in_order};
+ghost use Rattle.axp_top.specs.Replays.{next_line, refused_event, refused_line};
 ghost use Rattle.axp_top.specs.Replays.{result_of, right_result};
 ghost use Rattle.axp_top.specs.Walks.{PrintsLine, PrintsStep};
 
 use crate::Status;
 use crate::printing::{Stop, print_line};
 use crate::refusals::{print_bad_trace, print_difference, print_not_legal};
-use axp_access::{EntryState, Event, Outcome, Place, Record};
+use axp_access::{Event, Outcome, Place, Record};
+use axp_history::{is_undrained, is_waiting};
 use axp_io::Sink;
 use axp_machine::{Machine, NotLegal};
 use axp_trace::{Header, TraceLine, read_line, write_event};
@@ -159,25 +160,5 @@ fn is_in_order(machine: &Machine, event: Event, outcome: Outcome) -> bool
         | Outcome::Taken { .. }
         | Outcome::Done
         | Outcome::Polled { .. } => true,
-    }
-}
-
-/// Whether no drain named an entry.
-fn is_undrained(state: EntryState) -> bool
-    ensures { result ≡ is_undrained state }
-{
-    match state {
-        EntryState::Unwritten | EntryState::Waiting => true,
-        EntryState::Drained => false,
-    }
-}
-
-/// Whether a write named an entry, and no drain.
-fn is_waiting(state: EntryState) -> bool
-    ensures { result ≡ is_waiting state }
-{
-    match state {
-        EntryState::Waiting => true,
-        EntryState::Unwritten | EntryState::Drained => false,
     }
 }

@@ -2,6 +2,7 @@
 //! say, and answers with a status.
 #![tactic(auto)]
 
+mod checks;
 mod events;
 mod executables;
 mod file_tail;
@@ -19,6 +20,7 @@ mod summaries;
 mod tail;
 #[cfg(test)]
 mod tests;
+mod trace_tasks;
 
 pub use axp_words::Word;
 pub use laws::{limits_of_files, no_fault_gives_the_whole_text};

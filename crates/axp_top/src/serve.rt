@@ -13,17 +13,17 @@ ghost use Rattle.axp_words.specs.Commands as commands;
 ghost use Rattle.axp_top.specs.Statuses.{AsksInTurn, AsksNeeded, DeskCount, PutsEach, SinkCount};
 ghost use Rattle.axp_top.specs.Statuses.{Settles, SettlesLawfully, SettlesSome};
 ghost use Rattle.axp_top.specs.SeededRuns.{AreInRange, IsInRange};
-ghost use Rattle.axp_top.specs.Words.{Asm, Elf, From, Listing, Over, Replay, Seed};
+ghost use Rattle.axp_top.specs.Words.{Asm, Elf, From, Listing, Over, Seed, Traced};
 ghost use Rattle.axp_top.specs.Words.{order_in, order_of};
 
 use crate::Status;
 use crate::executables::print_executable;
 use crate::limits::{MAX_IMAGE_BYTES, MAX_TRACE_BYTES};
 use crate::printing::refuse;
-use crate::replay::replay;
 use crate::seeds::print_seed;
 use crate::sources::{print_assembled, print_listing};
 use crate::summaries::print_summary;
+use crate::trace_tasks::{TraceTask, do_task};
 use axp_asm::MAX_SOURCE;
 use axp_image::{Image, ImageError, ImageKind, read_image};
 use axp_io::{Desk, FetchFault, Sink};
@@ -33,8 +33,8 @@ use std::alloc::Global;
 
 /// Does what the words say, and answers how it ended.
 ///
-/// The words are `replay IMAGE TRACE`, where TRACE names an event list or a trace, `seed IMAGE CPUS
-/// BUDGET SEED`, `gen NUMBER`, `elf FILE MEMORY STACK TABLE`, `asm FILE` or `list IMAGE`. An image is
+/// The words are `replay IMAGE TRACE`, where TRACE names an event list or a trace, `check IMAGE TRACE`,
+/// where it names a trace, `seed IMAGE CPUS BUDGET SEED`, `gen NUMBER`, `elf FILE MEMORY STACK TABLE`, `asm FILE` or `list IMAGE`. An image is
 /// fetched and read before a second file is asked for. Each line with its line feed is one put; an
 /// image file and a listing are one put each. What each status means is [`Status`]'s to say, and
 /// `docs/FORMATS.md` has the command line, the forms of the files and of the text.
@@ -94,7 +94,12 @@ fn serve_command<D: Desk, K: Sink>(
         (at desk.old sink.old) (at desk.new sink.new) result }
 {
     match command {
-        Ok(Command::Replay { image, trace }) => replay_files(alloc, desk, sink, image, trace),
+        Ok(Command::Replay { image, trace }) => {
+            trace_files(alloc, desk, sink, TraceTask::Replay, image, trace)
+        }
+        Ok(Command::Check { image, trace }) => {
+            trace_files(alloc, desk, sink, TraceTask::Check, image, trace)
+        }
         Ok(
             Command::Seed {
                 image,
@@ -144,20 +149,21 @@ fn fetch_image<D: Desk, K: Sink>(
     }
 }
 
-/// Prints the run of the event list of one name over the image of another.
-fn replay_files<D: Desk, K: Sink>(
+/// Does a task with the list or trace of one name over the image of another.
+fn trace_files<D: Desk, K: Sink>(
     alloc: Global,
     desk: &mut D,
     sink: &mut K,
+    task: TraceTask,
     image: &str,
     trace: &str,
 ) -> Status
     ensures { let at = outside_at D.faults D.asks K.taken K.faults K.puts in
-        Serves (D.told desk.old) (Some (Over (Replay image.now trace.now)))
+        Serves (D.told desk.old) (Some (Over (Traced task image.now trace.now)))
         (at desk.old sink.old) (at desk.new sink.new) result }
 {
     match fetch_image(alloc, desk, sink, image) {
-        Ok(image) => replay_file(alloc, desk, sink, &image, trace),
+        Ok(image) => trace_file(alloc, desk, sink, task, &image, trace),
         Err(status) => status,
     }
 }
@@ -231,20 +237,21 @@ fn asm_file<D: Desk, K: Sink>(alloc: Global, desk: &mut D, sink: &mut K, file: &
     }
 }
 
-/// Prints the run of the event list of this name over an image.
-fn replay_file<D: Desk, K: Sink>(
+/// Does a task with the list or trace of this name over an image.
+fn trace_file<D: Desk, K: Sink>(
     alloc: Global,
     desk: &mut D,
     sink: &mut K,
+    task: TraceTask,
     image: &Image,
     trace: &str,
 ) -> Status
     ensures { let at = outside_at D.faults D.asks K.taken K.faults K.puts in
-        ServesTrace (D.told desk.old trace.now) (trace.now, MAX_TRACE_BYTES) image.now
+        ServesTrace task (D.told desk.old trace.now) (trace.now, MAX_TRACE_BYTES) image.now
         (at desk.old sink.old) (at desk.new sink.new) result }
 {
     match desk.fetch(alloc, trace, MAX_TRACE_BYTES) {
-        Ok(list) => replay(alloc, sink, image, list.as_slice()),
+        Ok(file) => do_task(alloc, sink, task, image, file.as_slice()),
         Err(FetchFault::Failed) => refuse_read_fault(alloc, sink),
         Err(FetchFault::TooLong) => refuse_long(alloc, sink),
         Err(FetchFault::Memory) => Status::Memory,

@@ -1,5 +1,6 @@
 ghost use Rattle.std.specs.Prelude.{◌≡◌};
 
+use axp_check::Rule;
 use axp_elf::ElfField;
 use axp_image::ImageKind;
 
@@ -40,6 +41,16 @@ pub enum Status {
     Differs {
         /// The number of the line.
         line: u32,
+    },
+    /// The accesses of a trace break a rule of shared memory; a line with this was taken, and nothing
+    /// before it.
+    Violated {
+        /// The least rule that is broken.
+        rule: Rule,
+        /// The number of the first access, 0 where there is none ([`axp_check::Verdict`]).
+        first: u32,
+        /// The number of the second.
+        second: u32,
     },
     /// The events end, so many of them, and the machine is not complete: a processor is not
     /// finished, or a write waits in its buffer. The trace of the events was taken, and a line that
@@ -85,6 +96,7 @@ impl Status {
             Status::BadTrace { .. } => 5,
             Status::NotLegal { .. } => 6,
             Status::Differs { .. } => 7,
+            Status::Violated { .. } => 8,
             Status::Incomplete { .. } => 9,
             Status::TooLong => 10,
             Status::Memory => 11,
