@@ -37,3 +37,6 @@ pub enum Verdict {
         second: u32,
     },
 }
+
+#[cfg(test)]
+mod tests;
