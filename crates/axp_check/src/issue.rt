@@ -50,7 +50,7 @@ pub(crate) fn first_issue(list: &AccessList) -> Option<(u32, u32)>
 }
 
 /// The slot of the quadword of an access. Quadwords share slots, so what one holds is only a bound; the
-/// sum keeps quadwords apart whose distance is a power of 2.
+/// sum keeps most apart whose distance is a power of 2.
 fn slot_of(access: &Access) -> usize
     ensures value { result ≡ slot_at (cpu_number access.now.cpu) access.now.address }
     ensures below { result < 512 }
