@@ -107,9 +107,29 @@ placed_ranked t u fits placed = rw (by u.access.place placed) (let first = fits.
   by (Entry n) e = by_turn (t.drained (cpu_of u) n)
   by Absent e = absurd (false≢true e)
 
+-- one access more, with the greater of its rank and the bound where it counts
+pub up_step : (t : Times) (test : NumberedAccess → Bool) (us : List NumberedAccess) (v : NumberedAccess) (counts : Bool) (top new : ℕ) → (test v ≡ true → (counts ≡ true) × (has_place v.access.place ≡ true)) → FitsRank (key t v) → AreUpTo t test us top → new ≡ cond (counts && ltb top (rank t v)) (rank t v) top → AreUpTo t test (v ∷ us) new
+up_step t test us v counts top new tells fits all is = (
+  λ passed. record { fits = fits; placed = placed_ranked t v fits (tells passed).1; most = rw is (greatest counts top (rank t v) (tells passed).0) },
+  up_more t test test us top new (rw is (greater counts top (rank t v))) (λ u passed. passed) all,
+) where
+  greater : (w : Bool) (m r : ℕ) → m ≤ cond (w && ltb m r) r m
+  greater false m r = omega arith
+  greater true m r = ⊎_elim
+      (λ (less : m < r). rw (lt-ltb m r less) (omega (arith, less)))
+      (λ (le : r ≤ m). rw (le-ltb m r le) (omega arith))
+      (cases_lt m r)
+
+  greatest : (w : Bool) (m r : ℕ) → w ≡ true → r ≤ cond (w && ltb m r) r m
+  greatest false m r is = absurd (false≢true is)
+  greatest true m r is = ⊎_elim
+      (λ (less : m < r). rw (lt-ltb m r less) (omega arith))
+      (λ (le : r ≤ m). rw (le-ltb m r le) le)
+      (cases_lt m r)
+
 -- the tops of a processor with one access more, which is its own
 tops_own : (list : Accesses) (n : ℕ) (a : Access) (tops new : WriteTops) → slice_get list.items n ≡ Some a → IsSound a → HasTops list n (cpu_number a.cpu) tops → FitsRank (key (times_of list) (next_access (accesses_to list n) a)) → new.all ≡ cond (is_write a && ltb tops.all (rank (times_of list) (next_access (accesses_to list n) a))) (rank (times_of list) (next_access (accesses_to list n) a)) tops.all → new.closed ≡ cond (is_write_barrier a.kind) tops.all tops.closed → HasTops list (n + 1) (cpu_number a.cpu) new
-tops_own list n a tops new found sound has fits all closed = record { all = rw more (head_all, tail_all); closed = subst (λ ws. AreUpTo t (is_parted_write p (parts_to list p (n + 1))) ws new.closed) (sym more) (⊎_elim parted kept (cases_Bool (is_write_barrier a.kind))) } where
+tops_own list n a tops new found sound has fits all closed = record { all = rw more (up_step t (is_own_write p) us v (is_write a) tops.all new.all (λ own. let writes = (and_parts (eqb p p) (is_write a) own).1 in (writes, write_placed a sound writes)) fits has.all all); closed = subst (λ ws. AreUpTo t (is_parted_write p (parts_to list p (n + 1))) ws new.closed) (sym more) (⊎_elim parted kept (cases_Bool (is_write_barrier a.kind))) } where
   t : Times
   t = times_of list
 
@@ -124,30 +144,6 @@ tops_own list n a tops new found sound has fits all closed = record { all = rw m
 
   more : accesses_to list (n + 1) ≡ v ∷ us
   more = accesses_more list n v (let back : n + 1 - 1 ≡ n = omega arith in rw back (rw found refl))
-
-  rises : tops.all ≤ new.all
-  rises = rw all (greater (is_write a) tops.all (rank t v)) where
-    greater : (w : Bool) (m r : ℕ) → m ≤ cond (w && ltb m r) r m
-    greater false m r = omega arith
-    greater true m r = ⊎_elim
-        (λ (less : m < r). rw (lt-ltb m r less) (omega (arith, less)))
-        (λ (le : r ≤ m). rw (le-ltb m r le) (omega arith))
-        (cases_lt m r)
-
-  reached : is_write a ≡ true → rank t v ≤ new.all
-  reached writes = rw all (greatest (is_write a) tops.all (rank t v) writes) where
-    greatest : (w : Bool) (m r : ℕ) → w ≡ true → r ≤ cond (w && ltb m r) r m
-    greatest false m r is = absurd (false≢true is)
-    greatest true m r is = ⊎_elim
-        (λ (less : m < r). rw (lt-ltb m r less) (omega arith))
-        (λ (le : r ≤ m). rw (le-ltb m r le) le)
-        (cases_lt m r)
-
-  head_all : is_own_write p v ≡ true → IsUpTo t new.all v
-  head_all own = let writes = (and_parts (eqb p p) (is_write a) own).1 in record { fits = fits; placed = placed_ranked t v fits (write_placed a sound writes); most = reached writes }
-
-  tail_all : AreUpTo t (is_own_write p) us new.all
-  tail_all = up_more t (is_own_write p) (is_own_write p) us tops.all new.all rises (λ u own. own) has.all
 
   parted : is_write_barrier a.kind ≡ true → AreUpTo t (is_parted_write p (parts_to list p (n + 1))) (v ∷ us) new.closed
   parted is = (

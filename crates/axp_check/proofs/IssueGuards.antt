@@ -3,7 +3,7 @@ use Rattle.std.proofs.Common.{◌≡◌, ℕ, ◌+◌, ◌-◌, ◌<◌, ◌≤�
 use Rattle.std.specs.Option.{option_map}
 use Rattle.std.specs.List.{AllByRecursion}
 use Rattle.std.proofs.lemmas.List.{get_or-set_same, get_or-set_other, length-set}
-use Rattle.std.proofs.lemmas.Bool.{cases_Bool, cases_lt, and_parts, and_from, or_cases, eqb-true, lt-ltb, le-ltb, ltb-true, or_left, or_right, false≢true}
+use Rattle.std.proofs.lemmas.Bool.{cases_Bool, and_parts, and_from, or_cases, eqb-true, ltb-true, or_left, or_right, false≢true}
 use Rattle.axp_base.specs.Cpus.{cpu_number}
 use Rattle.axp_base.specs.Masks.{IsSize}
 use Rattle.axp_regs.specs.declared.asks.Kind.{Kind}
@@ -23,7 +23,7 @@ use Rattle.axp_order.proofs.Accesses.{accesses_more}
 use Rattle.axp_check.specs.declared.issue.IssueTops.{IssueTops}
 use Rattle.axp_check.specs.Guards.{AreUpTo, IsUpTo}
 use Rattle.axp_check.specs.IssueGuards.{HasIssueTops, HasSlotTop, KeepsIssueTops, is_own_memory_write, is_own_other, is_slot_write, slot_at}
-use Rattle.axp_check.proofs.Guards.{placed_ranked, up_before, up_more, write_placed}
+use Rattle.axp_check.proofs.Guards.{up_before, up_step, write_placed}
 
 -- an access of a kind that no WMB is of has a place
 pub placed_by : (a : Access) → IsSound a → (test : Kind → Bool) → test kind.WriteBarrier ≡ false → test a.kind ≡ true → has_place a.place ≡ true
@@ -193,26 +193,6 @@ clear_issue_is list j a tops top r b found later sound has slot at small test ye
       behind : (w c : Bool) → w ≡ true → (not w || c) ≡ true → c ≡ true
       behind true c is e = e
       behind false c is e = absurd (false≢true is)
-
--- one access more, with the greater of its rank and the bound where it counts
-up_step : (t : Times) (test : NumberedAccess → Bool) (us : List NumberedAccess) (v : NumberedAccess) (counts : Bool) (top new : ℕ) → (test v ≡ true → (counts ≡ true) × (has_place v.access.place ≡ true)) → FitsRank (key t v) → AreUpTo t test us top → new ≡ cond (counts && ltb top (rank t v)) (rank t v) top → AreUpTo t test (v ∷ us) new
-up_step t test us v counts top new tells fits all is = (
-  λ passed. record { fits = fits; placed = placed_ranked t v fits (tells passed).1; most = rw is (greatest counts top (rank t v) (tells passed).0) },
-  up_more t test test us top new (rw is (greater counts top (rank t v))) (λ u passed. passed) all,
-) where
-  greater : (w : Bool) (m r : ℕ) → m ≤ cond (w && ltb m r) r m
-  greater false m r = omega arith
-  greater true m r = ⊎_elim
-      (λ (less : m < r). rw (lt-ltb m r less) (omega (arith, less)))
-      (λ (le : r ≤ m). rw (le-ltb m r le) (omega arith))
-      (cases_lt m r)
-
-  greatest : (w : Bool) (m r : ℕ) → w ≡ true → r ≤ cond (w && ltb m r) r m
-  greatest false m r is = absurd (false≢true is)
-  greatest true m r is = ⊎_elim
-      (λ (less : m < r). rw (lt-ltb m r less) (omega arith))
-      (λ (le : r ≤ m). rw (le-ltb m r le) le)
-      (cases_lt m r)
 
 memory_write_placed : (a : Access) → IsSound a → is_memory_write a ≡ true → has_place a.place ≡ true
 memory_write_placed a sound writes = write_placed a sound (or_left (is_memory_write a) (is_signal a.kind) writes)

@@ -14,7 +14,7 @@ use axp_access::{Access, AccessList, Kind};
 use axp_base::MAX_CPUS;
 use axp_order::issue_pair;
 
-/// How many slots there are for the memory writes of quadwords.
+/// How many slots there are for the quadwords that are written.
 const SLOTS: usize = 512;
 
 /// The greatest ranks of a processor's accesses so far.
@@ -49,7 +49,8 @@ pub(crate) fn first_issue(list: &AccessList) -> Option<(u32, u32)>
     None
 }
 
-/// The slot of the quadword of an access. Slots are shared, so what they hold is only a bound.
+/// The slot of the quadword of an access. Quadwords share slots, so what one holds is only a bound; the
+/// sum keeps most apart whose distance is a power of 2.
 fn slot_of(access: &Access) -> usize
     ensures value { result ≡ slot_at (cpu_number access.now.cpu) access.now.address }
     ensures below { result < 512 }

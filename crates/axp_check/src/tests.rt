@@ -1,1 +1,3 @@
 mod locking;
+mod order;
+mod verdicts;
