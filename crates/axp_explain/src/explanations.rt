@@ -51,10 +51,7 @@ pub fn explain<D: Desk>(
 {
     match read_words(words) {
         Ok(Command::Replay { image, trace } | Command::Check { image, trace })
-            if is_refusal(status) =>
-        {
-            explain_trace_files(alloc, desk, image, trace, status)
-        }
+            if is_refusal(status) => { explain_trace_files(alloc, desk, image, trace, status) }
         Ok(Command::Seed { image, .. }) if is_refusal(status) => {
             explain_alone(alloc, desk, image, status)
         }

@@ -33,6 +33,8 @@ axp: an emulator of Alpha AXP processors that share memory
 usage: axp seed IMAGE CPUS BUDGET SEED  the trace of a run whose events the seed chooses
        axp replay IMAGE FILE            the trace of an event list; or runs a trace
                                         again and compares
+       axp check IMAGE TRACE            whether a trace, whoever made it, can be
+                                        an Alpha's shared memory
        axp gen NUMBER                   counts what seeded runs of a litmus test showed
        axp elf FILE MEMORY STACK TABLE  the image file of an executable
        axp asm FILE                     the image file of an assembler source

@@ -4,6 +4,7 @@ use axp_io::{ListSink, TableDesk};
 use std::alloc::Global;
 use std::test::Fail;
 
+mod checks;
 mod entries;
 mod executables;
 mod locks;

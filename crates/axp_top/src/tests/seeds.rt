@@ -1,3 +1,4 @@
+use super::checks::checked;
 use super::*;
 use axp_gen::{Shape, litmus};
 use axp_image::write_image;
@@ -26,7 +27,7 @@ const SPIN_LOCK_ENDS: [(&str, &str); 5] = [
 ];
 
 /// The words of a command line.
-fn words_of(alloc: Global, texts: &[&str]) -> Result<Vec<Word>, Fail> {
+pub(super) fn words_of(alloc: Global, texts: &[&str]) -> Result<Vec<Word>, Fail> {
     let mut words = Vec::new(alloc);
     for word in texts {
         words.push(Word::new(alloc, word)?)?;
@@ -102,5 +103,8 @@ fn a_seed_brings_the_spin_lock_to_its_end(rt: HostRuntime) -> Result<(), Fail> {
     for (start, end) in SPIN_LOCK_ENDS {
         assert!(rt; has_line(sink.taken(), start, end), "{start}");
     }
+    let call = checked(Status::Done, 2);
+    let (image, trace) = (image.as_slice(), sink.taken());
+    assert!(rt; gives(alloc, &call, image, trace, b"consistent\n")?);
     Ok(())
 }

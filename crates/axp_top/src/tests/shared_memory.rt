@@ -201,7 +201,7 @@ const STORED_CODE: &str = "0 fill : i 00002000 @0\n\
     0 step : w 00002010 4 203F0002 e1\n";
 
 /// Both processors read the old value: each store still waits in its own buffer.
-const BOTH_WAIT: Worked = Worked {
+pub(super) const BOTH_WAIT: Worked = Worked {
     words: &STORE_BUFFERING,
     layout: &PLAIN,
     budget: "20",
@@ -242,7 +242,7 @@ const BOTH_WAIT: Worked = Worked {
 };
 
 /// The new pointer and the old value: what is late for the line of the value was not taken.
-const VALUE_IS_LATE: Worked = Worked {
+pub(super) const VALUE_IS_LATE: Worked = Worked {
     words: &DEPENDENT_LOAD,
     layout: &POINTING,
     budget: "20",
@@ -268,7 +268,7 @@ const VALUE_IS_LATE: Worked = Worked {
 };
 
 /// The late invalidation is taken before the last read, so the line is filled anew.
-const VALUE_IS_TAKEN: Worked = Worked {
+pub(super) const VALUE_IS_TAKEN: Worked = Worked {
     words: &DEPENDENT_LOAD,
     layout: &POINTING,
     budget: "20",
@@ -340,7 +340,7 @@ const BARRIER_DELIVERS: Worked = Worked {
 };
 
 /// A read finds its own store over the old copy; after its drain the other byte is new too.
-const BYTES_ARE_MIXED: Worked = Worked {
+pub(super) const BYTES_ARE_MIXED: Worked = Worked {
     words: &MIXED_SOURCES,
     layout: &PLAIN,
     budget: "20",
@@ -427,7 +427,7 @@ const STORES_ARE_MERGED: Worked = Worked {
 };
 
 /// A write barrier keeps the third store apart from the first.
-const STORES_ARE_APART: Worked = Worked {
+pub(super) const STORES_ARE_APART: Worked = Worked {
     words: &WRITE_BARRIER,
     layout: &PLAIN,
     budget: "20",
@@ -466,7 +466,7 @@ const OLD_CODE: Worked = Worked {
 };
 
 /// An instruction memory barrier empties it: the new word is fetched.
-const NEW_CODE: Worked = Worked {
+pub(super) const NEW_CODE: Worked = Worked {
     words: &CODE_AFTER_IMB,
     layout: &PLAIN,
     budget: "20",

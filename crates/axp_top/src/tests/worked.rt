@@ -62,7 +62,7 @@ pub fn holds(alloc: Global, worked: &Worked) -> Result<bool, Fail> {
 }
 
 /// The image file: a segment with the program, and one with each quadword.
-fn image(alloc: Global, words: &[u32], layout: &Layout) -> Result<Vec<u8>, Fail> {
+pub(super) fn image(alloc: Global, words: &[u32], layout: &Layout) -> Result<Vec<u8>, Fail> {
     let quadwords = layout.quadwords;
     let mut file = Vec::new(alloc);
     let segments = (quadwords.len() as u64).wrapping_add(1).to_le_bytes();
@@ -105,7 +105,7 @@ fn events(alloc: Global, worked: &Worked) -> Result<Vec<u8>, Fail> {
 }
 
 /// The whole text.
-fn text(alloc: Global, worked: &Worked) -> Result<Vec<u8>, Fail> {
+pub(super) fn text(alloc: Global, worked: &Worked) -> Result<Vec<u8>, Fail> {
     let mut text = Vec::new(alloc);
     text.extend_from_slice(b"axp-trace 1 cpus 2 budget ")?;
     text.extend_from_slice(worked.budget.as_bytes())?;
