@@ -1,6 +1,7 @@
 //! Traces that are judged.
+use super::locks::DISTURBED;
 use super::shared_memory::{
-    BOTH_WAIT, BYTES_ARE_MIXED, NEW_CODE, STORES_ARE_APART, VALUE_IS_LATE, VALUE_IS_TAKEN,
+    BARRIER_DELIVERS, BOTH_WAIT, BYTES_ARE_MIXED, STORES_ARE_MERGED, VALUE_IS_LATE, VALUE_IS_TAKEN,
 };
 use super::worked::{Worked, image, text};
 use super::{Call, HALTS, HALTS_PRINTED, LIST_HEADER, TEXT_HEADER, ZEROS, gives, joined};
@@ -52,9 +53,10 @@ fn runs_are_consistent(rt: HostRuntime) -> Result<(), Fail> {
         &BOTH_WAIT,
         &VALUE_IS_LATE,
         &VALUE_IS_TAKEN,
+        &BARRIER_DELIVERS,
         &BYTES_ARE_MIXED,
-        &STORES_ARE_APART,
-        &NEW_CODE,
+        &STORES_ARE_MERGED,
+        &DISTURBED,
     ] {
         let trace = text(rt.alloc(), worked)?;
         assert!(rt; judges(rt.alloc(), worked, trace.as_slice(), &call, b"consistent\n")?);

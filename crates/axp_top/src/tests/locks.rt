@@ -30,7 +30,7 @@ const OWN_STORE_WAITS: &str = "0 fill : i 00002000 @0\n\
 
 /// A store of another processor to the locked line disturbs the lock, so the store-conditional
 /// fails.
-const DISTURBED: Worked = Worked {
+pub(super) const DISTURBED: Worked = Worked {
     words: &LOCK_RANGE,
     layout: &PLAIN,
     budget: "20",

@@ -310,7 +310,7 @@ const NOTHING_IS_HELD: Worked = Worked {
 };
 
 /// A barrier of the reader delivers what is late.
-const BARRIER_DELIVERS: Worked = Worked {
+pub(super) const BARRIER_DELIVERS: Worked = Worked {
     words: &DEPENDENT_LOAD_BARRIER,
     layout: &POINTING,
     budget: "20",
@@ -383,7 +383,7 @@ pub(super) const BYTES_ARE_MIXED: Worked = Worked {
 };
 
 /// The second store to a line is merged into its entry.
-const STORES_ARE_MERGED: Worked = Worked {
+pub(super) const STORES_ARE_MERGED: Worked = Worked {
     words: &MERGING,
     layout: &PLAIN,
     budget: "20",
@@ -427,7 +427,7 @@ const STORES_ARE_MERGED: Worked = Worked {
 };
 
 /// A write barrier keeps the third store apart from the first.
-pub(super) const STORES_ARE_APART: Worked = Worked {
+const STORES_ARE_APART: Worked = Worked {
     words: &WRITE_BARRIER,
     layout: &PLAIN,
     budget: "20",
@@ -466,7 +466,7 @@ const OLD_CODE: Worked = Worked {
 };
 
 /// An instruction memory barrier empties it: the new word is fetched.
-pub(super) const NEW_CODE: Worked = Worked {
+const NEW_CODE: Worked = Worked {
     words: &CODE_AFTER_IMB,
     layout: &PLAIN,
     budget: "20",
