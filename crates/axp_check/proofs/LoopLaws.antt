@@ -1,7 +1,7 @@
 -- The test for a causal loop says in the memory model's words that no value came from itself.
 use Rattle.std.proofs.Common.{◌≡◌, ◌↔◌, ℕ, zero, suc, ◌+◌, ◌-◌, ◌<◌, ◌≤◌, Bool, true, false, ◌&&◌, eqb, ltb, leb, List, [], ◌∷◌, ◌++◌, length, Option, Some, None, refl, sym, ap, ◌∙◌, arith, inl, inr, ⊎_elim}
 use Rattle.std.specs.List.{Contains, list_any}
-use Rattle.std.specs.Option.{option_map_or}
+use Rattle.std.specs.Option.{option_map, option_map_or}
 use Rattle.std.proofs.lemmas.Bool.{cases_Bool, and_parts, and_from, or_cases, or_left, or_right, eqb-true, leb-true, le-leb, ltb-true, lt-ltb, false≢true}
 use Rattle.axp_access.specs.Kinds.{is_memory_write}
 use Rattle.axp_access.specs.Lists.{Accesses, accesses_in, times_of}
@@ -11,7 +11,7 @@ use Rattle.axp_model.specs.Sources.{can_give, source, takes_bytes}
 use Rattle.axp_laws.proofs.CauseMoments.{Among, among_of, latest_among}
 use Rattle.axp_laws.proofs.PollSignals.{contains_of}
 use Rattle.axp_order.specs.Oldest.{oldest_that}
-use Rattle.axp_check.specs.Loops.{IsChainIn, MayCauseIn, gives_from, is_on_cycle, leads, may_cause}
+use Rattle.axp_check.specs.Loops.{IsChainIn, MayCauseIn, gives_from, is_on_cycle, leads, loop_fault, may_cause}
 use Rattle.axp_check.proofs.Candidates.{none_that}
 use Rattle.axp_check.proofs.Chains.{any_gives, leads_join, leads_within}
 use Rattle.axp_check.proofs.Numbers.{one_of_number}
@@ -127,3 +127,13 @@ no_loop list = (
       (λ no_. no_)
       (cases_Bool (is_on_cycle (times_of list) (accesses_in list) u)))),
 )
+
+-- so there is no fault
+pub no_fault : (list : Accesses) → (loop_fault (times_of list) (accesses_in list) ≡ None) ↔ ((u : NumberedAccess) (ws : List NumberedAccess) → Contains (accesses_in list) u → IsChainIn (times_of list) (accesses_in list) u ws u → ⊥)
+no_fault list = (
+  (λ none. (no_loop list).0 (unmapped (oldest_that (is_on_cycle (times_of list) (accesses_in list)) (accesses_in list)) none)),
+  (λ free. ap (option_map {U = ℕ × ℕ} (λ u. (u.number, u.number))) ((no_loop list).1 free)),
+) where
+  unmapped : (o : Option NumberedAccess) → option_map {U = ℕ × ℕ} (λ u. (u.number, u.number)) o ≡ None → o ≡ None
+  unmapped None e = refl
+  unmapped (Some u) e = absurd cc

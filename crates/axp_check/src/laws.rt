@@ -1,6 +1,6 @@
 //! What the parts of a verdict say in the words of the memory model: laws of every list of accesses,
 //! each proved as the contract of a function that does nothing.
-ghost use Rattle.std.specs.Prelude.{◌≡◌, ◌↔◌, ℕ, List, None, Some};
+ghost use Rattle.std.specs.Prelude.{◌≡◌, ◌↔◌, ℕ, true, Contains, List, None, Some};
 ghost use Rattle.std.specs.List.{AllByRecursion};
 ghost use Rattle.axp_access.specs.declared.Access.{Access};
 ghost use Rattle.axp_access.specs.Lists.{Accesses, accesses_in, number_accesses, times_of};
@@ -10,6 +10,7 @@ ghost use Rattle.axp_model.specs.Issue.{AllPairs, IsInOrder};
 ghost use Rattle.axp_order.specs.Pairs.{breaks_issue, breaks_barrier};
 ghost use Rattle.axp_check.specs.Faults.{IsFirstUnlocked, IsFirstWrong, IsLeastPair};
 ghost use Rattle.axp_check.specs.Locking.{KeepsLockingIn, locking_fault};
+ghost use Rattle.axp_check.specs.Loops.{IsChainIn, is_on_cycle, loop_fault};
 ghost use Rattle.axp_check.specs.Storage.{HasSourcesIn, storage_fault};
 ghost use Rattle.axp_check.specs.Verdicts.{barrier_fault, issue_fault, verdict};
 ghost use Rattle.axp_check.specs.Violations.{IsConsistent, IsViolated};
@@ -66,4 +67,16 @@ pub fn verdict_in_words()
     ensures violated { (image : ℕ → ℕ) (list : Accesses) (rule : Rule) (i j : ℕ)
         → (verdict image list ≡ Violated rule i j)
         ↔ IsViolated image (times_of list) (accesses_in list) rule i j }
+{}
+
+/// An access may have come from itself exactly where accesses of the list lead from it to itself, each of
+/// a value that may have come from the one before it: a source of its bytes, or a read or fetch ahead of
+/// a write in issue order. A list has no fault of loops exactly where no access leads to itself so.
+pub fn loops_in_words()
+    ensures chain { (list : Accesses) (u : NumberedAccess) → Contains (accesses_in list) u
+        → (is_on_cycle (times_of list) (accesses_in list) u ≡ true)
+        ↔ ((ws : List NumberedAccess) × IsChainIn (times_of list) (accesses_in list) u ws u) }
+    ensures none { (list : Accesses) → (loop_fault (times_of list) (accesses_in list) ≡ None)
+        ↔ ((u : NumberedAccess) (ws : List NumberedAccess) → Contains (accesses_in list) u
+        → IsChainIn (times_of list) (accesses_in list) u ws u → ⊥) }
 {}

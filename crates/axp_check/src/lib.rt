@@ -14,7 +14,8 @@ mod storage;
 
 pub use checking::check;
 pub use laws::{
-    locking_in_words, order_faults_in_words, order_in_words, storage_in_words, verdict_in_words,
+    locking_in_words, loops_in_words, order_faults_in_words, order_in_words, storage_in_words,
+    verdict_in_words,
 };
 
 /// A rule of shared memory, the least first. `docs/MODEL.md`, "The constraints".
