@@ -4,8 +4,11 @@ use axp_base::NoMemory;
 use std::alloc::Global;
 use std::test::*;
 
-/// What a file is read as: how many accesses there are, or the line at fault.
+/// What a short file is read as: how many accesses there are, or the line at fault.
 fn count(alloc: Global, file: &str) -> Result<Result<u32, u32>, NoMemory> {
+    if file.len() > 1000 {
+        return Ok(Err(0));
+    }
     match read_trace(alloc, file.as_bytes()) {
         Ok(list) => Ok(Ok(list.len())),
         Err(TraceFault::Bad { line }) => Ok(Err(line)),
