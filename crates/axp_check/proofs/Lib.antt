@@ -2,3 +2,5 @@
 pub mod SourceNumbers
 pub mod SourcePlaces
 pub mod StoredBytes
+pub mod Latest
+pub mod OrderedWrites

@@ -1,0 +1,35 @@
+-- What walks over the accesses keep: the number of the latest memory write of each byte, so far.
+use Rattle.std.specs.Prelude.{◌≡◌, ℕ, ◌+◌, ◌-◌, ◌*◌, ◌<◌, Bool, true, ◌&&◌, List, length, slice_index, IfSome}
+use Rattle.axp_base.specs.declared.parts.TheConstants.{QUADWORD_BYTES}
+use Rattle.axp_access.specs.Kinds.{has_byte, is_memory_write}
+use Rattle.axp_access.specs.Lists.{Accesses, access_at, accesses_in, names_memory, times_of}
+use Rattle.axp_access.specs.Numbering.{NumberedAccess}
+use Rattle.axp_access.specs.Order.{Times, before, key, precedes}
+use Rattle.axp_access.specs.Ranks.{FitsRank, rank}
+use Rattle.axp_model.specs.Sources.{latest, takes_bytes}
+use Rattle.axp_check.specs.Sources.{source_number}
+
+abbrev pub writes_byte : ℕ → NumberedAccess → Bool
+writes_byte at u = is_memory_write u.access && has_byte at u.access
+
+-- memory writes of a byte that are BEFORE v, and that precede it
+abbrev pub is_write_before : Times → ℕ → NumberedAccess → NumberedAccess → Bool
+is_write_before t at v u = writes_byte at u && before t u v
+
+abbrev pub is_write_ahead : Times → ℕ → NumberedAccess → NumberedAccess → Bool
+is_write_ahead t at v u = writes_byte at u && precedes u v
+
+-- numbers of accesses, QUADWORD_BYTES places an access: of each byte of each read and fetch that of the
+-- latest that passes a test
+abbrev pub HasLatestAt : (Times → ℕ → NumberedAccess → NumberedAccess → Bool) → Accesses → List ℕ → ℕ → NumberedAccess → Type 0
+HasLatestAt test list numbers n v = takes_bytes v ≡ true → (k : ℕ) → k < v.access.size → slice_index numbers ((n - 1) * QUADWORD_BYTES + k) ≡ source_number (latest (times_of list) (test (times_of list) (v.access.address + k) v) (accesses_in list))
+
+pub record AreLatest (test : Times → ℕ → NumberedAccess → NumberedAccess → Bool) (list : Accesses) (numbers : List ℕ) : Type 0 where
+  pub count : length numbers ≡ length list.items * QUADWORD_BYTES
+  pub each : (n : ℕ) → IfSome (access_at list n) (HasLatestAt test list numbers n)
+
+-- a number is the rank of u, and u has a place if it names memory
+pub record IsRanked (t : Times) (u : NumberedAccess) (r : ℕ) : Type 0 where
+  pub is : r ≡ rank t u
+  pub fits : FitsRank (key t u)
+  pub placed : names_memory u.access ≡ true → (key t u).spot.placed ≡ true
