@@ -4,3 +4,5 @@ pub mod SourcePlaces
 pub mod StoredBytes
 pub mod Latest
 pub mod OrderedWrites
+pub mod MemoryOrder
+pub mod MetWrites

@@ -1,17 +1,20 @@
 -- The memory writes of a byte are ordered, and so one is the latest.
 use Rattle.std.proofs.Common.{◌≡◌, ℕ, zero, suc, ◌+◌, ◌-◌, ◌<◌, ◌≤◌, Bool, true, false, ◌&&◌, ◌||◌, ltb, eqb, ◌∷◌, length, Some, refl, sym, ap, ◌∙◌, arith, inl, inr, ⊎_elim}
-use Rattle.std.proofs.lemmas.Bool.{and_parts, and_from, cases_eq, ltb-true, lt-ltb}
+use Rattle.std.proofs.lemmas.Bool.{and_from, and_parts, cases_eq, false≢true, lt-ltb, ltb-true}
+use Rattle.axp_regs.specs.declared.asks.Kind.{Kind}
+use Rattle.axp_regs.specs.declared.asks.Kind.TheVariants as kind
 use Rattle.axp_access.specs.Kinds.{has_byte, is_conditional, is_fetch, is_memory_write, is_plain_write, is_read}
 use Rattle.axp_access.specs.Lists.{Accesses, access_at, accesses_in, accesses_to, names_memory, times_of}
 use Rattle.axp_access.specs.Numbering.{NumberedAccess, cpu_of}
 use Rattle.axp_access.specs.Order.{key, precedes}
-use Rattle.axp_model.specs.Sources.{latest}
+use Rattle.axp_model.specs.Sources.{latest, takes_bytes}
 use Rattle.axp_laws.proofs.CauseMoments.{Among}
 use Rattle.axp_laws.proofs.OrderKeys.{before_total}
 use Rattle.axp_order.proofs.Accesses.{access_some, accesses_more}
 use Rattle.axp_check.specs.SourceParts.{access_named}
 use Rattle.axp_check.specs.Walks.{writes_byte, is_write_ahead}
 use Rattle.axp_check.proofs.Latest.{IsOrdered, latest_same}
+use Rattle.axp_check.proofs.SourcePlaces.{access_within}
 use Rattle.axp_check.proofs.SourceNumbers.{all_accesses, named_among, named_at}
 
 -- each access that names memory has a place
@@ -26,6 +29,24 @@ write_names false false false y e = e
 
 pub names_write : (u : NumberedAccess) → is_memory_write u.access ≡ true → names_memory u.access ≡ true
 names_write u e = write_names (is_fetch u.access.kind || is_read u.access.kind) (is_plain_write u.access.kind) (is_conditional u.access.kind) u.access.yes e
+
+taker_names : (r f w : Bool) → (r || f) ≡ true → ((f || r) || w) ≡ true
+taker_names true true w e = refl
+taker_names true false w e = refl
+taker_names false f w e = rw e refl
+
+pub names_taker : (u : NumberedAccess) → takes_bytes u ≡ true → names_memory u.access ≡ true
+names_taker u e = taker_names (is_read u.access.kind) (is_fetch u.access.kind) (is_plain_write u.access.kind || is_conditional u.access.kind) e
+
+-- what takes bytes is no memory write
+no_write : (k : Kind) (yes_ : Bool) → (is_read k || is_fetch k) ≡ true → (is_plain_write k || (is_conditional k && yes_)) ≡ false
+no_write kind.Fetch b e = refl
+no_write kind.Read b e = refl
+no_write kind.Locked b e = refl
+no_write _ b e = absurd (false≢true e)
+
+pub taker_no_write : (u : NumberedAccess) → takes_bytes u ≡ true → is_memory_write u.access ≡ false
+taker_no_write u e = no_write u.access.kind u.access.yes e
 
 -- two accesses of a list that have one number are one
 pub same_number : (list : Accesses) (x y : NumberedAccess) → Among x (accesses_in list) → Among y (accesses_in list) → x.number ≡ y.number → x ≡ y
@@ -94,3 +115,14 @@ latest_ahead list at n v placed inside number = latest_same (times_of list) (is_
       let place = first_among list n x most among in
       let high = place.1 in
       (place.0, and_from (writes_byte at x) (precedes x v) one.0 (and_from (eqb (cpu_of x) (cpu_of v)) (ltb x.number v.number) one.1 (lt-ltb x.number v.number (omega (arith, high, number)))))
+
+-- where an access of the list stands, and what stands at a place is of the list
+pub at_of : (list : Accesses) (x : NumberedAccess) → Among x (accesses_in list) → (n : ℕ) × (access_at list (n + 1) ≡ Some x)
+at_of list x among =
+    let named = named_among list (length list.items) (omega arith) x (rw (all_accesses list) at among) in
+    let least = named.1.0 in
+    let back : x.number - 1 + 1 ≡ x.number = omega (arith, least) in
+    (x.number - 1, rw back (sym (named_at list x.number named.1.0) ∙ named.0))
+
+pub among_at : (list : Accesses) (n : ℕ) (x : NumberedAccess) → access_at list (n + 1) ≡ Some x → Among x (accesses_in list)
+among_at list n x e = let back : n + 1 - 1 ≡ n = omega arith in let inside : n < length list.items = rw back at (access_within list (n + 1) x e) in rw (all_accesses list) (at_among list (length list.items) n x e inside (omega arith))

@@ -1,5 +1,6 @@
 -- What walks over the accesses keep: the number of the latest memory write of each byte, so far.
-use Rattle.std.specs.Prelude.{◌≡◌, ℕ, ◌+◌, ◌-◌, ◌*◌, ◌<◌, Bool, true, ◌&&◌, List, length, slice_index, IfSome}
+use Rattle.std.specs.Prelude.{◌≡◌, ℕ, ◌+◌, ◌-◌, ◌*◌, ◌<◌, Bool, true, ◌&&◌, All, Contains, List, length, slice_index, Some, IfSome}
+use Rattle.std.specs.List.Sorted.{IsNonDecreasing}
 use Rattle.axp_base.specs.declared.parts.TheConstants.{QUADWORD_BYTES}
 use Rattle.axp_access.specs.Kinds.{has_byte, is_memory_write}
 use Rattle.axp_access.specs.Lists.{Accesses, access_at, accesses_in, names_memory, times_of}
@@ -33,3 +34,25 @@ pub record IsRanked (t : Times) (u : NumberedAccess) (r : ℕ) : Type 0 where
   pub is : r ≡ rank t u
   pub fits : FitsRank (key t u)
   pub placed : names_memory u.access ≡ true → (key t u).spot.placed ≡ true
+
+-- a number is the rank of an access of the list
+pub record IsRankOf (list : Accesses) (r : ℕ) : Type 0 where
+  pub place : ℕ
+  pub access : NumberedAccess
+  pub at : access_at list (place + 1) ≡ Some access
+  pub ranked : IsRanked (times_of list) access r
+
+-- an access has its rank among these
+pub record HasRank (t : Times) (order : List ℕ) (u : NumberedAccess) : Type 0 where
+  pub known : Contains order (rank t u)
+  pub ranked : IsRanked t u (rank t u)
+
+-- the ranks of a list's accesses in the order of memory
+pub record AreInOrder (list : Accesses) (order : List ℕ) : Type 0 where
+  pub sorted : IsNonDecreasing order
+  pub each : All (IsRankOf list) order
+  pub all : (n : ℕ) → IfSome (access_at list (n + 1)) (HasRank (times_of list) order)
+
+-- the ranks of its first n
+abbrev pub AreRanksTo : Accesses → List ℕ → ℕ → Type 0
+AreRanksTo list ranks n = (i : ℕ) → i < n → IfSome (access_at list (i + 1)) (λ u. IsRanked (times_of list) u (slice_index ranks i))

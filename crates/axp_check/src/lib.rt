@@ -2,6 +2,7 @@
 //! of their places, whoever made the list, and else the least rule and pair that cannot.
 #![tactic(auto)]
 
+mod orders;
 mod sources;
 mod storage;
 
