@@ -6,3 +6,4 @@ pub mod Latest
 pub mod OrderedWrites
 pub mod MemoryOrder
 pub mod MetWrites
+pub mod TableSteps

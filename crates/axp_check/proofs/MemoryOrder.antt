@@ -1,11 +1,12 @@
 -- The order of memory by sorted ranks.
-use Rattle.std.proofs.Common.{◌≡◌, ℕ, ◌+◌, ◌-◌, ◌<◌, true, ◌||◌, List, length, get_or, slice_get, Option, Some, None, IfSome, refl, subst, arith}
+use Rattle.std.proofs.Common.{◌≡◌, ℕ, ◌+◌, ◌-◌, ◌<◌, true, ◌||◌, List, length, get_or, slice_get, Option, Some, None, IfSome, refl, subst, arith, ◌≤◌}
 use Rattle.std.specs.List.{Contains}
 use Rattle.std.specs.List.Sorted.{IsNonDecreasing, IsPermutation}
 use Rattle.std.proofs.lemmas.Bool.{false≢true}
 use Rattle.std.proofs.lemmas.List.Elements.{Contains-get_or, All-from_get_or}
 use Rattle.std.proofs.lemmas.List.Sorted.{All-permutation, Contains-permutation}
 use Rattle.axp_base.specs.Cpus.{cpu_number}
+use Rattle.axp_base.specs.Masks.{IsSize}
 use Rattle.axp_regs.specs.declared.asks.Kind.{Kind}
 use Rattle.axp_regs.specs.declared.asks.Kind.TheVariants as kind
 use Rattle.axp_access.specs.declared.Access.{Access}
@@ -33,12 +34,15 @@ placed_of t p (At turn) there = refl
 placed_of t p (Entry n) there = spot_placed (t.drained p n)
 placed_of t p Absent there = absurd (there refl)
 
+size_few : (n : ℕ) → IsSize n → n ≤ 8
+size_few n is = omega (arith, is)
+
 -- the rank of an access in hand
 pub ranked_is : (list : Accesses) (n : ℕ) (a : Access) (r : ℕ) → slice_get list.items (n - 1) ≡ Some a → IsSound a → IfSome (access_at list n) (λ u. r ≡ rank (times_of list) u) → IfSome (access_at list n) (λ u. FitsRank (key (times_of list) u)) → IfSome (access_at list n) (λ u. IsRanked (times_of list) u r)
 ranked_is list n a r found sound is fits =
     let its = rw found at is in
     let small = rw found at fits in
-    rw found (record { is = its; fits = small; placed = λ names. placed_of (times_of list) (cpu_number a.cpu) a.place (λ e. no_barrier a.kind names (sound.placed.0 e)) })
+    rw found (record { is = its; fits = small; placed = λ names. placed_of (times_of list) (cpu_number a.cpu) a.place (λ e. no_barrier a.kind names (sound.placed.0 e)); few = λ names. size_few a.size (sound.sized names) })
 
 -- sorted ranks are the order of memory
 pub order_is : (list : Accesses) (ranks order : List ℕ) → length ranks ≡ length list.items → AreRanksTo list ranks (length list.items) → IsPermutation ranks order → IsNonDecreasing order → AreInOrder list order

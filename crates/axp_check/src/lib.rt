@@ -5,6 +5,7 @@
 mod orders;
 mod sources;
 mod storage;
+mod walks;
 
 /// A rule of shared memory, the least first. `docs/MODEL.md`, "The constraints".
 #[derive(Clone, Copy, Debug, PartialEq, Eq)]
