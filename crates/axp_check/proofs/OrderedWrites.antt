@@ -94,27 +94,27 @@ first_among list n x most among =
 
 -- the latest of a processor's among the first is the latest of those that precede the next
 pub latest_ahead : (list : Accesses) (at n : ℕ) (v : NumberedAccess) → ArePlaced list → n < length list.items → v.number ≡ n + 1
-    → latest (times_of list) (is_write_ahead (times_of list) at v) (accesses_in list) ≡ latest (times_of list) (λ u. writes_byte at u && eqb (cpu_of u) (cpu_of v)) (accesses_to list n)
-latest_ahead list at n v placed inside number = latest_same (times_of list) (is_write_ahead (times_of list) at v) (λ u. writes_byte at u && eqb (cpu_of u) (cpu_of v)) (accesses_in list) (accesses_to list n) ordered into back where
+    → latest (times_of list) (is_write_ahead (times_of list) at v) (accesses_in list) ≡ latest (times_of list) (λ u. eqb (cpu_of u) (cpu_of v) && writes_byte at u) (accesses_to list n)
+latest_ahead list at n v placed inside number = latest_same (times_of list) (is_write_ahead (times_of list) at v) (λ u. eqb (cpu_of u) (cpu_of v) && writes_byte at u) (accesses_in list) (accesses_to list n) ordered into back where
   most : n ≤ length list.items
   most = omega (arith, inside)
 
-  ordered : IsOrdered (times_of list) (λ u. writes_byte at u && eqb (cpu_of u) (cpu_of v)) (accesses_to list n)
-  ordered x y a b p q = writes_ordered list (λ u. writes_byte at u && eqb (cpu_of u) (cpu_of v)) placed (λ u e. (and_parts (is_memory_write u.access) (has_byte at u.access) (and_parts (writes_byte at u) (eqb (cpu_of u) (cpu_of v)) e).0).0) x y (first_among list n x most a).0 (first_among list n y most b).0 p q
+  ordered : IsOrdered (times_of list) (λ u. eqb (cpu_of u) (cpu_of v) && writes_byte at u) (accesses_to list n)
+  ordered x y a b p q = writes_ordered list (λ u. eqb (cpu_of u) (cpu_of v) && writes_byte at u) placed (λ u e. (and_parts (is_memory_write u.access) (has_byte at u.access) (and_parts (eqb (cpu_of u) (cpu_of v)) (writes_byte at u) e).1).0) x y (first_among list n x most a).0 (first_among list n y most b).0 p q
 
-  into : (x : NumberedAccess) → Among x (accesses_in list) → is_write_ahead (times_of list) at v x ≡ true → Among x (accesses_to list n) × ((writes_byte at x && eqb (cpu_of x) (cpu_of v)) ≡ true)
+  into : (x : NumberedAccess) → Among x (accesses_in list) → is_write_ahead (times_of list) at v x ≡ true → Among x (accesses_to list n) × ((eqb (cpu_of x) (cpu_of v) && writes_byte at x) ≡ true)
   into x among passed =
       let one = and_parts (writes_byte at x) (precedes x v) passed in
       let two = and_parts (eqb (cpu_of x) (cpu_of v)) (ltb x.number v.number) one.1 in
       let less = ltb-true x.number v.number two.1 in
-      (among_first list n x most among (omega (arith, less, number)), and_from (writes_byte at x) (eqb (cpu_of x) (cpu_of v)) one.0 two.0)
+      (among_first list n x most among (omega (arith, less, number)), and_from (eqb (cpu_of x) (cpu_of v)) (writes_byte at x) two.0 one.0)
 
-  back : (x : NumberedAccess) → Among x (accesses_to list n) → (writes_byte at x && eqb (cpu_of x) (cpu_of v)) ≡ true → Among x (accesses_in list) × (is_write_ahead (times_of list) at v x ≡ true)
+  back : (x : NumberedAccess) → Among x (accesses_to list n) → (eqb (cpu_of x) (cpu_of v) && writes_byte at x) ≡ true → Among x (accesses_in list) × (is_write_ahead (times_of list) at v x ≡ true)
   back x among passed =
-      let one = and_parts (writes_byte at x) (eqb (cpu_of x) (cpu_of v)) passed in
+      let one = and_parts (eqb (cpu_of x) (cpu_of v)) (writes_byte at x) passed in
       let place = first_among list n x most among in
       let high = place.1 in
-      (place.0, and_from (writes_byte at x) (precedes x v) one.0 (and_from (eqb (cpu_of x) (cpu_of v)) (ltb x.number v.number) one.1 (lt-ltb x.number v.number (omega (arith, high, number)))))
+      (place.0, and_from (writes_byte at x) (precedes x v) one.1 (and_from (eqb (cpu_of x) (cpu_of v)) (ltb x.number v.number) one.0 (lt-ltb x.number v.number (omega (arith, high, number)))))
 
 -- where an access of the list stands, and what stands at a place is of the list
 pub at_of : (list : Accesses) (x : NumberedAccess) → Among x (accesses_in list) → (n : ℕ) × (access_at list (n + 1) ≡ Some x)

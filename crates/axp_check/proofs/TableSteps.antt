@@ -1,16 +1,15 @@
 -- One access of a walk: the entries of its bytes, and the places of its numbers.
-use Rattle.std.proofs.Common.{◌≡◌, ◌⊎◌, ℕ, zero, suc, ◌+◌, ◌-◌, ◌*◌, ◌<◌, ◌≤◌, Bool, true, false, not, ◌&&◌, ◌||◌, ltb, leb, eqb, cond, List, [], ◌∷◌, length, get_or, slice_get, Option, Some, None, IfSome, if◌then◌else◌, refl, sym, ap, ◌∙◌, subst, arith, inl, inr, ⊎_elim}
+use Rattle.std.proofs.Common.{◌≡◌, ◌⊎◌, ℕ, ◌+◌, ◌-◌, ◌*◌, ◌<◌, ◌≤◌, Bool, true, false, ◌&&◌, ltb, leb, eqb, cond, slice_get, Option, Some, None, IfSome, refl, sym, ap, ◌∙◌, arith, inl, inr, ⊎_elim}
 use Rattle.std.specs.Option.{unwrap_or}
 use Rattle.std.proofs.lemmas.Bool.{and_parts, cases_Bool, cases_eq, cases_lt, eq-eqb, eqb-true, le-leb, le-ltb, lt-leb, lt-ltb, ne_eqb}
 use Rattle.axp_access.specs.declared.Access.{Access}
-use Rattle.axp_access.specs.Kinds.{has_byte, is_memory_write}
+use Rattle.axp_access.specs.Kinds.{is_memory_write}
 use Rattle.axp_access.specs.Lists.{Accesses, access_at, times_of}
 use Rattle.axp_access.specs.Numbering.{NumberedAccess}
-use Rattle.axp_access.specs.Order.{Times}
-use Rattle.axp_model.specs.Sources.{later_of, latest, takes_bytes}
+use Rattle.axp_model.specs.Sources.{later_of, takes_bytes}
 use Rattle.axp_check.specs.Sources.{source_number}
 use Rattle.axp_check.specs.SourceParts.{access_named, is_taking}
-use Rattle.axp_check.specs.Walks.{after_entry, after_number, with_later, with_span, with_taken, writes_byte}
+use Rattle.axp_check.specs.Walks.{after_entry, after_number, with_later, with_span, with_taken}
 use Rattle.axp_check.proofs.OrderedWrites.{taker_no_write}
 
 in_one : (at a : ℕ) → (leb at a && ltb a (at + 1)) ≡ eqb at a
