@@ -7,3 +7,4 @@ pub mod OrderedWrites
 pub mod MemoryOrder
 pub mod MetWrites
 pub mod TableSteps
+pub mod SourceOfBoth
