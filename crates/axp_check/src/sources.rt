@@ -71,7 +71,7 @@ fn can_give(list: &AccessList, at: u64, n: u32, i: u32) -> bool
 }
 
 /// The later in BEFORE of access `i` and another, `i` where the other is 0.
-fn later_of(list: &AccessList, i: u32, other: u32) -> u32
+pub(crate) fn later_of(list: &AccessList, i: u32, other: u32) -> u32
     requires least { 1 ≤ i }
     requires most { i ≤ length list.now.items }
     requires most_other { other ≤ length list.now.items }
