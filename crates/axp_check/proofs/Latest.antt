@@ -4,6 +4,7 @@ use Rattle.std.proofs.lemmas.Bool.{cases_Bool, or_cases, or_left, or_right, fals
 use Rattle.axp_access.specs.Numbering.{NumberedAccess}
 use Rattle.axp_access.specs.Order.{Times, before, key}
 use Rattle.axp_model.specs.Sources.{later_of, latest}
+use Rattle.axp_check.specs.Walks.{later_both}
 use Rattle.axp_laws.proofs.CauseMoments.{Among, latest_among}
 use Rattle.axp_laws.proofs.OrderKeys.{before_asymmetric, before_irreflexive, before_transitive}
 
@@ -128,11 +129,6 @@ latest_same t test also us ws ordered into back = by (latest t also ws) refl whe
       let found = latest_among t also ws w e in
       let mine = back w found.0 found.1 in
       latest_is t test us w mine.0 mine.1 (λ x among passed. let other = into x among passed in latest_top t also ws ordered w e x other.0 other.1)
-
--- the later in BEFORE of two that may be none
-abbrev pub later_both : Times → Option NumberedAccess → Option NumberedAccess → Option NumberedAccess
-later_both t None o = o
-later_both t (Some x) o = later_of t x o
 
 -- the latest of those that pass one of two tests is the later of the two latest
 pub latest_either : (t : Times) (test also : NumberedAccess → Bool) (us : List NumberedAccess) → IsOrdered t (λ u. test u || also u) us → latest t (λ u. test u || also u) us ≡ later_both t (latest t test us) (latest t also us)

@@ -27,3 +27,6 @@ pub mod MemoryOrder
 pub mod MetWrites
 pub mod TableSteps
 pub mod SourceOfBoth
+pub mod WalkSteps
+pub mod NumberWalk
+pub mod MemoryWalk

@@ -15,6 +15,7 @@ use Rattle.axp_check.specs.SourceParts.{access_named}
 use Rattle.axp_check.specs.Walks.{AreInOrder, HasRank, IsRankOf, IsRanked, is_write_before, writes_byte}
 use Rattle.axp_check.proofs.Latest.{IsOrdered, latest_same}
 use Rattle.axp_check.proofs.OrderedWrites.{ArePlaced, among_at, names_taker, names_write, same_number, taker_no_write, at_of, writes_ordered}
+use Rattle.axp_check.proofs.SourcePlaces.{access_within}
 use Rattle.axp_check.proofs.SourceNumbers.{from_each, named_at}
 
 -- the low bits of a rank are the number
@@ -99,6 +100,26 @@ of_rank list r x its named = ⊎_elim
     let both : None ≡ Some x = rw none at named in
     absurd (cc))
     (cases_Bool (key (times_of list) its.access).spot.placed)
+
+-- a rank names an access of the list, or none
+pub number_in : (list : Accesses) (r : ℕ) → IsRankOf list r → r % 2 ^ 32 ≤ length list.items
+number_in list r its = ⊎_elim
+    (λ (placed : (key (times_of list) its.access).spot.placed ≡ true).
+    let number : r % 2 ^ 32 ≡ its.access.number = rw its.ranked.is (rank_number (key (times_of list) its.access) its.ranked.fits placed) in
+    let place : its.access.number ≡ its.place + 1 = number_at list its.place its.access its.at in
+    let inside = access_within list (its.place + 1) its.access its.at in
+    omega (arith, number, place, inside))
+    (λ (nowhere : (key (times_of list) its.access).spot.placed ≡ false).
+    let none : r % 2 ^ 32 ≡ 0 = rw its.ranked.is (no_number (key (times_of list) its.access) nowhere) in
+    omega (arith, none))
+    (cases_Bool (key (times_of list) its.access).spot.placed)
+
+-- those that were met are of the list
+pub met_known : (list : Accesses) (order : List ℕ) (i : ℕ) (x : NumberedAccess) → AreInOrder list order → i ≤ length order → Among x (met_to list order i) → Among x (accesses_in list)
+met_known list order i x is most among =
+    let m = met_from list order i x most among in
+    let less = m.less in
+    (of_rank list (get_or order m.place 0) x (is.each m.place 0 (omega (arith, less, most))) m.named).1
 
 -- BEFORE of two by their ranks
 rank_less : (t : Times) (x v : NumberedAccess) (r s : ℕ) → IsRanked t x r → IsRanked t v s → before t x v ≡ true → r < s

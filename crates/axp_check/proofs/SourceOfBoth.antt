@@ -5,8 +5,8 @@ use Rattle.axp_access.specs.Lists.{Accesses, accesses_in, times_of}
 use Rattle.axp_access.specs.Numbering.{NumberedAccess}
 use Rattle.axp_access.specs.Order.{Times, before, precedes}
 use Rattle.axp_model.specs.Sources.{can_give, latest, source}
-use Rattle.axp_check.specs.Walks.{is_write_ahead, is_write_before, writes_byte}
-use Rattle.axp_check.proofs.Latest.{later_both, latest_either}
+use Rattle.axp_check.specs.Walks.{is_write_ahead, is_write_before, later_both, writes_byte}
+use Rattle.axp_check.proofs.Latest.{latest_either}
 use Rattle.axp_check.proofs.OrderedWrites.{ArePlaced, writes_ordered}
 use Rattle.std.proofs.lemmas.Bool.{and_parts}
 

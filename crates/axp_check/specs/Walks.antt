@@ -1,10 +1,10 @@
 -- What walks over the accesses keep: the number of the latest memory write of each byte, so far.
-use Rattle.std.specs.Prelude.{◌≡◌, ℕ, ◌+◌, ◌-◌, ◌*◌, ◌<◌, ◌≤◌, ◌==◌, nat_le, nat_lt, Bool, true, ◌&&◌, if◌then◌else◌, All, Contains, List, length, slice_index, Some, IfSome}
+use Rattle.std.specs.Prelude.{◌≡◌, ℕ, ◌+◌, ◌-◌, ◌*◌, ◌%◌, ◌^◌, ◌<◌, ◌≤◌, ◌==◌, nat_le, nat_lt, Bool, true, ◌&&◌, if◌then◌else◌, All, Contains, List, length, slice_index, Option, None, Some, IfSome}
 use Rattle.std.specs.List.Sorted.{IsNonDecreasing}
 use Rattle.axp_base.specs.declared.parts.TheConstants.{QUADWORD_BYTES}
-use Rattle.axp_access.specs.Kinds.{has_byte, is_memory_write}
+use Rattle.axp_access.specs.Kinds.{has_byte, is_fetch, is_memory_write}
 use Rattle.axp_access.specs.Lists.{Accesses, access_at, accesses_in, names_memory, times_of}
-use Rattle.axp_access.specs.Numbering.{NumberedAccess}
+use Rattle.axp_access.specs.Numbering.{NumberedAccess, cpu_of}
 use Rattle.axp_access.specs.Order.{Times, before, key, precedes}
 use Rattle.axp_access.specs.Ranks.{FitsRank, rank}
 use Rattle.axp_model.specs.Sources.{later_of, latest, takes_bytes}
@@ -28,7 +28,15 @@ HasLatestAt test list numbers n v = takes_bytes v ≡ true → (k : ℕ) → k <
 
 pub record AreLatest (test : Times → ℕ → NumberedAccess → NumberedAccess → Bool) (list : Accesses) (numbers : List ℕ) : Type 0 where
   pub count : length numbers ≡ length list.items * QUADWORD_BYTES
-  pub each : (n : ℕ) → IfSome (access_at list n) (HasLatestAt test list numbers n)
+  pub within : (i : ℕ) → slice_index numbers i ≤ length list.items
+  pub each : (n : ℕ) → IfSome (access_at list (n + 1)) (HasLatestAt test list numbers (n + 1))
+
+-- so far: of the first n accesses, of those of the first i ranks
+abbrev pub AreLatestTo : Accesses → List ℕ → ℕ → Type 0
+AreLatestTo list numbers n = (m : ℕ) → m < n → IfSome (access_at list (m + 1)) (HasLatestAt is_write_ahead list numbers (m + 1))
+
+abbrev pub AreMetTo : Accesses → List ℕ → List ℕ → ℕ → Type 0
+AreMetTo list order numbers i = (j : ℕ) → j < i → IfSome (access_named list (slice_index order j % 2 ^ 32)) (HasLatestAt is_write_before list numbers (slice_index order j % 2 ^ 32))
 
 -- a number is the rank of u, and u has a place and lies in a quadword if it names memory
 pub record IsRanked (t : Times) (u : NumberedAccess) (r : ℕ) : Type 0 where
@@ -86,3 +94,24 @@ after_number entry n v i old = if takes_bytes v then with_taken entry ((n - 1) *
 -- the accesses of a list fit their ranks, have places and lie in quadwords
 abbrev pub AreRanked : Accesses → Type 0
 AreRanked list = (n : ℕ) → IfSome (access_at list (n + 1)) (λ u. IsRanked (times_of list) u (rank (times_of list) u))
+
+-- the entries of a table: in each group the latest write of each byte among some accesses
+abbrev pub AreEntries : Accesses → (ℕ → NumberedAccess → Bool) → List NumberedAccess → (ℕ → ℕ → ℕ) → Type 0
+AreEntries list in_group us entry = (g a : ℕ) → entry g a ≡ source_number (latest (times_of list) (λ u. in_group g u && writes_byte a u) us)
+
+-- the groups of the walk by number, a processor's each, and the one group of the walk in the order of memory
+abbrev pub is_of_cpu : ℕ → NumberedAccess → Bool
+is_of_cpu g u = cpu_of u == g
+
+abbrev pub is_in_memory : ℕ → NumberedAccess → Bool
+is_in_memory g u = 0 == g
+
+-- the later in BEFORE of two that may be none
+abbrev pub later_both : Times → Option NumberedAccess → Option NumberedAccess → Option NumberedAccess
+later_both t None o = o
+later_both t (Some x) o = later_of t x o
+
+-- the number of the source of a byte of v, by the numbers of the latest write BEFORE v and of the latest
+-- that precedes it
+abbrev pub of_both : Accesses → NumberedAccess → ℕ → ℕ → ℕ
+of_both list v first ahead = if is_fetch v.access.kind then first else (if first == 0 then ahead else source_number (later_both (times_of list) (access_named list first) (access_named list ahead)))
