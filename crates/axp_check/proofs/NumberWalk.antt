@@ -1,13 +1,13 @@
 -- One access more of the walk by number.
-use Rattle.std.proofs.Common.{◌≡◌, ℕ, ◌+◌, ◌-◌, ◌*◌, ◌<◌, ◌≤◌, eqb, true, List, ◌∷◌, length, get_or, slice_get, Option, Some, None, IfSome, refl, sym, ap, ◌∙◌, subst, arith}
+use Rattle.std.proofs.Common.{◌≡◌, ℕ, ◌+◌, ◌-◌, ◌*◌, ◌<◌, ◌≤◌, eqb, List, length, get_or, slice_get, Option, Some, None, IfSome, refl, sym, ap, ◌∙◌, arith}
 use Rattle.axp_base.specs.Cpus.{cpu_number}
 use Rattle.axp_access.specs.declared.Access.{Access}
 use Rattle.axp_access.specs.Lists.{Accesses, access_at, accesses_in, accesses_to, times_of}
 use Rattle.axp_access.specs.Numbering.{NumberedAccess, cpu_of}
-use Rattle.axp_model.specs.Sources.{latest, takes_bytes}
+use Rattle.axp_model.specs.Sources.{latest}
 use Rattle.axp_order.proofs.Accesses.{access_some, accesses_more, number_at}
 use Rattle.axp_check.specs.Sources.{source_number}
-use Rattle.axp_check.specs.Walks.{AreEntries, AreLatest, AreLatestTo, AreRanked, HasLatestAt, after_entry, after_number, is_of_cpu, is_write_ahead, writes_byte}
+use Rattle.axp_check.specs.Walks.{AreEntries, AreLatest, AreLatestTo, AreRanked, HasLatestAt, after_entry, after_number, is_of_cpu, is_write_ahead}
 use Rattle.axp_check.proofs.OrderedWrites.{first_among, latest_ahead}
 use Rattle.axp_check.proofs.SourceNumbers.{from_each}
 use Rattle.axp_check.proofs.SourcePlaces.{access_within}

@@ -6,7 +6,6 @@ use Rattle.axp_access.specs.Kinds.{has_byte, is_memory_write}
 use Rattle.axp_access.specs.Lists.{Accesses, access_at, accesses_in, times_of}
 use Rattle.axp_access.specs.Numbering.{NumberedAccess}
 use Rattle.axp_access.specs.Order.{Times}
-use Rattle.axp_access.specs.Order.{key}
 use Rattle.axp_access.specs.Ranks.{rank}
 use Rattle.axp_model.specs.Sources.{later_of, latest, takes_bytes}
 use Rattle.axp_laws.proofs.CauseMoments.{Among, latest_among}

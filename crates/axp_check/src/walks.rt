@@ -137,7 +137,7 @@ pub(crate) fn latest_ahead(alloc: Global, list: &AccessList) -> Result<Vec<u32>,
 fn number_of(rank: u128) -> u32
     ensures { result ≡ rank % 2 ^ 32 }
 {
-    rank as u32
+    (rank % (1 << 32)) as u32
 }
 
 /// The number of the latest memory write that is BEFORE it of each byte of each read and fetch,
