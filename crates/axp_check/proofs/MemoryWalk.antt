@@ -1,5 +1,5 @@
 -- One rank more of the walk in the order of memory.
-use Rattle.std.proofs.Common.{◌≡◌, ℕ, ◌+◌, ◌-◌, ◌*◌, ◌%◌, ◌^◌, ◌<◌, ◌≤◌, eqb, true, List, ◌∷◌, length, get_or, Option, Some, None, IfSome, refl, sym, ap, ◌∙◌, subst, arith, ⊎_elim}
+use Rattle.std.proofs.Common.{◌≡◌, ℕ, ◌+◌, ◌*◌, ◌%◌, ◌^◌, ◌<◌, ◌≤◌, true, List, ◌∷◌, length, get_or, Option, Some, None, IfSome, refl, sym, ap, ◌∙◌, arith, ⊎_elim}
 use Rattle.std.proofs.lemmas.Bool.{cases_eq}
 use Rattle.std.proofs.lemmas.List.{get_or_default}
 use Rattle.axp_access.specs.Lists.{Accesses, access_at, accesses_in, times_of}
@@ -10,8 +10,8 @@ use Rattle.axp_model.specs.Sources.{latest, takes_bytes}
 use Rattle.axp_order.proofs.Accesses.{number_at}
 use Rattle.axp_check.specs.Sources.{source_number}
 use Rattle.axp_check.specs.SourceParts.{access_named}
-use Rattle.axp_check.specs.Walks.{AreEntries, AreInOrder, AreLatest, AreMetTo, AreRanked, HasLatestAt, HasRank, IsRanked, after_entry, after_number, is_in_memory, is_write_before, writes_byte}
-use Rattle.axp_check.proofs.MetWrites.{latest_met, met_known, met_more, met_to, met_with, number_in, of_rank, rank_in, rank_number}
+use Rattle.axp_check.specs.Walks.{AreEntries, AreInOrder, AreLatest, AreMetTo, AreRanked, HasLatestAt, HasRank, IsRanked, after_entry, after_number, is_in_memory, is_write_before}
+use Rattle.axp_check.proofs.MetWrites.{latest_met, met_known, met_more, met_to, met_with, of_rank, rank_in, rank_number}
 use Rattle.axp_check.proofs.OrderedWrites.{among_at, names_taker}
 use Rattle.axp_check.proofs.SourceNumbers.{access_is, from_each, named_at}
 use Rattle.axp_check.proofs.WalkSteps.{entries_more, numbers_step}
