@@ -1,5 +1,5 @@
-use Rattle.std.proofs.Common.{◌≡◌, ◌∙◌, ◌≤◌, sym, arith, false}
-use Rattle.axp_check.proofs.SourceOfBoth.{both_fetch, both_later, both_none, both_source}
+use Rattle.std.proofs.Common.{◌∙◌, sym, arith}
+use Rattle.axp_check.proofs.SourceOfBoth.{both_fetch, both_later, both_none}
 use Rattle.axp_check.proofs.walks.source_of_both.Goals as goal
 
 pub returns-then-is_fetch : goal.returns-then-is_fetch
