@@ -21,3 +21,12 @@ pub mod StorageFaults
 pub mod StorageLaws
 pub mod StoredBytes
 pub mod VerdictLaws
+pub mod Latest
+pub mod OrderedWrites
+pub mod MemoryOrder
+pub mod MetWrites
+pub mod TableSteps
+pub mod SourceOfBoth
+pub mod WalkSteps
+pub mod NumberWalk
+pub mod MemoryWalk

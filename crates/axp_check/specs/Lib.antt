@@ -10,6 +10,7 @@ pub mod SourceParts
 pub mod Sources
 pub mod Storage
 pub mod StorageParts
+pub mod Walks
 pub mod Verdicts
 pub mod Violations
 pub mod Names

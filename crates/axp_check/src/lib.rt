@@ -9,8 +9,10 @@ mod laws;
 mod locking;
 mod loops;
 mod reached;
+mod orders;
 mod sources;
 mod storage;
+mod walks;
 
 pub use checking::check;
 pub use laws::{

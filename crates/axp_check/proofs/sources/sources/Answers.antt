@@ -1,6 +1,10 @@
 use Rattle.std.proofs.Common.{◌≡◌, ◌*◌, length, arith}
+use Rattle.axp_check.proofs.MemoryWalk.{order_ranked}
 use Rattle.axp_check.proofs.SourcePlaces.{places_all}
 use Rattle.axp_check.proofs.sources.sources.Goals as goal
+
+pub latest_ahead-requires : goal.latest_ahead-requires
+latest_ahead-requires c = record { ranked = order_ranked c.args.list.now c.in_ok-order.order.items c.in_ok-order.ensures }
 
 pub returns : goal.returns
 returns c =
