@@ -15,7 +15,7 @@ use Rattle.axp_order.proofs.Scans.{oldest_found}
 use Rattle.axp_check.specs.Loops.{gives_from, is_on_cycle, leads, may_cause}
 use Rattle.axp_check.specs.Reached.{source_numbers}
 use Rattle.axp_check.proofs.Chains.{least_from_above, leads_within}
-use Rattle.axp_check.proofs.Numbers.{all_of, among_at, among_first, number_names, one_of_number}
+use Rattle.axp_check.proofs.Numbers.{accesses_whole, among_at, among_first, number_names, one_of_number}
 use Rattle.axp_check.proofs.Reaches.{is_source}
 use Rattle.axp_check.proofs.Reaching.{are_kinds}
 use Rattle.axp_check.proofs.LoopSources.{any_source, source_that}
@@ -113,4 +113,4 @@ pub oldest_is : (test : NumberedAccess → Bool) (list : Accesses) (n : ℕ) →
 oldest_is test list n inside none passed =
     let sum : n + 1 + (length list.items - (n + 1)) ≡ length list.items = omega (arith, inside) in
     let found = oldest_found test list n (length list.items - (n + 1)) inside none passed in
-    sym (ap (λ us. option_map (λ u. u.number) (oldest_that test us)) (all_of list) ∙ subst (λ m. option_map (λ u. u.number) (oldest_that test (accesses_to list m)) ≡ Some (n + 1)) sum found)
+    sym (ap (λ us. option_map (λ u. u.number) (oldest_that test us)) (accesses_whole list) ∙ subst (λ m. option_map (λ u. u.number) (oldest_that test (accesses_to list m)) ≡ Some (n + 1)) sum found)

@@ -3,7 +3,6 @@ use Rattle.std.proofs.Common.{◌≡◌, ℕ, zero, suc, replicate, ◌+◌, ◌
 use Rattle.std.specs.Option.{option_map}
 use Rattle.std.specs.List.{slice_index, slice_set}
 use Rattle.std.proofs.lemmas.Bool.{cases_eq, ne_eqb, eq-eqb}
-use Rattle.std.proofs.Math.Seq.{take-length}
 use Rattle.std.proofs.lemmas.Option.{slice_get_within}
 use Rattle.axp_access.specs.Order.{Times}
 use Rattle.std.proofs.lemmas.List.{get_or-set_same, get_or-set_other, length-set}
@@ -16,12 +15,9 @@ use Rattle.axp_model.specs.Locking.{is_locking}
 use Rattle.axp_order.specs.Oldest.{oldest_that}
 use Rattle.axp_order.proofs.Accesses.{accesses_more, accesses_grow, number_at}
 use Rattle.axp_order.proofs.Scans.{oldest_more, oldest_found}
+use Rattle.axp_check.proofs.Numbers.{accesses_whole}
 use Rattle.axp_check.specs.Locking.{last_locking, lock_fault_of, first_unlocked, locking_fault}
 use Rattle.axp_check.specs.LockingParts.{AreNewest, access_or_none, fault_by}
-
--- all accesses of a list
-pub accesses_whole : (list : Accesses) → accesses_in list ≡ accesses_to list (length list.items)
-accesses_whole list = rw (take-length list.items) refl
 
 -- none so far that passes a test made of two accesses
 abbrev pub IsNoneSoFar : (NumberedAccess → NumberedAccess → NumberedAccess → Bool) → Accesses → ℕ → Option NumberedAccess → Option NumberedAccess → Type 0

@@ -29,11 +29,12 @@ number_names_to list (suc n) u within among =
     record { least = older.least; most = omega (arith, most); found = older.found })
     (subst (λ us. Among u us) more among)
 
-pub all_of : (list : Accesses) → accesses_in list ≡ accesses_to list (length list.items)
-all_of list = rw (take-length list.items) refl
+-- all of a list's accesses
+pub accesses_whole : (list : Accesses) → accesses_in list ≡ accesses_to list (length list.items)
+accesses_whole list = rw (take-length list.items) refl
 
 pub number_names : (list : Accesses) (u : NumberedAccess) → Among u (accesses_in list) → IsNamed list (length list.items) u
-number_names list u among = number_names_to list (length list.items) u (omega arith) (subst (λ us. Among u us) (all_of list) among)
+number_names list u among = number_names_to list (length list.items) u (omega arith) (subst (λ us. Among u us) (accesses_whole list) among)
 
 among_behind : {X : Type 0} (ws us : List X) (u : X) → Among u us → Among u (ws ++ us)
 among_behind [] us u among = among
@@ -45,7 +46,7 @@ among_at list n u inside found =
     let here : Among u (accesses_to list (n + 1)) = rw (accesses_more list n u found) (inl refl) in
     let more = accesses_grow list (n + 1) (length list.items - (n + 1)) in
     let sum : n + 1 + (length list.items - (n + 1)) ≡ length list.items = omega (arith, inside) in
-    let whole : accesses_in list ≡ more.0 ++ accesses_to list (n + 1) = all_of list ∙ ap (accesses_to list) (sym sum) ∙ more.1 in
+    let whole : accesses_in list ≡ more.0 ++ accesses_to list (n + 1) = accesses_whole list ∙ ap (accesses_to list) (sym sum) ∙ more.1 in
     subst (λ us. Among u us) (sym whole) (among_behind more.0 (accesses_to list (n + 1)) u here)
 
 -- of the first n

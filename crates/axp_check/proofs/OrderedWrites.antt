@@ -15,7 +15,8 @@ use Rattle.axp_check.specs.SourceParts.{access_named}
 use Rattle.axp_check.specs.Walks.{writes_byte, is_write_ahead}
 use Rattle.axp_check.proofs.Latest.{IsOrdered, latest_same}
 use Rattle.axp_check.proofs.SourcePlaces.{access_within}
-use Rattle.axp_check.proofs.SourceNumbers.{all_accesses, named_among, named_at}
+use Rattle.axp_check.proofs.Numbers.{accesses_whole}
+use Rattle.axp_check.proofs.SourceNumbers.{named_among, named_at}
 
 -- each access that names memory has a place
 abbrev pub ArePlaced : Accesses → Type 0
@@ -51,8 +52,8 @@ taker_no_write u e = no_write u.access.kind u.access.yes e
 -- two accesses of a list that have one number are one
 pub same_number : (list : Accesses) (x y : NumberedAccess) → Among x (accesses_in list) → Among y (accesses_in list) → x.number ≡ y.number → x ≡ y
 same_number list x y a b same =
-    let one = (named_among list (length list.items) (omega arith) x (rw (all_accesses list) at a)).0 in
-    let two = (named_among list (length list.items) (omega arith) y (rw (all_accesses list) at b)).0 in
+    let one = (named_among list (length list.items) (omega arith) x (rw (accesses_whole list) at a)).0 in
+    let two = (named_among list (length list.items) (omega arith) y (rw (accesses_whole list) at b)).0 in
     let both : Some x ≡ Some y = sym one ∙ (ap (access_named list) same ∙ two) in
     cc
 
@@ -78,7 +79,7 @@ at_among list (suc n) m x e less most =
 
 pub among_first : (list : Accesses) (n : ℕ) (x : NumberedAccess) → n ≤ length list.items → Among x (accesses_in list) → x.number ≤ n → Among x (accesses_to list n)
 among_first list n x most among low =
-    let named = named_among list (length list.items) (omega arith) x (rw (all_accesses list) at among) in
+    let named = named_among list (length list.items) (omega arith) x (rw (accesses_whole list) at among) in
     let back : x.number - 1 + 1 ≡ x.number = let least = named.1.0 in omega (arith, least) in
     let at : access_at list (x.number - 1 + 1) ≡ Some x = rw back (sym (named_at list x.number named.1.0) ∙ named.0) in
     at_among list n (x.number - 1) x at (let least = named.1.0 in omega (arith, least, low)) most
@@ -90,7 +91,7 @@ first_among list n x most among =
     let high = named.1.1 in
     let back : x.number - 1 + 1 ≡ x.number = omega (arith, least) in
     let at : access_at list (x.number - 1 + 1) ≡ Some x = rw back (sym (named_at list x.number least) ∙ named.0) in
-    (rw (all_accesses list) (at_among list (length list.items) (x.number - 1) x at (omega (arith, least, high, most)) (omega arith)), high)
+    (rw (accesses_whole list) (at_among list (length list.items) (x.number - 1) x at (omega (arith, least, high, most)) (omega arith)), high)
 
 -- the latest of a processor's among the first is the latest of those that precede the next
 pub latest_ahead : (list : Accesses) (at n : ℕ) (v : NumberedAccess) → ArePlaced list → n < length list.items → v.number ≡ n + 1
@@ -119,10 +120,10 @@ latest_ahead list at n v placed inside number = latest_same (times_of list) (is_
 -- where an access of the list stands, and what stands at a place is of the list
 pub at_of : (list : Accesses) (x : NumberedAccess) → Among x (accesses_in list) → (n : ℕ) × (access_at list (n + 1) ≡ Some x)
 at_of list x among =
-    let named = named_among list (length list.items) (omega arith) x (rw (all_accesses list) at among) in
+    let named = named_among list (length list.items) (omega arith) x (rw (accesses_whole list) at among) in
     let least = named.1.0 in
     let back : x.number - 1 + 1 ≡ x.number = omega (arith, least) in
     (x.number - 1, rw back (sym (named_at list x.number named.1.0) ∙ named.0))
 
 pub among_at : (list : Accesses) (n : ℕ) (x : NumberedAccess) → access_at list (n + 1) ≡ Some x → Among x (accesses_in list)
-among_at list n x e = let back : n + 1 - 1 ≡ n = omega arith in let inside : n < length list.items = rw back at (access_within list (n + 1) x e) in rw (all_accesses list) (at_among list (length list.items) n x e inside (omega arith))
+among_at list n x e = let back : n + 1 - 1 ≡ n = omega arith in let inside : n < length list.items = rw back at (access_within list (n + 1) x e) in rw (accesses_whole list) (at_among list (length list.items) n x e inside (omega arith))

@@ -1,19 +1,14 @@
 -- The number of a source names it in the list.
-use Rattle.std.proofs.Common.{◌≡◌, ℕ, zero, suc, ◌+◌, ◌-◌, ◌<◌, ◌≤◌, Bool, true, false, not, ◌&&◌, ◌||◌, eqb, ltb, ◌∷◌, length, slice_get, Option, Some, None, IfSome, refl, sym, ap, ◌∙◌, subst, arith, ⊎_elim}
-use Rattle.std.proofs.Math.Seq.{take-length}
-use Rattle.std.proofs.lemmas.Bool.{cases_Bool}
-use Rattle.axp_base.specs.Cpus.{cpu_number}
-use Rattle.axp_access.specs.declared.Access.{Access}
-use Rattle.axp_access.specs.Kinds.{has_byte, is_fetch, is_memory_write}
+use Rattle.std.proofs.Common.{◌≡◌, ℕ, zero, suc, ◌+◌, ◌-◌, ◌≤◌, Bool, true, false, ◌∷◌, length, Option, Some, None, IfSome, refl, sym, ap, ◌∙◌, subst, arith, ⊎_elim}
 use Rattle.axp_access.specs.Lists.{Accesses, access_at, accesses_in, accesses_to, times_of}
 use Rattle.axp_access.specs.Numbering.{NumberedAccess}
 use Rattle.axp_access.specs.Order.{Times, before}
-use Rattle.axp_access.proofs.Numbers.{number_is}
 use Rattle.axp_model.specs.Sources.{can_give, later_of, latest, source}
 use Rattle.axp_laws.proofs.CauseMoments.{Among, latest_among}
 use Rattle.axp_order.proofs.Accesses.{access_some, accesses_more, number_at}
 use Rattle.axp_check.specs.Sources.{source_number}
-use Rattle.axp_check.specs.SourceParts.{access_named, with_giver}
+use Rattle.axp_check.proofs.Numbers.{accesses_whole}
+use Rattle.axp_check.specs.SourceParts.{access_named}
 
 -- what holds of an access that has its number holds of each number's
 pub each_at : (list : Accesses) (i : ℕ) (P : NumberedAccess → Type 0) → 1 ≤ i → ((x : NumberedAccess) → access_at list i ≡ Some x → x.number ≡ i → P x) → IfSome (access_at list i) P
@@ -59,27 +54,9 @@ latest_named list t test n most = by (latest t test (accesses_to list n)) refl w
   by None e = refl
   by (Some u) e = (named_among list n most u (latest_among t test (accesses_to list n) u e).0).0
 
-pub all_accesses : (list : Accesses) → accesses_in list ≡ accesses_to list (length list.items)
-all_accesses list = rw (take-length list.items) refl
-
 -- a source's number names it
 pub source_named : (list : Accesses) (at : ℕ) (v : NumberedAccess) → access_named list (source_number (source (times_of list) at v (accesses_in list))) ≡ source (times_of list) at v (accesses_in list)
-source_named list at v = rw (all_accesses list) (latest_named list (times_of list) (can_give (times_of list) at v) (length list.items) (omega arith))
-
-group : (m h s : Bool) → ((m && h) && s) ≡ (m && (h && s))
-group true h s = refl
-group false h s = refl
-
--- whether an access can give a byte, by what two accesses of the list are
-pub gives_is : (list : Accesses) (at i n : ℕ) (a b : Access) (first r : Bool) → 1 ≤ i → 1 ≤ n → slice_get list.items (i - 1) ≡ Some a → slice_get list.items (n - 1) ≡ Some b
-    → IfSome (access_at list i) (λ u. IfSome (access_at list n) (λ v. first ≡ before (times_of list) u v))
-    → r ≡ ((is_memory_write a && has_byte at a) && (first || (not (is_fetch b.kind) && (eqb (cpu_number a.cpu) (cpu_number b.cpu) && ltb i n))))
-    → IfSome (access_at list i) (λ u. IfSome (access_at list n) (λ v. r ≡ can_give (times_of list) at v u))
-gives_is list at i n a b first r least also found other is_first is =
-    let one = number_is list i a least found in
-    let two = number_is list n b also other in
-    let before_is = rw (found, other) at is_first in
-    rw (found, other) (is ∙ (group (is_memory_write a) (has_byte at a) (first || (not (is_fetch b.kind) && (eqb (cpu_number a.cpu) (cpu_number b.cpu) && ltb i n))) ∙ rw (before_is, one, two) refl))
+source_named list at v = rw (accesses_whole list) (latest_named list (times_of list) (can_give (times_of list) at v) (length list.items) (omega arith))
 
 -- the later of an access and none
 pub later_none : (list : Accesses) (i other : ℕ) → 1 ≤ i → other ≡ 0 → IfSome (access_at list i) (λ x. i ≡ source_number (later_of (times_of list) x (access_named list other)))
@@ -101,22 +78,3 @@ later_second list i other b least also most is no_ = each_at list i _ least (λ 
     let under : before (times_of list) y.0 x ≡ false = sym first ∙ no_ in
     let its : y.0.number ≡ other = number_at list (other - 1) y.0 (rw back y.1) ∙ back in
     rw (named_at list other also) (rw y.1 (rw under (sym its))))
-
--- one access more
-pub source_more : (list : Accesses) (at n i found r : ℕ) → i < length list.items
-    → IfSome (access_at list n) (λ v. found ≡ source_number (latest (times_of list) (can_give (times_of list) at v) (accesses_to list i)))
-    → IfSome (access_at list (i + 1)) (λ x. IfSome (access_at list n) (λ v. r ≡ with_giver list at v x found))
-    → IfSome (access_at list n) (λ v. r ≡ source_number (latest (times_of list) (can_give (times_of list) at v) (accesses_to list (i + 1))))
-source_more list at n i found r inside so_far step = by (access_at list n) so_far (let x = access_some list i inside in rw x.1 at step) where
-  by : (o : Option NumberedAccess)
-      → IfSome o (λ v. found ≡ source_number (latest (times_of list) (can_give (times_of list) at v) (accesses_to list i)))
-      → IfSome o (λ v. r ≡ with_giver list at v (access_some list i inside).0 found)
-      → IfSome o (λ v. r ≡ source_number (latest (times_of list) (can_give (times_of list) at v) (accesses_to list (i + 1))))
-  by None so_far step = tt
-  by (Some v) so_far step =
-      let x = access_some list i inside in
-      let named : access_named list found ≡ latest (times_of list) (can_give (times_of list) at v) (accesses_to list i) = rw so_far (latest_named list (times_of list) (can_give (times_of list) at v) i (omega (arith, inside))) in
-      rw (accesses_more list i x.0 x.1) (⊎_elim
-      (λ (yes_ : can_give (times_of list) at v x.0 ≡ true). rw yes_ (rw (yes_, named) at step))
-      (λ (no_ : can_give (times_of list) at v x.0 ≡ false). rw no_ ((rw no_ at step) ∙ so_far))
-      (cases_Bool (can_give (times_of list) at v x.0)))

@@ -14,7 +14,8 @@ use Rattle.axp_check.specs.Sources.{AreSources, source_number, source_of_byte}
 use Rattle.axp_check.specs.SourceParts.{access_named, is_taking}
 use Rattle.axp_check.specs.Storage.{first_wrong, is_right, right_byte, wrong_from, wrong_source}
 use Rattle.axp_check.specs.StorageParts.{HasByteAt}
-use Rattle.axp_check.proofs.SourceNumbers.{all_accesses, from_each, named_among, source_named}
+use Rattle.axp_check.proofs.Numbers.{accesses_whole}
+use Rattle.axp_check.proofs.SourceNumbers.{from_each, named_among, source_named}
 
 -- behind the end of memory an image has no byte
 pub byte_past : (size from : ℕ) (ss : List Segment) (at : ℕ) → ArePlaced size from ss → size ≤ at → 0 ≡ byte_in ss at
@@ -50,7 +51,7 @@ has_source list numbers n k a are found takes less =
 
 -- its number is one of the list's, or 0
 pub source_within : (list : Accesses) (n k number : ℕ) (a : Access) → HasSource list n k number a → number ≤ length list.items
-source_within list n k number a has = rw has.number_is (rw (all_accesses list) (by (latest (times_of list) (can_give (times_of list) (has.v.access.address + k) has.v) (accesses_to list (length list.items))) refl)) where
+source_within list n k number a has = rw has.number_is (rw (accesses_whole list) (by (latest (times_of list) (can_give (times_of list) (has.v.access.address + k) has.v) (accesses_to list (length list.items))) refl)) where
   by : (o : Option NumberedAccess) → latest (times_of list) (can_give (times_of list) (has.v.access.address + k) has.v) (accesses_to list (length list.items)) ≡ o → source_number o ≤ length list.items
   by None e = omega arith
   by (Some u) e = (named_among list (length list.items) (omega arith) u (latest_among (times_of list) (can_give (times_of list) (has.v.access.address + k) has.v) (accesses_to list (length list.items)) u e).0).1.1
@@ -118,7 +119,7 @@ first_found wrong list n s inside none found =
     let more = accesses_grow list (n + 1) (length list.items - (n + 1)) in
     let all : n + 1 + (length list.items - (n + 1)) ≡ length list.items = omega (arith, inside) in
     let whole : accesses_to list (length list.items) ≡ more.0 ++ accesses_to list (n + 1) = rw all at more.1 in
-    rw (all_accesses list) (rw whole (sym (first_stays wrong (accesses_to list (n + 1)) more.0 (s, n + 1) here)))
+    rw (accesses_whole list) (rw whole (sym (first_stays wrong (accesses_to list (n + 1)) more.0 (s, n + 1) here)))
 
 pub first_all : (wrong : NumberedAccess → Option ℕ) (list : Accesses) (n : ℕ) → n ≡ length list.items → first_wrong wrong (accesses_to list n) ≡ None → None ≡ first_wrong wrong (accesses_in list)
-first_all wrong list n same none = rw (all_accesses list) (sym (rw same at none))
+first_all wrong list n same none = rw (accesses_whole list) (sym (rw same at none))

@@ -12,7 +12,8 @@ use Rattle.axp_laws.proofs.CauseMoments.{Among, latest_among}
 use Rattle.axp_check.specs.Sources.{source_number}
 use Rattle.axp_check.specs.SourceParts.{access_named}
 use Rattle.axp_check.specs.Walks.{AreEntries, AreRanked, IsRanked, HasLatestAt, after_entry, after_number, with_later, with_taken, writes_byte}
-use Rattle.axp_check.proofs.SourceNumbers.{access_is, all_accesses, from_each, named_among}
+use Rattle.axp_check.proofs.Numbers.{accesses_whole}
+use Rattle.axp_check.proofs.SourceNumbers.{access_is, from_each, named_among}
 use Rattle.axp_check.proofs.OrderedWrites.{ArePlaced, at_of, names_taker}
 
 -- the latest of some accesses of a list is named by its number
@@ -20,7 +21,7 @@ pub latest_known : (list : Accesses) (test : NumberedAccess → Bool) (us : List
 latest_known list test us known = by (latest (times_of list) test us) refl where
   by : (o : Option NumberedAccess) → latest (times_of list) test us ≡ o → access_named list (source_number o) ≡ o
   by None e = refl
-  by (Some u) e = (named_among list (length list.items) (omega arith) u (rw (all_accesses list) at (known u (latest_among (times_of list) test us u e).0))).0
+  by (Some u) e = (named_among list (length list.items) (omega arith) u (rw (accesses_whole list) at (known u (latest_among (times_of list) test us u e).0))).0
 
 pick : (e w h : Bool) (new old : ℕ) (later o : Option NumberedAccess) → new ≡ cond w (cond (e && h) (source_number later) old) old → old ≡ source_number o → new ≡ source_number (cond (e && (w && h)) later o)
 pick true true true new old later o is was = is

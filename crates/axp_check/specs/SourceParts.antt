@@ -1,12 +1,12 @@
 -- What the parts of the search for sources give.
-use Rattle.std.specs.Prelude.{◌≡◌, ℕ, zero, suc, ◌+◌, ◌/◌, ◌%◌, ◌<◌, ◌≤◌, Bool, true, ◌||◌, if◌then◌else◌, List, slice_index, Option, None, IfSome}
+use Rattle.std.specs.Prelude.{◌≡◌, ℕ, zero, suc, ◌+◌, ◌/◌, ◌%◌, ◌<◌, ◌≤◌, Bool, true, ◌||◌, List, slice_index, Option, None, IfSome}
 use Rattle.axp_base.specs.declared.parts.TheConstants.{QUADWORD_BYTES}
 use Rattle.axp_access.specs.declared.Access.{Access}
 use Rattle.axp_access.specs.Kinds.{is_read, is_fetch}
 use Rattle.axp_access.specs.Lists.{Accesses, access_at, accesses_in, times_of}
 use Rattle.axp_access.specs.Numbering.{NumberedAccess}
-use Rattle.axp_model.specs.Sources.{can_give, later_of, takes_bytes}
-use Rattle.axp_check.specs.Sources.{source_number, source_of_byte}
+use Rattle.axp_model.specs.Sources.{takes_bytes}
+use Rattle.axp_check.specs.Sources.{source_of_byte}
 
 -- a read or a fetch
 abbrev pub is_taking : Access → Bool
@@ -16,11 +16,6 @@ is_taking a = is_read a.kind || is_fetch a.kind
 abbrev pub access_named : Accesses → ℕ → Option NumberedAccess
 access_named list zero = None
 access_named list (suc n) = access_at list (suc n)
-
--- the number of the later of one more access and the latest so far, if it can give the byte at an address
--- to v
-abbrev pub with_giver : Accesses → ℕ → NumberedAccess → NumberedAccess → ℕ → ℕ
-with_giver list at v x latest = if can_give (times_of list) at v x then source_number (later_of (times_of list) x (access_named list latest)) else latest
 
 -- a number is that of the source of byte k of v, if v is a read or fetch that has this byte
 pub record IsSourceAt (list : Accesses) (v : NumberedAccess) (k number : ℕ) : Type 0 where

@@ -8,6 +8,7 @@ use Rattle.axp_access.specs.declared.Outcome.{Outcome}
 use Rattle.axp_access.specs.declared.Record.{Record}
 use Rattle.axp_access.specs.declared.tail_items.TailItem.{TailItem}
 use Rattle.axp_cpu.specs.declared.refusals.NotLegal.{NotLegal}
+use Rattle.axp_history.proofs.LineLemmas.{HasLine}
 use Rattle.axp_machine.specs.Runs.{Seen, after_event, answer_of, with_record}
 use Rattle.axp_machine.specs.Tails.{IsNext, items_from, tail_items}
 use Rattle.axp_machine.specs.declared.machine.tails.TailAt.{TailAt}
@@ -396,29 +397,6 @@ no_more_lines text ls empty is tested ends = let none : (length text == 0) ≡ t
 
 pub part_of_line : (text : List ℕ) (ls : List FileLine) (empty : Bool) → empty ≡ false → empty ≡ (length text == 0) → ls ≡ (if length text == 0 then [] else None ∷ []) → ls ≡ None ∷ []
 part_of_line text ls empty is tested ends = let some : (length text == 0) ≡ false = sym tested ∙ is in rw some at ends
-
--- a file that is not at its end has a line
-pub record HasLine (ls : List FileLine) : Type 0 where
-  pub line : FileLine
-  pub more : List FileLine
-  pub is : ls ≡ line ∷ more
-
-longer_has : (b : ℕ) (ls : List FileLine) → HasLine (longer b ls)
-longer_has b [] = record { line = None; more = []; is = refl }
-longer_has b (None ∷ ls) = record { line = None; more = ls; is = refl }
-longer_has b (Some l ∷ ls) = record { line = Some (b ∷ l); more = ls; is = refl }
-
-either_has : (feed : Bool) (b : ℕ) (ls : List FileLine) → HasLine (cond feed (Some [] ∷ ls) (longer b ls))
-either_has true b ls = record { line = Some []; more = ls; is = refl }
-either_has false b ls = longer_has b ls
-
-pub has_line : (text : List ℕ) (empty : Bool) → empty ≡ false → empty ≡ (length text == 0) → HasLine (lines_of text)
-has_line [] empty is tested = let never : true ≡ false = sym tested ∙ is in cc
-has_line (b ∷ bs) empty is tested = either_has (b == LINE_FEED) b (lines_of bs)
-
-pub no_line : (text : List ℕ) (empty : Bool) → empty ≡ true → empty ≡ (length text == 0) → lines_of text ≡ []
-no_line [] empty is tested = refl
-no_line (b ∷ bs) empty is tested = absurd (omega (arith, eqb-true (length (b ∷ bs)) 0 (sym tested ∙ is)))
 
 -- ---- what the next item of a tail is
 

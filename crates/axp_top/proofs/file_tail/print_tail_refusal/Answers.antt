@@ -2,7 +2,8 @@ use Rattle.std.proofs.Common.{◌+◌, ◌∙◌, length, refl, sym}
 use Rattle.axp_machine.specs.Tails.{items_from, tail_items}
 use Rattle.axp_trace.specs.Files.{lines_of}
 use Rattle.axp_top.specs.Replays.{bad_trace, item_refusal, next_line, tail_refusal}
-use Rattle.axp_top.proofs.ReplayLemmas.{compare_ends, compare_on, has_line, item_refused, item_stops, missing_line, next_none, next_some, no_line, stops_behind, told_behind, too_many_lines, whole_refusal}
+use Rattle.axp_history.proofs.LineLemmas.{has_line, no_line}
+use Rattle.axp_top.proofs.ReplayLemmas.{compare_ends, compare_on, item_refused, item_stops, missing_line, next_none, next_some, stops_behind, told_behind, too_many_lines, whole_refusal}
 use Rattle.axp_top.proofs.file_tail.print_tail_refusal.Goals as goal
 
 pub returns-in_err-print_bad_trace : goal.returns-in_err-print_bad_trace

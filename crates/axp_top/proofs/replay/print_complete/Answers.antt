@@ -1,5 +1,6 @@
 use Rattle.axp_trace.specs.Files.{lines_of}
-use Rattle.axp_top.proofs.ReplayLemmas.{complete_refused, complete_stops, has_line}
+use Rattle.axp_history.proofs.LineLemmas.{has_line}
+use Rattle.axp_top.proofs.ReplayLemmas.{complete_refused, complete_stops}
 use Rattle.axp_top.proofs.replay.print_complete.Goals as goal
 
 pub returns-in_err-status : goal.returns-in_err-status
